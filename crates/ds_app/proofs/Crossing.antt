@@ -9,11 +9,14 @@ use Rattle.log.specs.contracts.level.LevelFilter as LevelFilter
 shape_sync : IsSync Shape.the_row
 shape_sync = search (sendable, crosses) depth 40
 
+-- the layout of a sheet may be read by several threads
 pub layout_sync : IsSync Layout.the_row
 layout_sync = search (sendable, crosses, shape_sync) depth 40
 
+-- what a server is asked to serve may be read by several threads
 pub service_sync : IsSync Service.the_row
 service_sync = search (sendable, crosses) depth 40
 
+-- the level of a log may be read by several threads
 pub level_sync : IsSync LevelFilter.the_row
 level_sync = search (sendable, crosses) depth 40

@@ -11,14 +11,18 @@ use Rattle.ds_state.proofs.world.World.TheLaws as world
 use Rattle.ds_c.specs.contracts.parts.Parts as Parts
 use Rattle.ds_c.specs.contracts.handle.State as State
 
+-- a box of a world in memory of the heap
 abbrev pub E : Bx
 E = record { row = World.the_row; laws = world.the_row_laws; al = record { row = Heap.the_row; laws = heap.the_row_laws; g = ghosts; d = dict; drops = impl [] tnil dnil } }
 
+-- the argument of `of_parts`: the parts of a box of a world
 abbrev pub FromParts : Slot 0
 FromParts = plain (λ _. Parts.the_row World.the_row Heap.the_row ghosts)
 
+-- the argument of `into_parts`: the state of a handle
 abbrev pub FromState : Slot 0
 FromState = plain (λ _. State.the_row)
 
+-- the argument of `empty`: the allocator of the heap
 abbrev pub FromHeap : Slot 0
 FromHeap = plain (λ _. Heap.the_row)

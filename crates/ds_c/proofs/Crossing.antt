@@ -190,5 +190,6 @@ Issue-send = search (sendable, crosses, Edit-send) depth 40
 Reports-send : IsSend Reports.the_row
 Reports-send = search (sendable, crosses) depth 20
 
+-- a world may go to another thread
 pub world_send : IsSend World.the_row
 world_send = search (sendable, crosses, SheetWords-send, Situation-send, Edit-send, Issue-send, Reports-send, Inputs-send) depth 60 fits 100000

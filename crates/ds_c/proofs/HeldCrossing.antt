@@ -4,5 +4,6 @@ use denote.Param.SendFields.{variants_send}
 use Rattle.ds_seats.proofs.Crossing.{sheet_send, seat_send, closed_send}
 use Rattle.ds_c.specs.contracts.held.Held as Held
 
+-- what a holder holds may go to another thread
 pub held_send : IsSend Held.the_row
 held_send = variants_send Held.enum ((sheet_send, tt), ((seat_send, tt), ((closed_send, tt), (tt, tt))))

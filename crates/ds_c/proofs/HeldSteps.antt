@@ -48,18 +48,21 @@ lacks_closed_text c cell fault.ShortChoice h = absurd h
 
 -- ---- what is held is none of these
 
+-- what is held is no closed sheet where it is not one of them
 pub no_closed : (h : Held) → ((c : RestingSheet) → h ≡ held.Closed c → ⊥) → IsClosed h → ⊥
 no_closed (held.Closed c) none is = none c refl
 no_closed (held.Sheet s) none is = is
 no_closed (held.Seat s) none is = is
 no_closed held.Spent none is = is
 
+-- what is held is no seat where it is not one of them
 pub no_seat : (h : Held) → ((s : Seat) → h ≡ held.Seat s → ⊥) → IsSeat h → ⊥
 no_seat (held.Seat s) none is = none s refl
 no_seat (held.Sheet s) none is = is
 no_seat (held.Closed c) none is = is
 no_seat held.Spent none is = is
 
+-- what is held is no open sheet where it is not one of them
 pub no_sheet : (h : Held) → ((s : OpenSheet) → h ≡ held.Sheet s → ⊥) → IsSheet h → ⊥
 no_sheet (held.Sheet s) none is = none s refl
 no_sheet (held.Seat s) none is = is

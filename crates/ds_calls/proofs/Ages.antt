@@ -204,5 +204,6 @@ run_young old events replies new fresh good run c =
     let none : (world_of old).memory.cached (Mark c) ≡ 0 = fresh.memory.cached (Mark c) (λ x. cc) in
     omega (arith, more, none)
 
+-- behind a run of few enough events from a new world each mark has generations left for so many rounds
 pub young_marks : (old : WorldValue) (events : List Event) (replies : List Reply) (new : WorldValue) (rounds : ℕ) → IsNew (world_of old) → IsGood old → WorldRun old events replies new → length events + 2 * rounds ≤ SEEN_MOST → AreYoung (world_of new) rounds
 young_marks old events replies new rounds fresh good run few = record { each = λ c l. (let y = run_young old events replies new fresh good run c in omega (arith, y, few)) }

@@ -39,6 +39,7 @@ calls_by old new p event reply s kind there takes is calls same = record {
   calls = (subst IsInCall (sym is) calls, λ answer h. same answer (subst (λ (x : Situation). AnswersTo x answer) is h));
 }
 
+-- the begin of an edit puts its process into an edit, or is refused and nothing changes
 pub edit_begins : (old new : WorldValue) (r : PlainRequest) (reply : Reply) → IsOfWorld old r → Fits old (BeginEdit r) reply new → BeginsCall IsEditAnswer old r.process new reply
 edit_begins old new r (Begun number) named fits =
     let h = fits.takes in
@@ -48,6 +49,7 @@ edit_begins old new r (Refused why) named fits = fits.takes.same
 edit_begins old new r NotEnabled named fits = absurd (fits.takes.unnamed named)
 edit_begins old new r _ named fits = absurd fits.takes
 
+-- the same, of work
 pub work_begins : (old new : WorldValue) (p : ℕ) (cell : Cell) (reply : Reply) → HasWork old p cell → Fits old (BeginWork p cell) reply new → BeginsCall IsWorkAnswer old p new reply
 work_begins old new p cell Entered named fits =
     let h = fits.takes in
@@ -57,6 +59,7 @@ work_begins old new p cell (Refused why) named fits = fits.takes.same
 work_begins old new p cell NotEnabled named fits = absurd (fits.takes.unnamed named)
 work_begins old new p cell _ named fits = absurd fits.takes
 
+-- the same, of a report
 pub report_begins : (old new : WorldValue) (p : ℕ) (reply : Reply) → HasProcess old p → Fits old (BeginReport p) reply new → BeginsCall IsReportAnswer old p new reply
 report_begins old new p Entered there fits =
     let h = fits.takes in
@@ -65,6 +68,7 @@ report_begins old new p (Refused why) there fits = fits.takes.same
 report_begins old new p NotEnabled there fits = absurd (fits.takes.none there)
 report_begins old new p _ there fits = absurd fits.takes
 
+-- the same, of a recovery
 pub recovery_begins : (old new : WorldValue) (p : ℕ) (reply : Reply) → HasProcess old p → Fits old (BeginRecover p) reply new → BeginsCall IsRecoveryAnswer old p new reply
 recovery_begins old new p Entered there fits =
     let h = fits.takes in
@@ -73,6 +77,7 @@ recovery_begins old new p (Refused why) there fits = fits.takes.same
 recovery_begins old new p NotEnabled there fits = absurd (fits.takes.none there)
 recovery_begins old new p _ there fits = absurd fits.takes
 
+-- the same, of a migration
 pub migration_begins : (old new : WorldValue) (p : ℕ) (reply : Reply) → HasProcess old p → Fits old (BeginMigrate p) reply new → BeginsCall IsMigrationAnswer old p new reply
 migration_begins old new p Entered there fits =
     let h = fits.takes in
@@ -110,6 +115,7 @@ whole_of kind answer p event old mid new reply (Err why) idle fits begins h = re
   unchanged = h.1 ∙ stays_refused kind old p mid reply why h.0 begins;
 }
 
+-- a migration that begins and is driven to its end is a whole one
 pub whole_migration_of : (p : ℕ) (event : Event) (old mid new : WorldValue) (reply : Reply) (result : Result MigrateEnd Refusal) → Fits old event reply mid → BeginsCall IsMigrationAnswer old p mid reply → IsDriven Migration p reply mid result new
     → IsWholeMigration p event old result new
 whole_migration_of p event old mid new reply (Ok end) fits begins h = record {

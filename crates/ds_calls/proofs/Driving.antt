@@ -76,5 +76,6 @@ wants_in : (v : WorldValue) (p : ℕ) (s : Situation) → (world_of v).situation
 wants_in v p (Working e) is none = wants_at v p e e.stage refl (none e is)
 wants_in v p s is none = refl
 
+-- a process whose work doesn't wait wants a step
 pub wants_step : (v : WorldValue) (p : ℕ) → ((e : PlainWorkCall) → (world_of v).situation p ≡ Working e → e.stage ≡ Wait → ⊥) → wants v p ≡ Step p
 wants_step v p none = wants_in v p ((world_of v).situation p) refl none

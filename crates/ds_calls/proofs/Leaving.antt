@@ -171,6 +171,7 @@ HelpAt w e (works.Clear changed) = CachedAre w e (value_for e.entry) (word_for e
 HelpAt w e works.ClearDirty = w.memory.cached (Mark e.cell) ≡ dirtied e.mark
 HelpAt w e _ = Unit {0}
 
+-- a work that fits knows its cell's words, or its mark, where it lets the cell go
 pub help_at : (w : PlainWorld) (p : ℕ) (e : PlainWorkCall) → WorkFits w p e → HelpAt w e e.stage
 help_at w p e fits = by e.stage fits.knows
   where

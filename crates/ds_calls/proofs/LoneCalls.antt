@@ -222,6 +222,7 @@ run_goes first p c all begun events replies new g (goes es rs old n so_far fits)
     let k = run_goes first p c all begun es rs old g so_far in
     record { good = fits.good; under = event_goes first p c all old new k.good.sound k.under fits }
 
+-- work that is alone and under way leaves, once it is driven to its end, what such work leaves
 pub call_ends : (first : PlainWorld) (p c : ℕ) → AreIdle first → (begun : WorldValue) (answer : Answer) (new : WorldValue) → GoodUnder first p c begun → Finishes p begun answer new → Over first p c answer new
 call_ends first p c all begun answer new g f =
     let k = run_goes first p c all begun f.events f.replies f.last g f.goes in

@@ -18,6 +18,7 @@ use Rattle.ds_calls.specs.Settling.{Settling, begins, works}
 
 -- ---- runs
 
+-- no events are a run
 pub no_events : (old : WorldValue) → IsRun old old
 no_events old = record { events = []; replies = []; run = refl }
 
@@ -29,12 +30,15 @@ run_both (event ∷ events) (reply ∷ replies) events' replies' old mid new h k
 run_both [] (reply ∷ replies) events' replies' old mid new h k = absurd h
 run_both (event ∷ events) [] events' replies' old mid new h k = absurd h
 
+-- two runs, one behind the other, are a run
 pub runs_on : (old mid new : WorldValue) → IsRun old mid → IsRun mid new → IsRun old new
 runs_on old mid new h k = record { events = h.events ++ k.events; replies = h.replies ++ k.replies; run = run_both h.events h.replies k.events k.replies old mid new h.run k.run }
 
+-- where nothing changes there is a run
 pub same_run : (old new : WorldValue) → new ≡ old → IsRun old new
 same_run old new is = record { events = []; replies = []; run = is }
 
+-- a run keeps the sheet's layout
 pub run_keeps_layout : (old new : WorldValue) → IsRun old new → new.sheet.layout ≡ old.sheet.layout
 run_keeps_layout old new h = run_layout h.events h.replies old new h.run
 
@@ -51,6 +55,7 @@ finishes_runs p old answer new h = record {
   run = run_more old h.last new h.events (Step p) h.replies (Answered answer) (goes_runs p old h.events h.replies h.last h.goes) h.answers;
 }
 
+-- a whole call is a run
 pub whole_runs : (E : Type 0) (answer : E → Answer) (p : ℕ) (event : Event) (old : WorldValue) (result : Result E Refusal) (new : WorldValue) → Whole answer p event old result new → IsRun old new
 whole_runs E answer p event old result new (finishes reply mid n end begun fits h) =
     let r = finishes_runs p mid (answer end) new h in record { events = event ∷ r.events; replies = reply ∷ r.replies; run = (mid, fits, r.run) }
@@ -58,6 +63,7 @@ whole_runs E answer p event old result new (refused why n fits) = record { event
 
 -- ---- settles
 
+-- a settle, up to each turn, is a run
 pub settling_runs : (p : ℕ) (first : WorldValue) (turn : SettleStage) (new : WorldValue) → Settling p first turn new → IsRun first new
 settling_runs p first turn new begins = no_events first
 settling_runs p first turn new (works rounds cell old n result so_far whole) = runs_on first old new (settling_runs p first _ old so_far) (whole_runs _ _ p _ old result new whole)

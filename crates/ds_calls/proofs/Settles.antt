@@ -41,6 +41,7 @@ few_works cells (suc k) first some =
 
 -- ---- a whole call leaves a process free that was
 
+-- a call that leaves its process idle, or is refused with nothing changed, leaves a free process free
 pub whole_free : {E : Type 0} (p : ℕ) (old new : WorldValue) (result : Result E Refusal) → OnOk result (IsIdle new p) → OnErr result (new ≡ old) → KeepsFree p old new
 whole_free p old new (Ok end) idle same free = subst MayRecover (sym idle.is) tt
 whole_free p old new (Err why) idle same free = subst (λ (w : WorldValue). MayRecover ((world_of w).situation p)) (sym same) free

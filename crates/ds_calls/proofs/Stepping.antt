@@ -51,11 +51,13 @@ not_waiting old new p reply (reports h) e at waits = absurd (let bad : Reporting
 not_waiting old new p reply (recoveries h) e at waits = absurd (let bad : Recovering h.steps.recovery ≡ Working e = sym h.steps.at ∙ at in cc)
 not_waiting old new p reply (migrations h) e at waits = absurd (let bad : Migrating h.steps.migration ≡ Working e = sym h.steps.at ∙ at in cc)
 
+-- a process whose step is answered wanted a step
 pub answered_wants : (old new : WorldValue) (p : ℕ) (answer : Answer) → Fits old (Step p) (Answered answer) new → wants old p ≡ Step p
 answered_wants old new p answer fits = wants_step old p (not_waiting old new p (Answered answer) fits.takes)
 
 -- ---- a step that goes on, and one that answers
 
+-- a step that is replied Stepped leaves a process in its call
 pub step_goes : (old new : WorldValue) (p : ℕ) → IsSound (world_of old) → IsCalling old p → Fits old (Step p) Stepped new → GoesOn old p new
 step_goes old new p sound calling fits =
     let s = step_stays old new p sound fits.takes in
@@ -70,6 +72,7 @@ step_answers old new p answer fits = let g = step_ends old new p answer fits.tak
 
 -- ---- a process in a call of this kind that makes no step of one waits
 
+-- a process in a call of a kind that can make no step of one has a work that waits
 pub must_wait : (kind : Answer → Type 0) (old new : WorldValue) (p : ℕ) → IsCallingAs kind old p → Rests (IsCallOf kind) old p new → IsNotWaiting old p → ⊥
 must_wait kind old new p calling rests none =
     let w = rests.waits calling.there calling.calls in
@@ -92,6 +95,7 @@ calls_on kind old new p calling goes = record {
 
 -- ---- what comes of a step of a call of one kind
 
+-- a step of a call of a kind goes on, with fewer steps left, or is answered as its ends are
 pub step_went : {E : Type 0} (kind : Kind E) (old new : WorldValue) (p : ℕ) (turn : Turn E) → IsSound (world_of old) → IsGood new → IsCallingAs kind.is old p → StepsBy old p (reply_of kind.answer turn) new → Went kind.answer old p (ended turn) new
 step_went kind old new p turns.GoesOn sound good calling steps =
     let fits : Fits old (Step p) Stepped new = record { takes = steps; good = good } in (

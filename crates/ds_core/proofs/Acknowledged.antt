@@ -206,10 +206,12 @@ module _ (old : WorldValue) (events : List Event) (replies : List Reply) (new : 
   told_once : (k p : ℕ) (told : Told) → Happens events replies k (Step p) (Answered (Recovery (Last told))) → told.counts ≡ true → IsToldDone old events replies k p told new.counted
   told_once k p told happens counts = by_moves k p told (within events k (Step p) happens.event_is) counts (h.run.ledger k (Step p) (Answered (Recovery (Last told))) happens)
 
+-- an edit that was answered Done stands in the last list just once, as it was asked for
 pub acknowledged_once : (old : WorldValue) (events : List Event) (replies : List Reply) (new : WorldValue) (k p n : ℕ) → Headline old events replies new → Happens events replies k (Step p) (Answered (Edit (Done n)))
     → IsAcknowledged old events replies k p n new.counted
 acknowledged_once old events replies new k p n h done = done_once old events replies new h k p n done
 
+-- an edit that a recovery told as done stands in the last list just once, as it was asked for
 pub resolved_once : (old : WorldValue) (events : List Event) (replies : List Reply) (new : WorldValue) (k p : ℕ) (told : Told) → Headline old events replies new → Happens events replies k (Step p) (Answered (Recovery (Last told))) → told.counts ≡ true
     → IsToldDone old events replies k p told new.counted
 resolved_once old events replies new k p told h happens counts = told_once old events replies new h k p told happens counts

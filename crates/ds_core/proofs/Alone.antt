@@ -41,6 +41,7 @@ done_there number [] k answer all is = absurd (cc)
 done_there number (reply ∷ replies) zero answer all is = let same : reply ≡ Answered answer = cc in subst (λ (r : Reply). IsDoneOnly number r) same all.0
 done_there number (reply ∷ replies) (suc k) answer all is = done_there number replies k answer all.1 is
 
+-- an edit that is alone and makes enough steps is answered Done
 pub solo_answered : (old : WorldValue) (events : List Event) (replies : List Reply) (new : WorldValue) (p : ℕ) (e : PlainEditCall) → IsSound (world_of old) → p < old.sheet.layout.processes
     → (world_of old).situation p ≡ Editing e → e.stage ≡ StoreHeader → WorldRun old events replies new → IsSolo p events → 112 + 3 * length e.refs ≤ own_steps p events replies
     → (k : ℕ) × Happens events replies k (Step p) (Answered (Edit (Done e.number)))
@@ -65,6 +66,7 @@ lone_there first last cell [] k answer all is = absurd (cc)
 lone_there first last cell (reply ∷ replies) zero answer all is = let same : reply ≡ Answered answer = cc in subst (λ (r : Reply). IsLoneReply first last cell r) same all.0
 lone_there first last cell (reply ∷ replies) (suc k) answer all is = lone_there first last cell replies k answer all.1 is
 
+-- work on a marked cell that is alone and makes enough steps is answered, as work alone may be
 pub lone_answered : (old : WorldValue) (events : List Event) (replies : List Reply) (new : WorldValue) (p : ℕ) (e : PlainWorkCall) → IsSound (world_of old) → p < old.sheet.layout.processes
     → (world_of old).situation p ≡ Working e → e.stage ≡ LoadMark → IsMarkedAt (world_of old) e → WorldRun old events replies new → IsLone p events
     → 5 * e.cells + (e.cells + 63) / 64 + 51 ≤ own_steps p events replies

@@ -131,6 +131,7 @@ find (event ∷ events) (r ∷ replies) old new p sound low a run solo enough = 
       (suc rest.0, record { event_is = rest.1.event_is; reply_is = rest.1.reply_is }))
 ]
 
+-- a report that begins in a quiet world, is alone and makes enough steps is answered Settled
 pub solo_settled : (old mid new : WorldValue) (events : List Event) (replies : List Reply) (p : ℕ) → IsSound (world_of old) → IsQuiet (world_of old) → Takes old (BeginReport p) Entered mid
     → WorldRun mid events replies new → IsSolo p events → 2 * old.sheet.layout.processes + 4 * cells_of old.sheet.layout + 1 ≤ own_steps p events replies
     → (k : ℕ) × Happens events replies k (Step p) (Answered (Report Settled))

@@ -29,10 +29,12 @@ says_number : (n : Rest) (s : Situation) → IsAtWork n s → numbered s ≡ Som
 says_number n s (in_work e next is) = ap numbered is ∙ ap (λ (x : Rest). Some x.number) next
 says_number n s (at_rest is) = ap numbered is
 
+-- a process at work, or idle, has no edit in doubt
 pub at_work_sure : (n : Rest) (s : Situation) → IsAtWork n s → doubts s ≡ false
 at_work_sure n s (in_work e next is) = ap doubts is
 at_work_sure n s (at_rest is) = ap doubts is
 
+-- a process at work, or idle, is in no report
 pub at_work_shows_not : (n : Rest) (s : Situation) → IsAtWork n s → (f : PlainReportCall) → s ≡ Reporting f → ⊥
 at_work_shows_not n s (in_work e next is) f at = (let bad : Working e ≡ Reporting f = sym is ∙ at in cc)
 at_work_shows_not n s (at_rest is) f at = (let bad : Idle n ≡ Reporting f = sym is ∙ at in cc)
@@ -43,6 +45,7 @@ pub record StaysAtWork (p : ℕ) (old new : WorldValue) : Type 0 where
   pub was : IsAtWork number ((world_of old).situation p)
   pub now : IsAtWork number ((world_of new).situation p)
 
+-- a turn of a process at work leaves what each situation says of its process's edits
 pub work_says : (p : ℕ) (old new : WorldValue) → StaysAtWork p old new → IsTurn p old new → (q : ℕ) → SaysSame ((world_of old).situation q) ((world_of new).situation q)
 work_says p old new s turn q = elim (cases_eq q p) [
   | inl here ↦ (
@@ -73,9 +76,11 @@ module _ (p : ℕ) (old new : WorldValue) (e : PlainWorkCall) (mine : e.process 
   by_taken what (works.lacked at t) = by_turn (work_steps.lacks e) refl t.situation
   by_taken what (works.answers end at t) = record { number = work_steps.rest_of e; was = in_work e refl is; now = at_rest (here _ t.situation) }
 
+-- a step of work leaves its process at work, or idle, with what it knows
 pub work_stays : (p : ℕ) (old new : WorldValue) (reply : Reply) → WorkStepsBy old p reply new → StaysAtWork p old new
 work_stays p old new reply h = by_taken p old new h.steps.work h.steps.mine h.steps.works h.what h.steps.turn
 
+-- the begin of work leaves its process at work, or idle, with what it knows
 pub work_begins_stays : (p : ℕ) (old new : WorldValue) (cell : _) → WorkBegins old p cell new → StaysAtWork p old new
 work_begins_stays p old new cell h =
     let b = h.begun.begins in
@@ -86,6 +91,7 @@ work_begins_stays p old new cell h =
       now = in_work (work_steps.at h.begun.work stages.LoadMark) b.next_is (ap (λ x. (world_of new).situation x) (sym mine) ∙ b.turn.situation);
     }
 
+-- an offer leaves its process at work, with what it knows
 pub offer_stays : (old new : WorldValue) (value : PlainEvaluated) → TakesEntry old value new → StaysAtWork value.task.process old new
 offer_stays old new value h =
     let o = h.offered in

@@ -28,10 +28,12 @@ use Rattle.ds_core.specs.declared.event.Event.{Event}
 use Rattle.ds_core.specs.declared.reply.Reply.{Reply}
 use Rattle.ds_core.specs.declared.reply.Reply.TheVariants.{Stepped}
 
+-- an edit whose step is replied Stepped has no outcome
 pub unanswered_at : (processes number : ℕ) (o : Option Outcome) → Stepped ≡ reply_with processes number o → o ≡ None
 unanswered_at processes number None is = refl
 unanswered_at processes number (Some how) is = absurd (cc)
 
+-- behind a step that is no answer the process is in the edit at its next stage
 pub after_on : (e : PlainEditCall) (s : Stage) (word : ℕ) → outcome_at s ≡ None → after e s word ≡ Editing (record e { stage = next_at e s word })
 after_on e (Answer how) word is = absurd (cc)
 after_on e _ word is = refl
@@ -40,6 +42,7 @@ falls_on : (e : PlainEditCall) (s x : Stage) → outcome_at s ≡ None → Falls
 falls_on e (Answer how) x is h = absurd (cc)
 falls_on e _ x is h = h
 
+-- a situation is that of one edit alone
 pub editing_same : (s : Situation) (e f : PlainEditCall) → s ≡ Editing e → s ≡ Editing f → e ≡ f
 editing_same s e f a b = let one : Editing e ≡ Editing f = sym a ∙ b in cc
 
@@ -49,6 +52,7 @@ pub record EditGoesOn (p : ℕ) (e : PlainEditCall) (new : WorldValue) : Type 0 
   pub edits : (world_of new).situation p ≡ Editing edit
   pub fewer : rank edit edit.stage < rank e e.stage
 
+-- a step of an edit that is no answer leaves the process in it, with fewer steps
 pub edit_goes_on : (old new : WorldValue) (p : ℕ) → IsSound (world_of old) → (h : EditStepsBy old p Stepped new) → EditGoesOn p h.steps.edit new
 edit_goes_on old new p sound h =
     let e : PlainEditCall = h.steps.edit in
@@ -87,12 +91,14 @@ layout_by old new _ _ (crashes h) = h.crashes.layout
 pub same_layout : (old new : WorldValue) (event : Event) (reply : Reply) → Takes old event reply new → new.sheet.layout ≡ old.sheet.layout
 same_layout old new event reply h = layout_by old new event reply (did old new event reply h)
 
+-- a run keeps a sound world sound
 pub run_sound : (events : List Event) (replies : List Reply) (old new : WorldValue) → IsSound (world_of old) → WorldRun old events replies new → IsSound (world_of new)
 run_sound [] [] old new sound run = subst (λ (v : WorldValue). IsSound (world_of v)) (sym run) sound
 run_sound (event ∷ events) (reply ∷ replies) old new sound run = run_sound events replies run.0 new run.1.good.sound run.2
 run_sound [] (reply ∷ replies) old new sound run = absurd run
 run_sound (event ∷ events) [] old new sound run = absurd run
 
+-- a run keeps the sheet's layout
 pub run_layout : (events : List Event) (replies : List Reply) (old new : WorldValue) → WorldRun old events replies new → new.sheet.layout ≡ old.sheet.layout
 run_layout [] [] old new run = ap (λ (v : WorldValue). v.sheet.layout) run
 run_layout (event ∷ events) (reply ∷ replies) old new run = run_layout events replies run.0 new run.2 ∙ same_layout old run.0 event reply run.1.takes

@@ -65,6 +65,7 @@ work_stays old new p sound h = by h.what h.steps h.is
     by turns.GoesOn s is = let g = turns_fall p (world_of old) (world_of new) sound s in stays_by old new p (Working s.work) (Working g.work) s.works g.works tt (λ answer x. x)
     by (turns.Answers end) s is = absurd (cc)
 
+-- behind a step of a report that is replied Stepped the process is in its next stage
 pub report_on : (e : PlainReportCall) (s : ReportStage) (word : ℕ) → Stepped ≡ report_reply (show_steps.effect_at s) → show_steps.after e s word ≡ Reporting (show_steps.next_at e s word)
 report_on e (show_stages.Answer end) word is = absurd (cc)
 report_on e _ word is = refl
@@ -76,6 +77,7 @@ report_stays old new p h =
     let now : (world_of new).situation p ≡ Reporting (show_steps.next_at e e.stage h.steps.word) = ap (λ q. (world_of new).situation q) (sym h.steps.mine) ∙ h.steps.steps.situation ∙ report_on e e.stage h.steps.word goes in
     stays_by old new p (Reporting e) (Reporting (show_steps.next_at e e.stage h.steps.word)) h.steps.at now tt (λ answer x. x)
 
+-- the same, of a recovery
 pub recovery_on : (e : PlainRecoverCall) (s : RecoverStage) (word : ℕ) → Stepped ≡ recovery_reply (recovery_steps.effect_at e s) → recovery_steps.after e s word ≡ Recovering (recovery_steps.next_at e s word)
 recovery_on e (recover_stages.Answer how) word is = absurd (cc)
 recovery_on e _ word is = refl
@@ -100,6 +102,7 @@ migration_stays old new p h =
     ap (λ q. (world_of new).situation q) (sym h.steps.mine) ∙ h.steps.steps.situation ∙ migration_on e e.stage h.steps.word goes in
     stays_by old new p (Migrating e) (Migrating (migration_steps.next_at e e.stage h.steps.word)) h.steps.at now tt (λ answer x. x)
 
+-- a step that is not answered leaves the process in a call of the same kind
 pub step_stays : (old new : WorldValue) (p : ℕ) → IsSound (world_of old) → StepsBy old p Stepped new → StaysIn old p new
 step_stays old new p sound (edits h) = edit_stays old new p sound h
 step_stays old new p sound (works h) = work_stays old new p sound h
@@ -219,6 +222,7 @@ migration_ends_in old new p answer h =
       rests = rests_stopped answer ((world_of new).situation p) (ap (λ q. (world_of new).situation q) (sym h.steps.mine) ∙ h.steps.steps.situation ∙ g.after) g.is;
     }
 
+-- a step that is answered ends the process's call with an answer of its kind, and the process rests
 pub step_ends : (old new : WorldValue) (p : ℕ) (answer : Answer) → StepsBy old p (Answered answer) new → EndsIn old p answer new
 step_ends old new p answer (edits h) = edit_ends old new p answer h
 step_ends old new p answer (works h) = work_ends_in old new p answer h

@@ -176,6 +176,7 @@ goes_on (event ∷ events) [] old new p sound low calls run u = absurd run
 
 -- ---- a call has a step left, and few
 
+-- work has a step left at each stage
 pub work_some : (r : ℕ) (e : PlainWorkCall) (s : WorkStage) → 0 < left r e s
 work_some r e works.LoadMark = omega arith
 work_some r e works.Claim = omega arith
@@ -259,6 +260,7 @@ migration_some words (migrating.FlushVersion how) = omega arith
 migration_some words (migrating.BackVersion how) = omega arith
 migration_some words (migrating.Answer how) = omega arith
 
+-- a call that fits has a step left
 pub some_left : (w : PlainWorld) (p : ℕ) (s : Situation) → CallFits w p s → IsInCall s → 0 < left_in s
 some_left w p (Idle n) fits calls = absurd calls
 some_left w p Stopped fits calls = absurd calls
@@ -297,17 +299,20 @@ edit_left v p e sound low at =
     let is : steps_left p v ≡ left_in (Editing e) = ap left_in at in
     omega (arith, few, is)
 
+-- work has, at its first step, at most 5 n + 51 steps left of n cells, and one for each part of an index row
 pub work_left : (v : WorldValue) (p : ℕ) (e : PlainWorkCall) → (world_of v).situation p ≡ Working e → e.stage ≡ works.LoadMark → steps_left p v ≤ 5 * e.cells + (e.cells + 63) / 64 + 51
 work_left v p e at first =
     let is : steps_left p v ≡ left e.cells e works.LoadMark = ap left_in at ∙ ap (λ s. left e.cells e s) first in
     omega (arith, is)
 
+-- a report has at most two steps left for each process, four for each cell, and the answer's
 pub report_left : (v : WorldValue) (p : ℕ) (e : PlainReportCall) → (world_of v).situation p ≡ Reporting e → steps_left p v ≤ 2 * e.processes + 4 * e.cells + 1
 report_left v p e at =
     let few = show_laws.each_few e in
     let is : steps_left p v ≡ left_in (Reporting e) = ap left_in at in
     omega (arith, few, is)
 
+-- a recovery has at most 3 n + 30 steps left for each of n cells, and 23 more
 pub recovery_left : (v : WorldValue) (p : ℕ) (e : PlainRecoverCall) → IsSound (world_of v) → p < v.sheet.layout.processes → (world_of v).situation p ≡ Recovering e → steps_left p v ≤ e.cells * (3 * e.cells + 30) + 23
 recovery_left v p e sound low at =
     let fits = subst (λ (x : Situation). CallFits (world_of v) p x) at (sound.calls p low) in
@@ -315,6 +320,7 @@ recovery_left v p e sound low at =
     let is : steps_left p v ≡ left_in (Recovering e) = ap left_in at in
     omega (arith, few, is)
 
+-- a migration of P processes has at most 15,360 P + 5 steps left
 pub migration_left : (v : WorldValue) (p : ℕ) (e : PlainMigrateCall) → IsSound (world_of v) → p < v.sheet.layout.processes → (world_of v).situation p ≡ Migrating e → steps_left p v ≤ 15360 * e.processes + 5
 migration_left v p e sound low at =
     let fits = subst (λ (x : Situation). CallFits (world_of v) p x) at (sound.calls p low) in
@@ -393,6 +399,7 @@ first_answer (event ∷ events) (r ∷ replies) old new p sound low calls run on
   })
 ]
 
+-- a call that nothing stops, and that makes the steps that it has left, is answered as calls of its kind are
 pub answered : (old : WorldValue) (events : List Event) (replies : List Reply) (new : WorldValue) (p : ℕ) → IsSound (world_of old) → p < old.sheet.layout.processes → IsInCall ((world_of old).situation p)
     → WorldRun old events replies new → AreUnhalted p events → steps_left p old ≤ own_steps p events replies → FindsAnswer ((world_of old).situation p) p events replies
 answered old events replies new p sound low calls run on enough = elim (first_answer events replies old new p sound low calls run on) [
@@ -400,6 +407,7 @@ answered old events replies new p sound low calls run on enough = elim (first_an
   | inr f ↦ f
 ]
 
+-- a call that nothing stops, and that makes the steps that it has left, has an answer of its kind in the run
 pub wait_free : (old : WorldValue) (events : List Event) (replies : List Reply) (new : WorldValue) (p : ℕ) → IsSound (world_of old) → p < old.sheet.layout.processes → IsInCall ((world_of old).situation p)
     → WorldRun old events replies new → AreUnhalted p events → steps_left p old ≤ own_steps p events replies
     → (k : ℕ) × (answer : Answer) × Happens events replies k (Step p) (reply.Answered answer) × AnswersTo ((world_of old).situation p) answer
@@ -407,6 +415,7 @@ wait_free old events replies new p sound low calls run on enough =
     let f = answered old events replies new p sound low calls run on enough in
     (f.k, f.answer, f.happens, f.to)
 
+-- an edit with r references that is not answered has made fewer than 3r + 112 steps
 pub edit_few : (old : WorldValue) (events : List Event) (replies : List Reply) (new : WorldValue) (p : ℕ) (e : PlainEditCall) → IsSound (world_of old) → p < old.sheet.layout.processes → (world_of old).situation p ≡ Editing e
     → WorldRun old events replies new → AreUnanswered p events replies → own_steps p events replies < 112 + 3 * length e.refs
 edit_few old events replies new p e sound low at run u =

@@ -26,6 +26,7 @@ pub record RunOn (place : ℕ) (shape : Shape) (ledger : Ledger) (old : WorldVal
   pub steps : (i : ℕ) (event : Event) (reply : Reply) → Happens events replies i event reply → StepFits (place + i) shape (moment i) event reply (moment (i + 1))
   pub fits : (i : ℕ) → i ≤ length events → MomentFits (moment i)
 
+-- no events lead on from a moment that fits
 unfoldable pub nothing_on : (place : ℕ) (shape : Shape) (ledger : Ledger) (old new : WorldValue) → new ≡ old → MomentFits (record { world = old; ledger = ledger }) → RunOn place shape ledger old [] [] new
 nothing_on place shape ledger old new same fits = record {
   moment = λ i. record { world = old; ledger = ledger };

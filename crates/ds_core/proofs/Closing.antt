@@ -14,15 +14,19 @@ use Rattle.ds_state.proofs.Counting.{contains_one}
 
 -- ---- lists
 
+-- nothing is in the empty list
 pub contains_none : {A : Type 0} (e : A) → Contains [] e → ⊥
 contains_none e (k, lt, is) = omega arith
 
+-- what is in the filtered list is in the whole
 pub of_filter : {A : Type 0} (p : A → Bool) (xs : List A) (e : A) → Contains (filter p xs) e → Contains xs e
 of_filter p xs e h = All-contains (λ f. Contains xs f) (filter p xs) e (All-filter p (λ f. Contains xs f) xs (All-contains_itself xs)) h
 
+-- what is in a list is in it with one more in front
 pub behind : {A : Type 0} (x : A) (xs : List A) (e : A) → Contains xs e → Contains (x ∷ xs) e
 behind x xs e (k, lt, is) = (suc k, omega arith, is)
 
+-- what is in a list and passes the test is in the filtered one
 pub to_filter : {A : Type 0} (p : A → Bool) (xs : List A) (e : A) → Contains xs e → p e ≡ true → Contains (filter p xs) e
 to_filter p [] e (k, lt, is) keep = absurd (omega arith)
 to_filter p (x ∷ xs) e (zero, lt, is) keep = subst (λ b. Contains (cond b (x ∷ filter p xs) (filter p xs)) e) (sym (ap p is ∙ keep)) (zero, omega arith, is)
@@ -32,11 +36,13 @@ to_filter p (x ∷ xs) e (suc k, lt, is) keep = by (p x) (to_filter p xs e (k, o
     by true rest = behind x (filter p xs) e rest
     by false rest = rest
 
+-- at each place below its length a list has an element
 pub found_at : {A : Type 0} (xs : List A) (k : ℕ) → k < length xs → (x : A) × (slice_get xs k ≡ Some x)
 found_at [] k lt = absurd (omega arith)
 found_at (x ∷ xs) zero lt = (x, refl)
 found_at (x ∷ xs) (suc k) lt = found_at xs k (omega arith)
 
+-- what holds of the number behind a place holds of its successor
 pub up : (P : ℕ → Type 0) (k : ℕ) → P (k + 1) → P (suc k)
 up P k h = let same : k + 1 ≡ suc k = omega arith in subst P same h
 

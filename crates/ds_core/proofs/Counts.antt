@@ -186,6 +186,7 @@ adds_by old new _ _ (evicts word h) = adds_none old new (Evict word) Evicted tt 
 adds_by old new _ _ (stops p h) = adds_none old new (Stop p) Stopped tt (none old new h.done) refl h.reports
 adds_by old new _ _ (crashes h) = adds_none old new Crash Crashed tt (none old new h.done) refl h.reports
 
+-- an event adds to the counts, and keeps of the reports, what its reply says
 pub adds : (old new : WorldValue) (event : Event) (reply : Reply) → Takes old event reply new → Adds old event reply new
 adds old new event reply h = adds_by old new event reply (did old new event reply h)
 
@@ -297,6 +298,7 @@ migration_falls old new p sound h =
     let c = ap (λ n. migration_steps.rank (old_words n) f.stage) (migration_processes e e.stage h.steps.word) in
     record { calls = subst IsInCall (sym now) tt; fewer = omega (arith, fall, a, b, c) }
 
+-- a step that is not answered leaves the process in its call, with fewer steps
 pub steps_on : (old new : WorldValue) (p : ℕ) → IsSound (world_of old) → Takes old (Step p) Stepped new → StepsOn p old new
 steps_on old new p sound (edits h) = edit_falls old new p sound h
 steps_on old new p sound (works h) = work_falls old new p sound h

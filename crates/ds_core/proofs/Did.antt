@@ -58,6 +58,7 @@ pub data Did (old new : WorldValue) : Event → Reply → Type 0 where
   stops : (p : ℕ) → StopsProcess old p new → Did old new (Stop p) Stopped
   crashes : CrashesWorld old new → Did old new Crash Crashed
 
+-- what an event did with its reply: nothing, or one of ten things
 pub did : (old new : WorldValue) (event : Event) (reply : Reply) → Takes old event reply new → Did old new event reply
 did old new (BeginEdit r) (Begun number) h = edit_begins r number h
 did old new (BeginEdit r) (Refused why) h = nothing (BeginEdit r) (Refused why) tt tt h.same

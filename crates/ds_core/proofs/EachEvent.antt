@@ -90,6 +90,7 @@ goes e s word = record { number = ap (λ n. Some n) (next_stays e s word); doubt
 the_answer : (a b : replies.Answer) → Answered b ≡ Answered a → b ≡ a
 the_answer a b is = cc
 
+-- the ledger behind an event: it has moved as it may, it is the world's, and the words tell its closed edits
 pub record Next (place : ℕ) (layout : Layout) (l : Ledger) (v : WorldValue) (event : Event) (reply : Reply) (v' : WorldValue) : Type 0 where
   pub ledger : Ledger
   pub fits : StepFits place layout.shape (record { world = v; ledger = l }) event reply (record { world = v'; ledger = ledger })

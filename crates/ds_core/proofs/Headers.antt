@@ -42,16 +42,20 @@ sides_keep P old new r s a b = (
   elim s.persisted [ inl is ↦ subst P (sym is) a | inr is ↦ subst P (sym is) b ],
 )
 
+-- where nothing changes each word has the sides that it had
 pub sides_same : (old new : Memory Place) (r : Place) → SameMemory old new → SidesStay old new r
 sides_same old new r s = record { cached = inl (s.cached r); persisted = inr (s.persisted r) }
 
+-- an eviction leaves each word sides that it had
 pub sides_evicted : (place : Place) (old new : Memory Place) (r : Place) → EvictsAt place old new → ((r ≡ place) ⊎ (r ≢ place)) → SidesStay old new r
 sides_evicted place old new r e (inl same) = record { cached = inl (e.cached r); persisted = inl (ap new.persisted same ∙ e.there ∙ ap old.cached (sym same)) }
 sides_evicted place old new r e (inr other) = record { cached = inl (e.cached r); persisted = inr (e.elsewhere r other) }
 
+-- a crash leaves each word sides that it had
 pub sides_crashed : (old new : Memory Place) (r : Place) → Crashes old new → SidesStay old new r
 sides_crashed old new r c = record { cached = inr (c.cached r); persisted = inr (c.persisted r) }
 
+-- a stop leaves each word sides that it had
 pub sides_stopped : (p : ℕ) (old new : Memory Place) (r : Place) → StopsAt p old new → SidesStay old new r
 sides_stopped p old new r s = record { cached = inl (s.cached r); persisted = inr (s.persisted r) }
 
@@ -72,12 +76,14 @@ abbrev pub Elsewhere : ℕ → ℕ → Place → Type 0
 Elsewhere p n (Header q m) = q ≡ p → m ≡ n → ⊥
 Elsewhere p n r = Unit {0}
 
+-- the access changes no word, or another one than that header
 abbrev pub Spares : ℕ → ℕ → Access Place → Type 0
 Spares p n (acts.Store r value) = Elsewhere p n r
 Spares p n (acts.Or r bits) = Elsewhere p n r
 Spares p n (acts.SwapIf r expected value) = Elsewhere p n r
 Spares p n access = Unit {0}
 
+-- the oldest entry is not of that header
 abbrev pub FirstSpares : ℕ → ℕ → List (BufferEntry Place) → Type 0
 FirstSpares p n [] = Unit {0}
 FirstSpares p n (e ∷ rest) = Elsewhere p n e.place
@@ -88,6 +94,7 @@ not_there p n r e is = (subst (λ (x : Place). Elsewhere p n x) (sym is) e) refl
 stored_there : (p n : ℕ) (r : Place) (value : ℕ) (old new : Memory Place) → Elsewhere p n r → StoresAt r value old new → SidesStay old new (Header p n)
 stored_there p n r value old new e s = record { cached = inl (s.elsewhere (Header p n) (not_there p n r e)); persisted = inr (s.persisted (Header p n)) }
 
+-- an access that spares a header, as the oldest entry does, leaves it sides that it had
 pub sides_performed : (p n q : ℕ) (access : Access Place) (old new : Memory Place) (word : ℕ) → Spares p n access → FirstSpares p n (old.buffer q) → PerformsAt access q old new word → SidesStay old new (Header p n)
 sides_performed p n q acts.Nothing old new word s f h = sides_same old new (Header p n) h.1
 sides_performed p n q (acts.Load r) old new word s f h = sides_same old new (Header p n) h.1
@@ -124,6 +131,7 @@ held_spares p n w edition e (held.done_bits process number) ne h = subst (λ (xs
 held_spares p n w edition e (held.head_from least) ne h = subst (λ (xs : List (BufferEntry Place)). FirstSpares p n xs) (sym h.alone) tt
 held_spares p n w edition e held.mark ne h = subst (λ (xs : List (BufferEntry Place)). FirstSpares p n xs) (sym h.alone) tt
 
+-- a step of an edit leaves the header of a record of another number the sides that it had
 pub edit_sides : (p n : ℕ) (old new : PlainWorld) (e : PlainEditCall) (word : ℕ) → (e.number ≡ n → ⊥) → Holds old e.edition (edit_of e) (held_at (text_parts e.text) e.refs e.stage) → PerformsAt (edits.access_at e e.stage) e.process old.memory new.memory word
     → SidesStay old.memory new.memory (Header p n)
 edit_sides p n old new e word ne h performs = sides_performed p n e.process (edits.access_at e e.stage) old.memory new.memory word (edit_spares p n e e.stage ne) (held_spares p n old e.edition (edit_of e) (held_at (text_parts e.text) e.refs e.stage) ne h) performs
@@ -147,12 +155,14 @@ work_first p n w e works.the_value h = subst (λ (xs : List (BufferEntry Place))
 work_first p n w e works.both_words h = subst (λ (xs : List (BufferEntry Place)). FirstSpares p n xs) (sym h) tt
 work_first p n w e works.the_kind h = subst (λ (xs : List (BufferEntry Place)). FirstSpares p n xs) (sym h) tt
 
+-- a step of work leaves each header the sides that it had
 pub work_sides : (p n : ℕ) (shape : Shape) (old new : PlainWorld) (e : PlainWorkCall) (word : ℕ) → WorkHolds old e (work_held e e.stage) → PerformsAt (work_steps.access_at shape e e.stage) e.process old.memory new.memory word
     → SidesStay old.memory new.memory (Header p n)
 work_sides p n shape old new e word h performs = sides_performed p n e.process (work_steps.access_at shape e e.stage) old.memory new.memory word (work_spares p n shape e e.stage) (work_first p n old e (work_held e e.stage) h) performs
 
 -- ---- of a recovery
 
+-- the oldest entry of a recovery's buffer is of no header
 pub recovery_first : (p n q : ℕ) (w : PlainWorld) (word cell : ℕ) (h : RecoveryHeld) → RecoveryHolds w q word cell h → FirstSpares p n (w.memory.buffer q)
 recovery_first p n q w word cell recoveries.empty h = subst (λ (xs : List (BufferEntry Place)). FirstSpares p n xs) (sym h) tt
 recovery_first p n q w word cell (recoveries.the_value c) h = subst (λ (xs : List (BufferEntry Place)). FirstSpares p n xs) (sym h) tt

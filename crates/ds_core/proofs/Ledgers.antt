@@ -31,11 +31,13 @@ use Rattle.ds_core.proofs.Crash.{IsKnownAs, after_crash, crash_loses, crash_coun
 abbrev pub edits : List Placed → List PlainEdit
 edits es = map (λ (e : Placed). e.edit) es
 
+-- the edit of what is in a list of the ledger is among its edits
 pub contains_edit : (es : List Placed) (e : Placed) → Contains es e → Contains (edits es) e.edit
 contains_edit [] e h = absurd (contains_none e h)
 contains_edit (x ∷ es) e (zero, lt, is) = (zero, omega arith, ap (λ (f : Placed). f.edit) is)
 contains_edit (x ∷ es) e (suc k, lt, is) = let r = contains_edit es e (k, omega arith, is) in (suc r.0, (let l = r.1 in omega arith), r.2)
 
+-- each of a list's edits is that of something in it
 pub from_edits : (es : List Placed) (x : PlainEdit) → Contains (edits es) x → (e : Placed) × Contains es e × (e.edit ≡ x)
 from_edits [] x h = absurd (contains_none x h)
 from_edits (y ∷ es) x (zero, lt, is) = (y, (zero, omega arith, refl), is)
@@ -56,6 +58,7 @@ apart_parts [] ys f once a b = contains_none f a
 apart_parts (x ∷ xs) ys f once (zero, lt, is) b = All-contains (AreApart x) (xs ++ ys) f once.0 (Contains-append_right xs ys f b) (ap (λ (e : Placed). e.edit.process) (sym is)) (ap (λ (e : Placed). e.edit.number) (sym is))
 apart_parts (x ∷ xs) ys f once (suc k, lt, is) b = apart_parts xs ys f once.1 (k, omega arith, is) b
 
+-- what is noted of one process leaves what is noted of another
 pub put_other : {A : Type 0} (f : ℕ → Option A) (p : ℕ) (x : Option A) (q : ℕ) → q ≢ p → put f p x q ≡ f q
 put_other f p x q ne = elim (eqb_tells q p) [
   | inl same ↦ absurd (ne same.1)
@@ -97,6 +100,7 @@ pub record IsOpenAs (l : Ledger) (issue : PlainIssue) (p : ℕ) (doubt : Bool) :
   pub running : doubt ≡ false → IsSince l issue o
   pub only : (f : Placed) → Contains l.counted f → f.edit ≡ o.it.edit → f ≡ o.it
 
+-- the ledger is that of the world, which is good: its list, its open edits, and its processes' next numbers
 pub record IsOf (layout : Layout) (l : Ledger) (v : WorldValue) : Type 0 where
   pub good : IsGood v
   pub same : v.sheet.layout ≡ layout
@@ -110,15 +114,19 @@ pub record SaysSame (s s' : Situation) : Type 0 where
   pub number : numbered s' ≡ numbered s
   pub doubt : doubts s' ≡ doubts s
 
+-- a situation that stays says the same of its process's edits
 pub says_same : (s s' : Situation) → s' ≡ s → SaysSame s s'
 says_same s s' same = record { number = ap numbered same; doubt = ap doubts same }
 
+-- what is nothing is not something
 pub no_some : {A : Type 0} (x : Option A) (y : A) → x ≡ None → x ≡ Some y → ⊥
 no_some x y a b = let e : None ≡ Some y = sym a ∙ b in cc
 
+-- what is something is one thing
 pub one_some : {A : Type 0} (x : Option A) (a b : A) → x ≡ Some a → x ≡ Some b → a ≡ b
 one_some x a b p q = let e : Some a ≡ Some b = sym p ∙ q in cc
 
+-- a world and its ledger are a moment that fits
 pub fits_of : (layout : Layout) (l : Ledger) (v : WorldValue) → IsOf layout l v → MomentFits (record { world = v; ledger = l })
 fits_of layout l v h = record {
   counted = h.counted;

@@ -239,6 +239,7 @@ lone_run row first p cell index (event ∷ events) (reply ∷ replies) old new s
 lone_run row first p cell index [] (reply ∷ replies) old new sound u run lone = absurd run
 lone_run row first p cell index (event ∷ events) [] old new sound u run lone = absurd run
 
+-- each answer to work on a marked cell that is alone is one that work alone may have
 pub lone_publishes : (old : WorldValue) (events : List Event) (replies : List Reply) (new : WorldValue) (p : ℕ) (e : PlainWorkCall) → IsSound (world_of old) → p < old.sheet.layout.processes → (world_of old).situation p ≡ Working e → e.stage ≡ LoadMark → IsMarkedAt (world_of old) e
     → WorldRun old events replies new → IsLone p events → AreLoneReplies (world_of old) (world_of new) e.cell replies
 lone_publishes old events replies new p e sound low at first marked run lone =

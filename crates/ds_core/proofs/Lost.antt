@@ -20,6 +20,7 @@ pub record IsSifted (m : Memory Place) (old xs : List PlainEdit) (i kept : ℕ) 
 abbrev keep : Memory Place → PlainEdit → Bool
 keep m e = if is_lost m e then false else true
 
+-- before the first edit is looked at nothing has moved
 pub sifted_first : (m : Memory Place) (old : List PlainEdit) → IsSifted m old old 0 0
 unfolding survivors
 sifted_first m old = record { fewer = omega arith; size = refl; front = refl; rest = λ j e l. refl }
@@ -60,6 +61,7 @@ module _ (m : Memory Place) (old xs : List PlainEdit) (i kept : ℕ) (h : IsSift
     rest = λ j d l. get_or-set_other xs kept j e d (let f = h.fewer in omega arith) ∙ h.rest j d (omega arith);
   }
 
+-- once all edits are looked at, those in front are what a crash leaves
 pub sifted_last : (m : Memory Place) (old xs : List PlainEdit) (kept : ℕ) → IsSifted m old xs (length old) kept → take kept xs ≡ survivors m old
 sifted_last m old xs kept h = h.front ∙ ap (λ es. survivors m es) (take-length old)
 

@@ -36,12 +36,14 @@ pub record Pushes (old new : Ledger) : Type 0 where
   pub is : new.counted ≡ old.counted ++ o.it ∷ []
   pub keeps : NoneGone old new
 
+-- some edits are left out of the list, open ones alone, and no open edit is closed
 pub record Filters (old new : Ledger) : Type 0 where
   pub stays : Placed → Bool
   pub lost_open : (e : Placed) → Contains old.counted e → stays e ≡ false → (o : Open) × (old.opens e.edit.process ≡ Some o) × (o.it ≡ e)
   pub is : new.counted ≡ filter stays old.counted
   pub keeps : NoneGone old new
 
+-- what is noted of a process is read of it
 pub put_here : {A : Type 0} (f : ℕ → Option A) (p : ℕ) (x : Option A) → put f p x p ≡ x
 put_here f p x = elim (eqb_tells p p) [
   | inl same ↦ subst (λ b. (if b then x else f p) ≡ x) (sym same.0) refl
@@ -64,6 +66,7 @@ IsToldSo old new q c = (old.told q ≡ Some c) ⊎ ClosesAs old q c new
 abbrev pub TellsOn : Ledger → Ledger → ℕ → Type 0
 TellsOn old new q = (new.told q ≡ old.told q) ⊎ ((c : Closed) × (new.told q ≡ Some c) × ClosesAs old q c new)
 
+-- what an event may do to the ledger: begin and close edits, and add to the list or leave open ones out
 pub record Moved (k : ℕ) (I : PlainEdit → Type 0) (old new : Ledger) : Type 0 where
   pub opens : (q : ℕ) (o : Open) → new.opens q ≡ Some o → IsFresh k I old q o ⊎ WasOpen old q o
   pub told : (q : ℕ) (c : Closed) → new.told q ≡ Some c → IsToldSo old new q c
@@ -87,6 +90,7 @@ doubt_keeps : (x : Option Open) (o : Open) → x ≡ Some o → in_doubt x ≡ N
 doubt_keeps None o a b = absurd (cc)
 doubt_keeps (Some y) o a b = absurd (cc)
 
+-- no open edit is not some open edit
 pub none_some : (x : Option Open) (o : Open) → x ≡ None → x ≡ Some o → ⊥
 none_some x o a b = let e : None ≡ Some o = sym a ∙ b in cc
 

@@ -12,6 +12,7 @@ pub record IsFirst (v : WorldValue) (p : ℕ) : Type 0 where
   pub is : (world_of v).situation p ≡ Idle rest
   pub zero : rest.number ≡ 0
 
+-- in a new world each process is idle, before its edit 0
 pub new_idle : (v : WorldValue) → IsGood v → IsNew (world_of v) → (p : ℕ) → IsFirst v p
 new_idle v good new p = elim (cases_lt p v.sheet.layout.processes) [
   | inl lt ↦ record { rest = record { number = 0; edition = new.edition }; is = new.situation p lt; zero = refl }

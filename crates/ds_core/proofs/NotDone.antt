@@ -90,6 +90,7 @@ migration_not_last : (what : Turn MigrateEnd) (told : Told) → Answered (Recove
 migration_not_last turns.GoesOn told is = absurd (cc)
 migration_not_last (turns.Answers end) told is = absurd (cc)
 
+-- the number of an edit that a recovery told as not done is spent, and no edit of it ever counts
 pub told_not_done_never : (old mid new : WorldValue) (events : List Event) (replies : List Reply) (p : ℕ) (told : Told) → IsSound (world_of old) → Takes old (Step p) (Answered (Recovery (Last told))) mid → told.counts ≡ false
     → WorldRun mid events replies new → IsSpent (world_of new) p told.number × IsOut (world_of new) p told.number
 told_not_done_never old mid new events replies p told sound (recoveries s) not run =

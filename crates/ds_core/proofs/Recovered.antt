@@ -198,6 +198,7 @@ module _ (layout : Layout) (m : Memory Place) (p : ℕ) where
 
 -- ---- its begin
 
+-- the begin of a recovery leaves what the words tell of closed edits
 pub tells_recovery_begun : (layout : Layout) (l : Ledger) (v v' : WorldValue) (p : ℕ) → IsOf layout l v → Tells l v → RecoveryBegins v p v' → Tells l v'
 tells_recovery_begun layout l v v' p h t b =
     let g = b.begun.begins in

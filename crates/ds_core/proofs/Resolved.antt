@@ -57,6 +57,7 @@ itself x = elim (eqb_tells x.process x.process) [
   ]
 ]
 
+-- an edit that counts ended as done
 pub counted_done : (es : List PlainEdit) (x : PlainEdit) → Contains es x → phase_among es x.process x.number ≡ phase.Done
 counted_done [] x there = absurd (contains_none x there)
 counted_done (y ∷ es) x (zero, lt, is) = ap (λ (z : PlainEdit). phase_among (z ∷ es) x.process x.number) is ∙ ap (λ (b : Bool). if b then phase.Done else phase_among es x.process x.number) (itself x)
@@ -85,6 +86,7 @@ pub record IsAtAnswer (e : PlainRecoverCall) (s : RecoverStage) (answer : Answer
 same_answer : (a b : Answer) → Answered a ≡ Answered b → a ≡ b
 same_answer a b is = cc
 
+-- a step of a recovery that is answered is at its answer, which is the one given
 pub at_answer : (e : PlainRecoverCall) (s : RecoverStage) (answer : Answer) → Answered answer ≡ recovery_reply (steps.effect_at e s) → IsAtAnswer e s answer
 at_answer e (stages.Answer how) answer is = record { how = how; at = refl; is = same_answer answer (Recovery (end_of e how)) is }
 at_answer e _ answer is = absurd (cc)

@@ -6,6 +6,7 @@ use Rattle.ds_core.specs.Takes.{Fits, WorldRun}
 use Rattle.ds_core.specs.declared.event.Event.{Event}
 use Rattle.ds_core.specs.declared.reply.Reply.{Reply}
 
+-- a run with one more event is a run
 pub run_more : (old mid new : WorldValue) (events : List Event) (event : Event) (replies : List Reply) (reply : Reply) → WorldRun old events replies mid → Fits mid event reply new
     → WorldRun old (events ++ event ∷ []) (replies ++ reply ∷ []) new
 run_more old mid new [] event [] reply run fits = (new, subst (λ (v : WorldValue). Fits v event reply new) run fits, refl)
@@ -13,6 +14,7 @@ run_more old mid new (e ∷ events) event (r ∷ replies) reply run fits = (run.
 run_more old mid new [] event (r ∷ replies) reply run fits = absurd run
 run_more old mid new (e ∷ events) event [] reply run fits = absurd run
 
+-- a run of a list's first events goes on with its next one
 pub run_next : (old mid new : WorldValue) (events : List Event) (i : ℕ) (event : Event) (replies : List Reply) (reply : Reply) → i < length events → event ≡ get_or events i event
     → WorldRun old (take i events) replies mid → Fits mid event reply new → WorldRun old (take (i + 1) events) (replies ++ reply ∷ []) new
 run_next old mid new events i event replies reply lt is run fits =

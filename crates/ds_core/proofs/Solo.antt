@@ -57,10 +57,12 @@ pub record IsAlone (v : WorldValue) (p number : ℕ) : Type 0 where
   pub only : EditsOnly ((world_of v).situation p)
   pub edit : (e : PlainEditCall) → (world_of v).situation p ≡ Editing e → (e.number ≡ number) × IsAloneAt (world_of v) e.cell e.stage
 
+-- an edit whose step is answered has an outcome, and the answer is that
 pub some_outcome : (processes number : ℕ) (a : ReplyAnswer) (o : Option Outcome) → Answered a ≡ reply_with processes number o → (how : Outcome) × (o ≡ Some how) × (a ≡ Edit (end_of processes number how))
 some_outcome processes number a None is = absurd (cc)
 some_outcome processes number a (Some how) is = (how, refl, cc)
 
+-- behind its answer an edit's process is idle, with the number behind
 pub after_answer : (e : PlainEditCall) (s : Stage) (how : Outcome) (word : ℕ) → s ≡ Answer how → after e s word ≡ Idle (rest_behind e)
 after_answer e s how word is = ap (λ x. after e x word) is
 
@@ -169,6 +171,7 @@ solo_run (event ∷ events) (reply ∷ replies) old new p number sound a run sol
 solo_run [] (reply ∷ replies) old new p number sound a run solo = absurd run
 solo_run (event ∷ events) [] old new p number sound a run solo = absurd run
 
+-- each answer to an edit that is alone is Done with its number
 pub solo_done : (old : WorldValue) (events : List Event) (replies : List Reply) (new : WorldValue) (p : ℕ) (e : PlainEditCall) → IsSound (world_of old)
     → (world_of old).situation p ≡ Editing e → e.stage ≡ StoreHeader → WorldRun old events replies new → IsSolo p events → AreDoneOnly e.number replies
 solo_done old events replies new p e sound at first run solo = solo_run events replies old new p e.number sound starts run solo

@@ -120,6 +120,7 @@ module _ (old new : WorldValue) (sound : IsSound (world_of old)) (p n : ℕ) (sp
   pub one_event : (event : Event) (reply : Reply) → Takes old event reply new → Stays
   one_event event reply h = by event reply (did old new event reply h)
 
+-- a number that is spent and of which no edit counts stays so through a run
 pub stays_out : (events : List Event) (replies : List Reply) (old new : WorldValue) (p n : ℕ) → IsSound (world_of old) → IsSpent (world_of old) p n → IsOut (world_of old) p n → WorldRun old events replies new
     → IsSpent (world_of new) p n × IsOut (world_of new) p n
 stays_out [] [] old new p n sound spent out run = unchanged old new sound p n spent out run
@@ -173,6 +174,7 @@ migration_not_overtaken : (what : Turn MigrateEnd) (n : ℕ) (other : Other) →
 migration_not_overtaken turns.GoesOn n other is = absurd (cc)
 migration_not_overtaken (turns.Answers end) n other is = absurd (cc)
 
+-- the number of an edit that was answered Overtaken is spent, and no edit of it ever counts
 pub overtaken_never : (old mid new : WorldValue) (events : List Event) (replies : List Reply) (p n : ℕ) (other : Other) → IsSound (world_of old) → Takes old (Step p) (Answered (Edit (Overtaken n other))) mid
     → WorldRun mid events replies new → IsSpent (world_of new) p n × IsOut (world_of new) p n
 overtaken_never old mid new events replies p n other sound (edits h) run =

@@ -79,29 +79,35 @@ which_migration (Migrating e) h = (e, refl)
 
 -- ---- a step of each kind
 
+-- a step of an edit is a step of a call among edits
 pub of_edit : (old new : WorldValue) (p : ℕ) (turn : Option (Turn EditEnd)) → edit_takes.StepTakes old p turn new → StepsAs kinds.edits old p turn new
 of_edit old new p None h = record { same = h.same; waits = λ low call. absurd (let w = which_edit ((world_of old).situation p) call in h.none w.0 low w.1) }
 of_edit old new p (Some turn) h = edits (record { what = turn; steps = h; is = refl })
 
+-- the same, of work
 pub of_work : (old new : WorldValue) (p : ℕ) (turn : Option (Turn WorkEnd)) → work_takes.StepTakes (world_of old) p turn (world_of new) → IfNone turn (new ≡ old)
     → new.done ≡ old.done → new.settled ≡ old.settled → new.reports ≡ old.reports → StepsAs kinds.works old p turn new
 of_work old new p None takes same done count kept = record { same = same; waits = λ low call. (let w = which_work ((world_of old).situation p) call in (w.0, w.1, takes w.0 low w.1)) }
 of_work old new p (Some turn) takes same done count kept = works (record { what = turn; steps = takes; is = refl; done = done; reports = record { settled = count; reports = kept } })
 
+-- the same, of a report
 pub of_report : (old new : WorldValue) (p : ℕ) (turn : Option (Turn ReportEnd)) → report_takes.StepTakes old p turn new → StepsAs kinds.reports old p turn new
 of_report old new p None h = record { same = h.same; waits = λ low call. absurd (let w = which_report ((world_of old).situation p) call in h.none w.0 low w.1) }
 of_report old new p (Some turn) h = reports (record { what = turn; steps = h; is = refl })
 
+-- the same, of a recovery
 pub of_recovery : (old new : WorldValue) (p : ℕ) (turn : Option (Turn RecoveryEnd)) → recover_takes.StepTakes old p turn new → StepsAs kinds.recoveries old p turn new
 of_recovery old new p None h = record { same = h.same; waits = λ low call. absurd (let w = which_recovery ((world_of old).situation p) call in h.none w.0 low w.1) }
 of_recovery old new p (Some turn) h = recoveries (record { what = turn; steps = h; is = refl })
 
+-- the same, of a migration
 pub of_migration : (old new : WorldValue) (p : ℕ) (turn : Option (Turn MigrateEnd)) → migration_takes.StepTakes old p turn new → StepsAs kinds.migrations old p turn new
 of_migration old new p None h = record { same = h.same; waits = λ low call. absurd (let w = which_migration ((world_of old).situation p) call in h.none w.0 low w.1) }
 of_migration old new p (Some turn) h = migrations (record { what = turn; steps = h; is = refl })
 
 -- ---- among calls of any kind
 
+-- a step of a call of one kind is one of a call of any kind, where the process can be in no other
 pub among : {E : Type 0} (kind : Kind E) (old new : WorldValue) (p : ℕ) (turn : Option (Turn E)) → IsOnlyIn kind old p → StepsAs kind old p turn new → StepsAs kinds.all old p (all_of kind.answer turn) new
 among kind old new p None only h = record { same = h.same; waits = λ low call. h.waits low (call.0, only) }
 among kind old new p (Some GoesOn) only h = h

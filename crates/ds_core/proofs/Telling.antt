@@ -35,6 +35,7 @@ use Rattle.ds_core.proofs.Ledgers.{IsOf, doubts, numbered, no_some, one_some, co
 use Rattle.ds_core.proofs.Turns.{IsTurn, stop_turn}
 use Rattle.ds_core.proofs.Told.{cell_told, IsCounted, IsTold, Announces, Tells, LeavesOthers, has_seen, told_on, turn_leaves, tells_left, tells_turn}
 
+-- the number behind the one that a word announces, in any phase, is read off it
 pub announced_number : (n : ℕ) (f : Phase) → announcement n f / 4 ≡ suc n
 announced_number n phase.Pending = omega arith
 announced_number n phase.Done = omega arith
@@ -87,6 +88,7 @@ header_is p n (Header q m) = elim (cases_eq p q) [
 ]
 header_is p n _ = inr (λ is. cc)
 
+-- an eviction leaves what the words tell of closed edits
 pub tells_evicted : (l : Ledger) (v v' : WorldValue) (r : Place) → Tells l v → Evicts r (world_of v) (world_of v') → Tells l v'
 tells_evicted l v v' r t e = record {
   told = λ p c is. (let k = t.told p c is in told_on l.counted l.counted (world_of v) (world_of v') p c k e.layout (sides_evicted r (world_of v).memory (world_of v').memory (Header p c.it.edit.number) e.memory (header_is p c.it.edit.number r)) k.counted);
@@ -103,6 +105,7 @@ not_doubted s P a b = let bad : false ≡ true = sym a ∙ b in absurd (cc)
 not_recovering : (s : Situation) (e : PlainRecoverCall) (P : Type 0) → doubts s ≡ false → s ≡ Recovering e → P
 not_recovering s e P a is = let bad : false ≡ true = sym a ∙ ap doubts is in absurd (cc)
 
+-- a stop leaves what the words tell of closed edits
 pub tells_stopped : (layout : Layout) (l : Ledger) (v v' : WorldValue) → IsOf layout l v → (t : Tells l v) (p : ℕ) → (h : StopsProcess v p v') → (l' : Ledger) → l'.counted ≡ l.counted → l'.told ≡ l.told → Tells l' v'
 tells_stopped layout l v v' h t p s l' counted told =
     let same : (q : ℕ) → l'.told q ≡ l.told q = λ q. ap (λ f. f q) told in

@@ -50,9 +50,11 @@ HasSeen (stages.BackOutcome how) P = P
 HasSeen (stages.Answer (Some how)) P = P
 HasSeen _ P = Unit {0}
 
+-- a recovery that has loaded a header has the cell that it tells
 abbrev pub SeesCell : PlainWorld → ℕ → PlainRecoverCall → Type 0
 SeesCell w p e = HasSeen e.stage (e.cell ≡ cell_told w.layout (w.memory.cached (Header p (number_of e))))
 
+-- what follows from what a recovery has seen, it has seen
 pub has_seen : (s : RecoverStage) (P Q : Type 0) → (P → Q) → HasSeen s P → HasSeen s Q
 has_seen stages.LoadHead P Q f h = f h
 has_seen stages.FlushHead P Q f h = f h
@@ -86,6 +88,7 @@ has_seen stages.LoadHeader P Q f h = tt
 abbrev pub Announces : PlainWorld → ℕ → Option Closed → Type 0
 Announces w p told = w.memory.cached (Announce p) / 4 ≡ next_number told
 
+-- the words tell what the ledger has of closed edits: cells, numbers, announcements, what recoveries have seen
 pub record Tells (l : Ledger) (v : WorldValue) : Type 0 where
   pub told : (p : ℕ) (c : Closed) → l.told p ≡ Some c → IsTold l.counted (world_of v) p c
   pub opens : (p : ℕ) (issue : PlainIssue) → (world_of v).open_edits p ≡ Some issue → issue.edit.number ≡ next_number (l.told p)
@@ -127,6 +130,7 @@ pub record LeavesOthers (q : ℕ) (v v' : WorldValue) : Type 0 where
   pub header : (p n : ℕ) → p ≢ q → (world_of v').memory.cached (Header p n) ≡ (world_of v).memory.cached (Header p n)
   pub sides : (p n : ℕ) → p ≢ q → SidesStay (world_of v).memory (world_of v').memory (Header p n)
 
+-- a turn leaves the others' situations, open edits, announcements and headers
 pub turn_leaves : (q : ℕ) (v v' : WorldValue) → IsTurn q v v' → LeavesOthers q v v'
 turn_leaves q v v' turn = record {
   situation = λ p ne. turn.others p ne;
@@ -163,5 +167,6 @@ module _ (q : ℕ) (l l' : Ledger) (v v' : WorldValue) (t : Tells l v) (leaves :
     ];
   }
 
+-- behind a turn the words tell of closed edits, where the process shows its own and leaves those of the others
 pub tells_turn : (q : ℕ) (l l' : Ledger) (v v' : WorldValue) → Tells l v → IsTurn q v v' → OwnTold q l' v v' → ((p : ℕ) → p ≢ q → l'.told p ≡ l.told p) → ((p : ℕ) (c : Closed) → p ≢ q → l.told p ≡ Some c → IsCounted l'.counted c.it c.counts) → Tells l' v'
 tells_turn q l l' v v' t turn own same counted = tells_left q l l' v v' t (turn_leaves q v v' turn) own same counted

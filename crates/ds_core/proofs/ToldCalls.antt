@@ -32,6 +32,7 @@ loads (stages.AgainMark i) q old new word h = h.1
 loads (stages.AgainAnnounce i) q old new word h = h.1
 loads (stages.Answer end) q old new word h = h.1
 
+-- a step of a report leaves each header of its process's records the sides that it had
 pub report_sides : (p n : ℕ) (old new : WorldValue) (reply : Reply) → ReportStepsBy old p reply new → SidesStay (world_of old).memory (world_of new).memory (Header p n)
 report_sides p n old new reply h =
     sides_same (world_of old).memory (world_of new).memory (Header p n) (loads h.steps.show.stage h.steps.show.process (world_of old).memory (world_of new).memory h.steps.word h.steps.steps.memory)
@@ -49,5 +50,6 @@ module _ (p n : ℕ) (old new : WorldValue) (sound : IsSound (world_of old)) (e 
   by_taken what (works.lacked at t) = still t.memory
   by_taken what (works.answers end at t) = still t.memory.1
 
+-- a step of work leaves each header of its process's records the sides that it had
 pub work_sides_of : (p n : ℕ) (old new : WorldValue) (reply : Reply) → IsSound (world_of old) → WorkStepsBy old p reply new → SidesStay (world_of old).memory (world_of new).memory (Header p n)
 work_sides_of p n old new reply sound h = by_taken p n old new sound h.steps.work h.steps.inside h.steps.works h.what h.steps.turn

@@ -30,6 +30,7 @@ use Rattle.ds_core.proofs.Telling.{tells_on, tells_closed, told_by, below_out}
 
 -- ---- it begins
 
+-- the begin of an edit with the next number leaves what the words tell of closed edits
 pub tells_begun : (l l' : Ledger) (v v' : WorldValue) (edit : PlainEdit) → Tells l v → traces.Issues (world_of v) edit (world_of v') → v'.sheet.layout ≡ v.sheet.layout → SameMemory (world_of v).memory (world_of v').memory
     → ((q : ℕ) → q ≢ edit.process → (world_of v').situation q ≡ (world_of v).situation q) → doubts ((world_of v').situation edit.process) ≡ false → edit.number ≡ next_number (l.told edit.process)
     → l'.counted ≡ l.counted → ((q : ℕ) → l'.told q ≡ l.told q) → Tells l' v'

@@ -36,6 +36,7 @@ pub record IsTurn (q : ℕ) (old new : WorldValue) : Type 0 where
   pub keeps : Keeps q (world_of old) (world_of new)
   pub others : (r : ℕ) → r ≢ q → (world_of new).situation r ≡ (world_of old).situation r
 
+-- a step of an edit is a turn of its process
 pub edit_turn : (old new : WorldValue) (q : ℕ) (reply : Reply) → IsSound (world_of old) → EditStepsBy old q reply new → IsTurn q old new
 edit_turn old new q reply sound h = record {
   there = h.steps.there;
@@ -44,6 +45,7 @@ edit_turn old new q reply sound h = record {
   others = λ r ne. h.steps.steps.others r (λ same. ne (same ∙ h.steps.mine));
 }
 
+-- a step of a report is a turn of its process
 pub report_turn : (old new : WorldValue) (q : ℕ) (reply : Reply) → IsSound (world_of old) → ReportStepsBy old q reply new → IsTurn q old new
 report_turn old new q reply sound h = record {
   there = h.steps.there;
@@ -52,6 +54,7 @@ report_turn old new q reply sound h = record {
   others = λ r ne. h.steps.steps.others r (λ same. ne (same ∙ h.steps.mine));
 }
 
+-- the begin of a report is a turn of its process
 pub report_begins_turn : (old new : WorldValue) (q : ℕ) → IsSound (world_of old) → ReportBegins old q new → IsTurn q old new
 report_begins_turn old new q sound h = record {
   there = h.there;
@@ -59,6 +62,7 @@ report_begins_turn old new q sound h = record {
   others = h.begun.begins.others;
 }
 
+-- a stop is a turn of its process
 pub stop_turn : (old new : WorldValue) (q : ℕ) → IsSound (world_of old) → StopsProcess old q new → IsTurn q old new
 stop_turn old new q sound h = record {
   there = h.there;
@@ -111,9 +115,11 @@ module _ (old new : WorldValue) (q : ℕ) (sound : IsSound (world_of old)) (e : 
   by_taken what (works.lacked at t) = by_turn _ t (lacks_keep e (world_of old) (world_of new) sound low (here ∙ ap (λ x. Working (work_steps.at e x)) at) t)
   by_taken what (works.answers end at t) = by_step (stages.Answer end) 0 at t
 
+-- a step of work is a turn of its process that leaves the edits
 pub work_leaves : (old new : WorldValue) (q : ℕ) (reply : Reply) → IsSound (world_of old) → WorkStepsBy old q reply new → LeavesEdits q old new
 work_leaves old new q reply sound h = by_taken old new q sound h.steps.work h.steps.inside h.steps.mine h.steps.works h.what h.steps.turn
 
+-- the begin of work is a turn of its process that leaves the edits
 pub work_begins_leaves : (old new : WorldValue) (q : ℕ) (cell : _) → IsSound (world_of old) → WorkBegins old q cell new → LeavesEdits q old new
 work_begins_leaves old new q cell sound h =
     let b = h.begun.begins in
@@ -130,6 +136,7 @@ work_begins_leaves old new q cell sound h =
       words = (Nothing, 0, (refl, b.turn.memory));
     }
 
+-- an offer is a turn of its process that leaves the edits
 pub offer_leaves : (old new : WorldValue) (value : PlainEvaluated) → IsSound (world_of old) → TakesEntry old value new → LeavesEdits value.task.process old new
 offer_leaves old new value sound h =
     let o = h.offered in
@@ -150,6 +157,7 @@ offer_leaves old new value sound h =
 
 -- ---- recovery
 
+-- a step of a recovery is a turn of its process
 pub recovery_turn : (old new : WorldValue) (q : ℕ) (reply : Reply) → IsSound (world_of old) → RecoveryStepsBy old q reply new → IsTurn q old new
 recovery_turn old new q reply sound h = record {
   there = h.steps.there;
@@ -158,6 +166,7 @@ recovery_turn old new q reply sound h = record {
   others = λ r ne. h.steps.steps.others r (λ same. ne (same ∙ h.steps.mine));
 }
 
+-- the begin of a recovery is a turn of its process
 pub recovery_begins_turn : (old new : WorldValue) (q : ℕ) → IsSound (world_of old) → RecoveryBegins old q new → IsTurn q old new
 recovery_begins_turn old new q sound h = record {
   there = h.there;
@@ -167,6 +176,7 @@ recovery_begins_turn old new q sound h = record {
 
 -- ---- migration
 
+-- a step of a migration is a turn of its process
 pub migration_turn : (old new : WorldValue) (q : ℕ) (reply : Reply) → IsSound (world_of old) → MigrationStepsBy old q reply new → IsTurn q old new
 migration_turn old new q reply sound h = record {
   there = h.steps.there;
@@ -175,6 +185,7 @@ migration_turn old new q reply sound h = record {
   others = λ r ne. h.steps.steps.others r (λ same. ne (same ∙ h.steps.mine));
 }
 
+-- the begin of a migration is a turn of its process
 pub migration_begins_turn : (old new : WorldValue) (q : ℕ) → IsSound (world_of old) → MigrationBegins old q new → IsTurn q old new
 migration_begins_turn old new q sound h = record {
   there = h.there;

@@ -19,6 +19,7 @@ pub record IsBehind (p n : ℕ) (l : Ledger) : Type 0 where
   pub next : n < next_number (l.told p)
   pub opens : (o : Open) → l.opens p ≡ Some o → n < o.it.edit.number
 
+-- the number of a process's last closed edit is behind it, where it has no open one
 pub behind_closed : (l : Ledger) (p : ℕ) (c : Closed) → l.told p ≡ Some c → l.opens p ≡ None → IsBehind p c.it.edit.number l
 behind_closed l p c told none = record {
   next = subst (λ (x : Option Closed). c.it.edit.number < next_number x) (sym told) (omega arith);

@@ -188,6 +188,7 @@ goes_through (event ∷ events) (r ∷ replies) old new p e sound at run u =
 goes_through [] (r ∷ replies) old new p e sound at run u = absurd run
 goes_through (event ∷ events) [] old new p e sound at run u = absurd run
 
+-- work that is not answered goes on, with few steps made, by the references that it has read
 pub works_go_on : (old : WorldValue) (events : List Event) (replies : List Reply) (new : WorldValue) (p : ℕ) (e : PlainWorkCall) → IsSound (world_of old) → (world_of old).situation p ≡ Working e → e.stage ≡ LoadMark
     → WorldRun old events replies new → AreUnanswered p events replies → WorkGoesOn p e (own_steps p events replies) new
 works_go_on old events replies new p e sound at first run u =

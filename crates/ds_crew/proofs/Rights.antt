@@ -16,6 +16,7 @@ one_more shape counted rs r right stands new = record {
   once = all_pairs_push (λ a b. a ≢ b) rs r right.once (λ k d below same. new (k, below, get_or_default rs k r d below ∙ same));
 }
 
+-- so many right receipts, and a further one that stands and is not among them, are right
 pub right_more : (shape : Shape) (counted : List PlainEdit) (rs : List PlainReceipt) (n : ℕ) (r : PlainReceipt) → n < length rs → get_or rs n r ≡ r → AreRight shape counted (take n rs) → Stands shape counted r → (Contains (take n rs) r → ⊥) → AreRight shape counted (take (n + 1) rs)
 right_more shape counted rs n r below is right stands new =
     subst (AreRight shape counted) (sym (take_more rs n r below ∙ ap (λ x. take n rs ++ x ∷ []) is)) (one_more shape counted (take n rs) r right stands new)

@@ -62,6 +62,7 @@ module _ {E : Type 0} (kind : Kind E) (call : Call) (process : ℕ) (old new : W
 pub done_by : (process : ℕ) (old new : WorldValue) (reply : Reply) → Fits old (Step process) reply new → new.done ≡ old.done + done_of reply
 done_by process old new reply fits = (adds old new (Step process) reply fits.takes).done
 
+-- a step adds to the count of settled reports what its reply says
 pub counted_by : (process : ℕ) (old new : WorldValue) (reply : Reply) → Fits old (Step process) reply new → new.settled ≡ old.settled + settled_of reply
 counted_by process old new reply fits = (adds old new (Step process) reply fits.takes).settled
 

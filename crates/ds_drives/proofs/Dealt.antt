@@ -36,14 +36,17 @@ snoc_at [] a b (suc j) e = absurd (some-ne-none b (sym e))
 snoc_at (x ∷ xs) a b zero e = inl (omega arith, e)
 snoc_at (x ∷ xs) a b (suc j) e = ⊎_elim (λ t. inl (let h = t.0 in omega arith, t.1)) (λ t. inr (ap suc t.0, t.1)) (snoc_at xs a b j e)
 
+-- what is in two lists together is in the first or in the second
 pub in_append : {X : Type 0} (xs ys : List X) (x : X) → In (xs ++ ys) x → In xs x ⊎ In ys x
 in_append [] ys x t = inr t
 in_append (z ∷ zs) ys x t = ⊎_elim (λ e. inl (inl e)) (λ h. ⊎_elim (λ a. inl (inr a)) (λ b. inr b) (in_append zs ys x h)) t
 
+-- what is in a list is in it with others behind
 pub in_left : {X : Type 0} (xs ys : List X) (x : X) → In xs x → In (xs ++ ys) x
 in_left [] ys x t = absurd t
 in_left (z ∷ zs) ys x t = ⊎_elim (λ e. inl e) (λ h. inr (in_left zs ys x h)) t
 
+-- what is in a list is in it with others in front
 pub in_right : {X : Type 0} (xs ys : List X) (x : X) → In ys x → In (xs ++ ys) x
 in_right [] ys x t = t
 in_right (z ∷ zs) ys x t = inr (in_right zs ys x t)
@@ -289,6 +292,7 @@ cut_from s p processes (suc k) past h e = record {
   right = refl;
 }
 
+-- the first of the processes that are left can be cut off: it is alone then, and the others are left
 pub cut : (s : Situation) (p processes : ℕ) (past : List Seated) (v : View) → p < processes → HasRest s p processes past v → Cut s p processes past v
 cut s p processes past v h f = subst (Cut s p processes past) (sym f.2) (cut_from s p processes f.0 past h f.1)
 
@@ -296,6 +300,7 @@ split_from : (s : Situation) (layout : Layout) (id p n : ℕ) (past : List Seate
 split_from s layout id p zero past h e = absurd (omega arith)
 split_from s layout id p (suc k) past h e = splits {S = ℕ} layout id (newcomer s p) (newcomers_from s (suc p) k) past (λ x t same. let a = (all_new s (suc p) k x t).above in absurd (omega arith))
 
+-- under the rule a seat of the processes that are left may give up the first of them
 pub may_split : (s : Situation) (layout : Layout) (id p : ℕ) (past : List Seated) (v : View) → p < layout.processes → HasRest s p layout.processes past v → Splits (Ruled {S = ℕ} layout) id v (tailed v) (headed v)
 may_split s layout id p past v h f = subst (λ (u : View). Splits (Ruled {S = ℕ} layout) id u (tailed u) (headed u)) (sym f.2) (split_from s layout id p f.0 past h f.1)
 

@@ -29,9 +29,11 @@ below layout (SwapIf r o v) h = number_of_below layout r h
 below layout (Flush r) h = number_of_below layout r h
 below layout Back h = tt
 
+-- each sheet has a word
 pub some_words : (layout : Layout) → 0 < words_of layout
 some_words layout = (let n = number_of_below layout place.Version tt in omega arith)
 
+-- an access of the sheet that the buffer serves takes a word of the table
 pub within : (layout : Layout) (count : ℕ) (a : Access ℕ) (x : List (BufferEntry ℕ)) → 0 < words_of layout → IsBelow (words_of layout) a → Serves layout a x → count ≡ 8 * words_of layout → word_of a (oldest_of x) < count
 within layout count Nothing x some h s is = omega arith
 within layout count (Load n) x some h s is = omega arith
@@ -42,6 +44,7 @@ within layout count (Flush n) x some h s is = omega arith
 within layout count Back [] some h s is = absurd s
 within layout count Back (y ∷ x) some h s is = omega arith
 
+-- where the buffer serves an access, a flush finds room
 pub room : (layout : Layout) (a : Access ℕ) (x : List (BufferEntry ℕ)) → Serves layout a x → HasRoom a x
 room layout Nothing x s = tt
 room layout (Load n) x s = tt
@@ -55,6 +58,7 @@ room layout Back x s = tt
 abbrev pub HeldBy : Deeds → Me ℕ View → Type 0
 HeldBy held me = (deeds_at me ≡ held) × (me.1 ≡ [])
 
+-- a seat that is poised has done just what it has
 pub held_still : (layout : Layout) (held : Deeds) (me : Me ℕ View) (p : ℕ) (s : Situation) (x : List (BufferEntry ℕ)) → Poised layout held me p s x → HeldBy held me
 held_still layout held me p s x h = subst (HeldBy held) (sym h.at) (h.held_is, refl)
 
@@ -62,6 +66,7 @@ held_still layout held me p s x h = subst (HeldBy held) (sym h.at) (h.held_is, r
 pub none_more : (d : Deeds) → d ≡ steps_later d 0
 none_more d = let e : d.steps ≡ d.steps + 0 = omega arith in ap (λ (n : ℕ). (let x : Deeds = record { told = d.told; steps = n } in x)) e
 
+-- so many steps, and one step later, are one step more
 pub one_more : (d : Deeds) (n : ℕ) → steps_later (steps_later d n) 1 ≡ steps_later d (n + 1)
 one_more d n = let e : d.steps + n + 1 ≡ d.steps + (n + 1) = omega arith in ap (λ (m : ℕ). (let x : Deeds = record { told = d.told; steps = m } in x)) e
 
@@ -77,12 +82,15 @@ sits layout me seat q now alone own ready = record {
 
 -- ---- fuses
 
+-- a fuse that was not asked has said nothing more
 pub asked_none : {F : Type 0} (said : F → F → ℕ → ℕ → Type 0) (f : F) → Asked said f f 0 0
 asked_none said f first y n h = let a : y ≡ y + 0 = omega arith in let b : n ≡ n + 0 = omega arith in subst (λ (z : ℕ × ℕ). said first f z.0 z.1) (λ i. (a i, b i)) h
 
+-- what a fuse was asked in two stretches adds up
 pub asked_also : {F : Type 0} (said : F → F → ℕ → ℕ → Type 0) (f g h : F) (a b c d : ℕ) → Asked said f g a b → Asked said g h c d → Asked said f h (a + c) (b + d)
 asked_also said f g h a b c d one two first y n k = let p : y + a + c ≡ y + (a + c) = omega arith in let q : n + b + d ≡ n + (b + d) = omega arith in subst (λ (z : ℕ × ℕ). said first h z.0 z.1) (λ i. (p i, q i)) (two first (y + a) (n + b) (one first y n k))
 
+-- a fuse that said yes so often, and then no once, has said just that
 pub asked_stop : {F : Type 0} (said : F → F → ℕ → ℕ → Type 0) (f g h : F) (n : ℕ) → Asked said f g n 0 → Asked said g h 0 1 → Asked said f h n 1
 asked_stop said f g h n one two first y m k = let p : y + n + 0 ≡ y + n = omega arith in let q : m + 0 + 1 ≡ m + 1 = omega arith in subst (λ (z : ℕ × ℕ). said first h z.0 z.1) (λ i. (p i, q i)) (two first (y + n) (m + 0) (one first y m k))
 

@@ -85,6 +85,7 @@ same_spread e cell (spreads.OrTold d) word = same _ _ refl refl refl
 same_spread e cell (spreads.FlushTold d) word = same _ _ refl refl refl
 same_spread e cell (spreads.BackTold d) word = same _ _ refl refl refl
 
+-- a step of a recovery leaves its process and its sheet
 pub next_same : (e : PlainRecoverCall) (s : RecoverStage) (word : ℕ) → Same e (recovery.next_at e s word)
 next_same e stages.LoadVersion word = same _ _ refl refl refl
 next_same e stages.FlushVersion word = same _ _ refl refl refl
@@ -311,11 +312,13 @@ pub falls_going : (e f : PlainRecoverCall) (s : RecoverStage) → IsGoing s → 
 falls_going e f (Answer how) g h = absurd g
 falls_going e f _ g h = h
 
+-- a step of a recovery leaves fewer steps
 pub fewer_left : (e f : PlainRecoverCall) (word : ℕ) → f ≡ recovery.got_at e word → IsRecovery e → IsGoing e.stage → recovery.rank f.cells f.stage < recovery.rank e.cells e.stage
 fewer_left e f word is good go =
     let h : recovery.rank e.cells (recovery.got_at e word).stage < recovery.rank e.cells e.stage = falls_going e (recovery.got_at e word) e.stage go (each_falls e word good) in
     subst (λ (z : ℕ × RecoverStage). recovery.rank z.0 z.1 < recovery.rank e.cells e.stage) (λ i. (sym (ap (λ (z : PlainRecoverCall). z.cells) is ∙ (next_same e e.stage word).cells) i, sym (ap (λ (z : PlainRecoverCall). z.stage) is) i)) h
 
+-- a recovery of the sheet is one of it behind its step, too
 pub fits_still : (layout : Layout) (e f : PlainRecoverCall) (word : ℕ) → f ≡ recovery.got_at e word → IsRecovery f → IsRecoveryOn layout e → IsRecoveryOn layout f
 fits_still layout e f word is good on = record {
   is = good;

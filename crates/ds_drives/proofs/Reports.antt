@@ -197,9 +197,11 @@ falls_going : (e f : PlainReportCall) (s : ReportStage) → IsGoing s → report
 falls_going e f (Answer end) g h = absurd g
 falls_going e f _ g h = h
 
+-- a step of a report leaves fewer steps
 pub fewer_left : (e f : PlainReportCall) (word : ℕ) → f ≡ report.got_at e word → IsReport e → IsGoing e.stage → report.rank f < report.rank e
 fewer_left e f word is good go = subst (λ (z : PlainReportCall). report.rank z < report.rank e) (sym is) (falls_going e (report.got_at e word) e.stage go (laws.each_falls e word good))
 
+-- a report of the sheet is one of it behind its step, too
 pub fits_still : (layout : Layout) (e f : PlainReportCall) (word : ℕ) → f ≡ report.got_at e word → IsReport f → IsReportOn layout e → IsReportOn layout f
 fits_still layout e f word is good on = record {
   is = good;
@@ -207,6 +209,7 @@ fits_still layout e f word is good on = record {
   processes = on.processes ∙ sym (ap (λ (z : PlainReportCall). z.processes) is ∙ (next_same e e.stage word).processes);
 }
 
+-- a step of a report leaves its process and its process's next number
 pub stays_still : (e f : PlainReportCall) (word : ℕ) → f ≡ report.got_at e word → (first : PlainReportCall) → IsOfOne first e → IsOfOne first f
 stays_still e f word is first h = let s = next_same e e.stage word in record {
   process = ap (λ (z : PlainReportCall). z.process) is ∙ (s.process ∙ h.process);

@@ -119,6 +119,7 @@ written_back p x rest old new class b = elim (place_cases Version x.place) [
   | inl at ↦ subst (λ (r : Place). old.persisted r ≤ new.persisted r) (sym at) (stamped x.class (old.persisted x.place) x.value (new.persisted x.place) (class ∙ ap class_of (sym at)) b.there)
 ]
 
+-- in a sound world no access lessens the persisted side of the version's word
 pub version_grows : (w : PlainWorld) (m : Memory Place) (p : ℕ) (a : Access Place) (word : ℕ) → IsSound w → p < w.layout.processes → PerformsAt a p w.memory m word → w.memory.persisted Version ≤ m.persisted Version
 version_grows w m p Nothing word sound low t = alike (w.memory.persisted Version) (m.persisted Version) (t.1.persisted Version)
 version_grows w m p (Load r) word sound low t = alike (w.memory.persisted Version) (m.persisted Version) (t.1.persisted Version)

@@ -12,9 +12,11 @@ use Rattle.ds_words.specs.Memory.{Memory, Performs, SameMemory, StoresAt, SwapsA
 use Rattle.ds_drives.specs.Table.{two_sided, word_of, change, answer, told, oldest_of, buffer_after}
 use Rattle.ds_drives.specs.Rule.{put}
 
+-- a value put at a place is there
 pub put_here : {X : Type 0} (f : ℕ → X) (p : ℕ) (x : X) (q : ℕ) → q ≡ p → put f p x q ≡ x
 put_here f p x q e = rw (eq-eqb q p e)
 
+-- a value put at one place leaves those elsewhere
 pub put_else : {X : Type 0} (f : ℕ → X) (p : ℕ) (x : X) (q : ℕ) → q ≢ p → put f p x q ≡ f q
 put_else f p x q n = rw (ne_eqb q p n)
 
@@ -42,6 +44,7 @@ answer_told (SwapIf w o v) b n = refl
 answer_told (Flush w) b n = refl
 answer_told Back b n = refl
 
+-- the buffer behind an access is the same by what is told of the word and by the word
 pub buffer_told : (classes : ℕ → Class) (a : Access ℕ) (b : List (BufferEntry ℕ)) (n : ℕ) → buffer_after classes a b (told a (oldest_of b) n) ≡ buffer_after classes a b n
 buffer_told classes Nothing b n = refl
 buffer_told classes (Load w) b n = refl

@@ -63,6 +63,7 @@ plain_going Read g = absurd g
 plain_going Wait g = absurd g
 plain_going _ g = tt
 
+-- a stage of work that neither reads nor waits ends by its access
 pub plain_else : (s : WorkStage) → (s ≡ Read → ⊥) → (s ≡ Wait → ⊥) → IsPlainStep s
 plain_else Read r w = absurd (r refl)
 plain_else Wait r w = absurd (w refl)
@@ -278,6 +279,7 @@ pub record Same (e f : PlainWorkCall) : Type 0 where
 same_of : (e f g : PlainWorkCall) → g ≡ f → Same e f → Same e g
 same_of e f g is h = subst (Same e) (sym is) h
 
+-- a step of work leaves its process, its number, its cell and its sheet
 pub next_same : (e : PlainWorkCall) (word : ℕ) → Same e (work.next_at e e.stage word)
 next_same e word = same_of e _ _ (next_noted e word e.stage) (record { process = refl; next = refl; cell = refl; cells = refl; processes = refl })
 

@@ -42,6 +42,7 @@ record_announce edition p n (suc k) = λ same. cc
 pub pending_tells : (w : PlainWorld) (p m n : ℕ) → announcement m phase.Pending ≡ announcement n phase.Done → IsKept w p n
 pending_tells w p m n is = absurd (omega arith)
 
+-- where an edit's outcome is announced as done of some number, the edit of that number is kept
 pub ended_tells : (w : PlainWorld) (e : PlainEdit) (how : Outcome) (n : ℕ) → StandsAs w e (standing_after how) → word_of w e (ended how) ≡ announcement n phase.Done → IsKept w e.process n
 ended_tells w e outcome.Done n stands is = record { edit = e; process_is = refl; number_is = omega arith; safe = stands.safe }
 ended_tells w e (outcome.Overtaken noted seen) n stands is = absurd (omega arith)
@@ -56,9 +57,11 @@ last_low es p (suc n) = low (phase_among es p n)
     low phase.Done = omega arith
     low phase.NotDone = omega arith
 
+-- that an edit is pending is announced by a word no less than how the one before it ended
 pub last_less : (w : PlainWorld) (e : PlainEditCall) → w.memory.cached (Announce e.process) ≡ word_of w (edit_of e) last → w.memory.cached (Announce e.process) ≤ announcement e.number phase.Pending
 last_less w e is = let l = last_low w.counted e.process e.number in omega arith
 
+-- how an edit ended is announced by a word no less than that it is pending
 pub ended_more : (w : PlainWorld) (e : PlainEdit) (how : Outcome) → w.memory.cached (Announce e.process) ≡ word_of w e pending → w.memory.cached (Announce e.process) ≤ word_of w e (ended how)
 ended_more w e outcome.Done is = omega arith
 ended_more w e (outcome.Overtaken a b) is = omega arith
@@ -138,5 +141,6 @@ index_next w e since i most h = branches (λ x. Known_on w e since x) (nat_lt i 
     let all : i ≡ length e.refs = omega arith in
     subst (λ (x : ℕ). Knowing w e.edition (edit_of e) e.refs since (indexing (text_parts e.text) x None)) all h)
 
+-- an empty buffer is what an edit's is before it indexes its next reference, or loads the head
 pub index_holds : (w : PlainWorld) (e : PlainEditCall) (i : ℕ) → w.memory.buffer e.process ≡ [] → Holds_on w e (index_from e i)
 index_holds w e i h = branches (λ x. Holds_on w e x) (nat_lt i (length e.refs)) (OrIndex i) LoadHead (λ b. h) (λ b. h)

@@ -180,6 +180,7 @@ prepared layout process next cell text refs cells = record {
   stage = StoreHeader;
 }
 
+-- the edit that is made of an idle process's number and layout, a cell and a text is the one asked for
 pub prepared_asked : (layout : Layout) (process cell place cells : ℕ) (next : Rest) (text own refs : List ℕ) → own ≡ text → IsText own → length text ≤ most_in next.edition → RefersTo layout.shape text refs → process < layout.processes → next.number ≤ RECORDS → next.number ≢ RECORDS
     → place ≡ cell → place < cells_of layout → cells ≡ cells_of layout → IsAskedFor layout process cell text next.number (prepared layout process next place own refs cells)
 prepared_asked layout process cell place cells next text own refs same texts short to low few room at below is = record {

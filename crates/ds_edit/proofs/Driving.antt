@@ -32,6 +32,7 @@ use Rattle.ds_edit.proofs.Sound.{step_sound}
 use Rattle.ds_edit.proofs.Possible.{can_perform}
 use Rattle.ds_state.specs.EditEndings.{outcome_at}
 
+-- the process's situation that was read says which edit it is in
 pub editing_from : (v : WorldValue) (p : ℕ) (e : PlainEditCall) (read : Situation) → p < length v.situations → read ≡ get_or v.situations p read → read ≡ Editing e → IsEditing v p e
 editing_from v p e read lt is here = record { there = lt; is = get_or_default v.situations p (Idle first_rest) read lt ∙ sym is ∙ here }
 
@@ -54,6 +55,7 @@ pub answers_at : (s : Stage) (how : Outcome) → outcome_at s ≡ Some how → s
 answers_at (Answer how') how is = let same : how' ≡ how = cc in ap (λ h. Answer h) same
 answers_at _ how is = absurd (cc)
 
+-- at a stage that is no answer the process's open edit stays
 pub goes_on_at : (s : Stage) (issue : Option PlainIssue) → outcome_at s ≡ None → open_edit_at issue s ≡ issue
 goes_on_at (Answer how) issue is = absurd (cc)
 goes_on_at _ issue is = refl

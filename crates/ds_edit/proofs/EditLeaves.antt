@@ -41,6 +41,7 @@ swapped : (e : PlainEditCall) (s : Stage) (word : ℕ) (d : PlainEdit) → Conta
 swapped e (Swap noted) word d h = record { noted = noted; at = refl; is = one_of (wins noted word) (edit_of e) d h }
 swapped e s word d h = absurd (nothing d h)
 
+-- what a step of an edit leaves is what a process's doing leaves
 pub edit_leaves : (e : PlainEditCall) (word : ℕ) (old new : PlainWorld) → IsSound old → e.process < old.layout.processes → old.situation e.process ≡ Editing e → Steps e word old new → Leaves e.process old new
 edit_leaves e word old new sound real was t =
     let k = step_sound e word old new sound real was t in
@@ -53,6 +54,7 @@ edit_leaves e word old new sound real was t =
     ])
     (middles_left e.process old new k (λ f is. no_report e e.stage word f (sym t.situation ∙ is)))
 
+-- what the begin of an edit leaves is what a process's doing leaves
 pub begin_leaves : (e : PlainEditCall) (old new : PlainWorld) → IsSound old → IsEdit e → IsSheetOf old.layout e → HasRefs old.layout.shape e.text e.refs → Begins e old new → Leaves e.process old new
 begin_leaves e old new sound is sheet refs b =
     let k = begin_sound e old new sound is sheet refs b in

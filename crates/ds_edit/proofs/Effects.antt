@@ -18,11 +18,13 @@ either : {X : Type 0} (f : Effect → X) (x : X) (b : Bool) → f Counts ≡ x �
 either f x true won lost = won
 either f x false won lost = lost
 
+-- what the process does after a step is the same by the step's effect and by its stage
 pub after_same : (e : PlainEditCall) (s : Stage) (word : ℕ) → e.stage ≡ s → after_by e word (effect_at s word) ≡ after e s word
 after_same e (Swap noted) word is = either (λ what. after_by e word what) (after e (Swap noted) word) (word == noted) (ap (λ x. Editing (record e { stage = next_at e x word })) is) (ap (λ x. Editing (record e { stage = next_at e x word })) is)
 after_same e (Answer how) word is = refl
 after_same e s word is = ap (λ x. Editing (record e { stage = next_at e x word })) is
 
+-- the same, of what comes to count
 pub counted_same : (e : PlainEdit) (s : Stage) (word : ℕ) → counted_by e (effect_at s word) ≡ counted_at e s word
 counted_same e (Swap noted) word = won (word == noted)
   where
@@ -31,10 +33,12 @@ counted_same e (Swap noted) word = won (word == noted)
     won false = refl
 counted_same e _ word = refl
 
+-- the same, of the process's open edit
 pub open_edit_same : (issue : Option PlainIssue) (s : Stage) (word : ℕ) → open_edit_by issue (effect_at s word) ≡ open_edit_at issue s
 open_edit_same issue (Swap noted) word = either (λ what. open_edit_by issue what) issue (word == noted) refl refl
 open_edit_same issue _ word = refl
 
+-- the same, of how the edit ended
 pub outcome_same : (s : Stage) (word : ℕ) → outcome_by (effect_at s word) ≡ outcome_at s
 outcome_same (Swap noted) word = either (λ what. outcome_by what) (outcome_at (Swap noted)) (word == noted) refl refl
 outcome_same _ word = refl

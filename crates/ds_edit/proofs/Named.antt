@@ -10,6 +10,7 @@ use Rattle.ds_state.specs.declared.stage.Stage.TheVariants.{StoreHeader, StoreTe
 use Rattle.ds_edit.specs.EditSteps.{access_at}
 use Rattle.ds_state.specs.CallsFit.{IsSheetOf}
 
+-- the place of an edit's bit in the row of a reference is one of its sheet
 pub reference_named : (layout : Layout) (e : PlainEditCall) (i : ℕ) → IsSheetOf layout e → IsEdit e → i < length e.refs
     → (slice_index_or e.refs i 0 < cells_of layout) × (e.cell / 64 < parts_of layout)
 reference_named layout e i s is l =
@@ -47,5 +48,6 @@ named layout e s is (FlushOutcome how) h = rw s.processes is.process
 named layout e s is (BackOutcome how) h = tt
 named layout e s is (Answer how) h = tt
 
+-- each access of an edit names a place of its sheet
 pub each_named : (layout : Layout) (e : PlainEditCall) → IsSheetOf layout e → IsEdit e → NamesPlace layout (access_at e e.stage)
 each_named layout e s is = named layout e s is e.stage is.stage

@@ -82,6 +82,7 @@ module _ (e : PlainEditCall) (w : PlainWorld) (low : e.process < w.layout.proces
   buffered (BackOutcome how) f = one (place.Announce e.process) (word_of w (edit_of e) (ended how)) f.buffer low
   buffered (Answer how) f = tt
 
+-- in a sound world an edit can perform the access of its stage
 pub can_perform : (e : PlainEditCall) (w : PlainWorld) → IsSound w → e.process < w.layout.processes → w.situation e.process ≡ Editing e → CanPerform w.layout w.memory e.process (access_at e e.stage)
 can_perform e w sound low at =
     let fits : EditFits w e.process e = subst (λ (x : Situation). CallFits w e.process x) at (sound.calls e.process low) in

@@ -19,6 +19,7 @@ pub helped : (P : Stage → Type 0) (noted : ℕ) (found : Option Head) → P (S
 helped P noted None h k = h
 helped P noted (Some head) h k = k head refl
 
+-- the stage after an edit's step is one of the edit
 pub stays : (e : PlainEditCall) (stage : Stage) (word : ℕ) → word < 2 ^ 64 → IsStage e stage → IsStage e (next_at e stage word)
 stays e StoreHeader word w s = branches (IsStage e) (nat_lt 0 (text_parts e.text)) _ _ (λ b. ltb-true 0 (text_parts e.text) b) (λ b. tt)
 stays e (StoreText part) word w s = branches (IsStage e) (nat_lt (part + 1) (text_parts e.text)) _ _ (λ b. ltb-true (part + 1) (text_parts e.text) b) (λ b. tt)
@@ -159,8 +160,10 @@ some e (Answer how) s = omega arith
 pub each_falls : (e : PlainEditCall) (word : ℕ) → IsEdit e → Falls e e.stage (next_at e e.stage word)
 each_falls e word is = falls e e.stage word is.stage
 
+-- an edit with r references has at most 3r + 112 steps left
 pub each_few : (e : PlainEditCall) → IsEdit e → rank e e.stage ≤ 112 + 3 * length e.refs
 each_few e is = few e is.text.short e.stage is.stage
 
+-- an edit under way has a step left
 pub each_some : (e : PlainEditCall) → IsEdit e → 0 < rank e e.stage
 each_some e is = some e e.stage is.stage

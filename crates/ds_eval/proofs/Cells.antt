@@ -19,6 +19,7 @@ pub never_before : (a b : Cell) → IsBefore a b → a ≡ b → ⊥
 never_before a b (inl p) e = let k = ap (λ (c : Cell). c.row) e in omega arith
 never_before a b (inr p) e = let k = ap (λ (c : Cell). c.column) e in omega (arith, p.1)
 
+-- cells of the same column and row are equal
 pub same_cell : (a b : Cell) → a.column ≡ b.column → a.row ≡ b.row → a ≡ b
 same_cell a b p q = ap (λ (x : ℕ). let c : Cell = record { column = x; row = a.row } in c) p ∙ ap (λ (x : ℕ). let c : Cell = record { column = b.column; row = x } in c) q
 
@@ -35,6 +36,7 @@ both_true false q e = absurd cc
 eq_true : (m n : ℕ) → (m == n) ≡ true → m ≡ n
 eq_true m n e = grind (arith, nat_tests)
 
+-- cells that the test takes for one are equal
 pub is_same_true : (a b : Cell) → is_same_cell a b ≡ true → a ≡ b
 is_same_true a b e = let p = both_true (a.column == b.column) (a.row == b.row) e in same_cell a b (eq_true _ _ p.0) (eq_true _ _ p.1)
 
@@ -47,21 +49,25 @@ is_same_false a b n = go (is_same_cell a b) refl
 
 -- ---- the entry of a cell
 
+-- a cell's entry is that of the first input that has the cell
 pub entry_here : (xs : List Input) (k : ℕ) (c : Cell) → k < length xs → ((j : ℕ) → j < k → cell_in xs j ≡ c → ⊥) → cell_in xs k ≡ c → entry_in xs c ≡ entry_at xs k
 entry_here [] k c h n e = absurd (omega arith)
 entry_here (x ∷ xs) zero c h n e = rw (ap (λ (d : Cell). is_same_cell d c) e ∙ is_same_self c) refl
 entry_here (x ∷ xs) (suc k) c h n e =
     rw (is_same_false x.cell c (n zero (omega arith))) (entry_here xs k c (omega arith) (λ j l. n (suc j) (omega arith)) e)
 
+-- a cell that no input has shows no entry
 pub entry_nowhere : (xs : List Input) (c : Cell) → ((k : ℕ) → k < length xs → cell_in xs k ≡ c → ⊥) → entry_in xs c ≡ no_entry
 entry_nowhere [] c n = refl
 entry_nowhere (x ∷ xs) c n = rw (is_same_false x.cell c (n zero (omega arith))) (entry_nowhere xs c (λ k l. n (suc k) (omega arith)))
 
+-- among ascending inputs, a cell's entry is that of the one input that has the cell
 pub entry_found : (xs : List Input) (k : ℕ) (c : Cell) → IsAscending xs → k < length xs → cell_in xs k ≡ c → entry_in xs c ≡ entry_at xs k
 entry_found xs k c a h e = entry_here xs k c h (λ j l s. never_before (cell_in xs j) (cell_in xs k) (a.ascend j k l h) (s ∙ sym e)) e
 
 -- ---- another entry
 
+-- another entry for an input leaves each input's cell
 pub cell_with : (xs : List Input) (k : ℕ) (e : Entry) (j : ℕ) → k < length xs → cell_in (with_entry xs k e) j ≡ cell_in xs j
 cell_with xs k e j h = elim (cases_eq j k) [
   | inl p ↦ rw p (ap (λ (i : Input). i.cell) (get_or-set_same xs k (let i : Input = record { cell = cell_in xs k; entry = e } in i) no_input h))
@@ -70,12 +76,14 @@ cell_with xs k e j h = elim (cases_eq j k) [
 
 -- ---- halving
 
+-- where an input's cell comes before a cell, so do those of all inputs up to it
 pub low_half : (xs : List Input) (m : ℕ) (c : Cell) → IsAscending xs → m < length xs → IsBefore (cell_in xs m) c → (k : ℕ) → k < m + 1 → IsBefore (cell_in xs k) c
 low_half xs m c a h b k l = elim (cases_lt k m) [
   | inl p ↦ before_before (cell_in xs k) (cell_in xs m) c (a.ascend k m p h) b
   | inr p ↦ subst (λ (j : ℕ). IsBefore (cell_in xs j) c) (let e : m ≡ k = omega arith in e) b
 ]
 
+-- inputs ascend with another entry for one of them, too
 pub ascending_with : (xs : List Input) (k : ℕ) (e : Entry) → k < length xs → IsAscending xs → IsAscending (with_entry xs k e)
 ascending_with xs k e h a = record {
   ascend = λ i j l m. rw (cell_with xs k e i h, cell_with xs k e j h) (a.ascend i j l (omega (arith, length-set {A = Input})));

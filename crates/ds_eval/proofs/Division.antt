@@ -23,6 +23,7 @@ lacking n d h = elim (next_rest n d h) [
   | inr p ↦ rw p.1 (omega arith)
 ]
 
+-- the remainder by size and sign is what floor division leaves
 pub floor_mod_is : (a b : ℤ) → b ≢ pos 0 → floor_mod a b ≡ a -ℤ b *ℤ floor_div a b
 floor_mod_is (pos n) (pos zero) h = absurd (h refl)
 floor_mod_is (pos n) (pos (suc d)) h = omega (arith, ints)

@@ -22,9 +22,11 @@ same_number n m e = grind (arith, nat_tests)
 other_number : (n m : ℕ) → n < m → (n == m) ≡ false
 other_number n m l = grind (arith, nat_tests)
 
+-- at the height of all cells, an entry's value is Err:522
 pub round_value : (shape : Shape) (p : PlainContent) (es : Cell → Entry) (h : ℕ) → h ≡ count_of shape → (entry_at shape p es h).value ≡ Circular
 round_value shape p es h e = rw (same_number h (count_of shape) e) refl
 
+-- below the height of all cells, an entry's value is the content's
 pub plain_value : (shape : Shape) (p : PlainContent) (es : Cell → Entry) (h : ℕ) → h < count_of shape → (entry_at shape p es h).value ≡ content_value shape (value_of es) p
 plain_value shape p es h l = rw (other_number h (count_of shape) l) refl
 

@@ -14,6 +14,7 @@ use Rattle.ds_eval.specs.Local.{above, formula_height, formulas_height}
 use Rattle.ds_eval.specs.Operands.{operand_height}
 use Rattle.ds_eval.proofs.Views.{formula_call}
 
+-- one height more: the greater of what was above the others and one more than it
 pub above_push : (hs : List ℕ) (h : ℕ) → above (hs ++ h ∷ []) ≡ max (above hs) (suc h)
 above_push [] h = omega arith
 above_push (x ∷ hs) h = let k = above_push hs h in omega (arith, k)

@@ -21,6 +21,7 @@ use Rattle.ds_eval.proofs.Ranges.{within_range, number_in}
 
 -- ---- heights
 
+-- a content's height is one more than the greatest of the sheet's cells written in it, 0 without one
 pub height_is : (shape : Shape) (content : PlainContent) (heights : Cell → ℕ) → IsAbove shape content heights (content_height shape heights content)
 height_is shape content heights =
     let most = content_height shape heights content in
@@ -73,6 +74,7 @@ all_ascend : (area : Rect) (columns rows : ℕ) → AllPairs IsBefore (first_cel
 all_ascend area zero rows = subst (λ (n : ℕ). AllPairs IsBefore (first_cells area 0 n)) (let e : 0 ≡ 0 * rows = omega arith in e) (λ i j d l m. absurd (omega (arith, m)))
 all_ascend area (suc w) rows = first_ascend area (suc w) (suc w * rows) (omega arith)
 
+-- the cells listed of a range are those of the sheet within it, in reading order
 pub cells_are : (shape : Shape) (area : Rect) → AreCellsOf shape area (cells_of shape area)
 cells_are shape area =
     let w = width shape area in
@@ -113,6 +115,7 @@ above_it n d =
     let l : suc d * (n / suc d) < suc n = omega arith in
     subst (λ (x : ℤ). negsuc n <ℤ x) (sym e) (omega (arith, ints, l))
 
+-- the quotient by floor division is the whole number below a / b, or at it
 pub floor_is : (a b : ℤ) → b ≢ pos 0 → IsFloor a b (floor_div a b)
 floor_is (pos n) (pos zero) h = absurd (h refl)
 floor_is (pos n) (pos (suc d)) h = record { of_positive = λ p. (omega (arith, ints), omega (arith, ints)); of_negative = λ p. absurd (omega (arith, ints)) }

@@ -21,9 +21,11 @@ lt_true m n e = grind (arith, nat_tests)
 true_lt : (m n : ℕ) → m < n → nat_lt m n ≡ true
 true_lt m n h = grind (arith, nat_tests)
 
+-- a cell that the test takes for one of the sheet is one
 pub inside_from : (shape : Shape) (c : Cell) → is_inside shape c ≡ true → IsInside shape c
 inside_from shape c e = let p = both (nat_lt c.column shape.columns) (nat_lt c.row shape.rows) e in record { column = lt_true _ _ p.0; row = lt_true _ _ p.1 }
 
+-- the test takes each cell of the sheet for one
 pub inside_is : (shape : Shape) (c : Cell) → IsInside shape c → is_inside shape c ≡ true
 inside_is shape c h = rw (true_lt c.column shape.columns h.column, true_lt c.row shape.rows h.row) refl
 
@@ -33,12 +35,14 @@ pub some_columns : (columns rows k : ℕ) → k < columns * rows → 0 < columns
 some_columns zero rows k h = omega arith
 some_columns (suc c) rows k h = omega arith
 
+-- a place below w * h is in one of the first h rows of w
 pub row_below : (k w h : ℕ) → 0 < w → k < w * h → k / w < h
 row_below k w h p l = elim (cases_lt (k / w) h) [
   | inl q ↦ q
   | inr q ↦ absurd (let a = mul-le-mul_left w q in omega (arith, a))
 ]
 
+-- each numbered cell of a range is within it and one of the sheet
 pub within_range : (shape : Shape) (area : Rect) (k : ℕ) → k < width shape area * height shape area → IsWithin area (cell_of area (width shape area) k) × IsInside shape (cell_of area (width shape area) k)
 within_range shape area k l =
     let w = width shape area in

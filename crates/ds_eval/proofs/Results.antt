@@ -294,6 +294,7 @@ abbrev IsAtRest : Value → Type 0
 IsAtRest Circular = ⊥
 IsAtRest other = Unit {0}
 
+-- the value of a formula is never blank
 pub never_blank : (shape : Shape) (read : Cell → Value) (f : Formula) → formula_value shape read f ≡ Blank → ⊥
 never_blank shape read f e =
     let k : Keeps (λ z. Unit {0}) (λ v. Unit {0}) IsFilled = record { number = λ z h. tt; small = λ z h. tt; within = λ z h. tt; rest = λ a b h n. tt; num = tt; div = tt; round = λ g. tt; blank = tt; again = λ v p. tt } in
@@ -317,5 +318,6 @@ at_rest shape sheet (suc n) c = go (at_rest shape sheet n) (sheet c)
     go h (Constant z) = tt
     go h (Computed f) = fine_formula (λ z. Unit {0}) IsAtRest IsAtRest rests shape (value shape sheet n) h f (any_written f)
 
+-- the value of a cell, by following references any number of times, is never Err:522
 pub never_circular : (shape : Shape) (sheet : Cell → PlainContent) (n : ℕ) (c : Cell) → value shape sheet n c ≡ Circular → ⊥
 never_circular shape sheet n c e = subst IsAtRest e (at_rest shape sheet n c)

@@ -27,9 +27,11 @@ use Rattle.ds_eval.proofs.FixedPoint.{round_value, plain_value, fixed_point}
 
 -- ---- a table of all cells
 
+-- the cell with a number below the number of cells is one of the sheet
 pub inside_at : (shape : Shape) (k : ℕ) → k < count_of shape → IsInside shape (cell_at shape k)
 inside_at shape k l = record { column = omega (arith, shape.within.some_columns); row = row_below k shape.columns shape.rows shape.within.some_columns l }
 
+-- the cell with a number has that number
 pub index_at : (shape : Shape) (k : ℕ) → index_of shape (cell_at shape k) ≡ k
 index_at shape k = omega (arith, shape.within.some_columns)
 
@@ -43,6 +45,7 @@ cell_entry : (shape : Shape) (xs : List Input) → IsTable shape xs → (c : Cel
 cell_entry shape xs t c i =
     ap (entry_in xs) (sym (cell_back shape c i)) ∙ table_entry shape xs t (index_of shape c) (index_below shape c i)
 
+-- a table with another entry for one of its cells is a table of all cells
 pub table_with : (shape : Shape) (xs : List Input) (k : ℕ) (e : Entry) → k < count_of shape → IsTable shape xs → IsTable shape (with_entry xs k e)
 table_with shape xs k e l t = record {
   each = length-set {A = Input} xs k (let i : Input = record { cell = cell_in xs k; entry = e } in i) ∙ t.each;
@@ -239,6 +242,7 @@ pub record IsBegun (shape : Shape) (k : ℕ) (table : List Input) : Type 0 where
 pub begun_none : (shape : Shape) (xs : List Input) → xs ≡ [] → IsBegun shape 0 xs
 begun_none shape xs e = record { each = ap length e; cells = λ j l. absurd (omega arith) }
 
+-- the next cell of the sheet is behind all entries of the first k cells
 pub begun_behind : (shape : Shape) (k : ℕ) (xs : List Input) (c : Cell) → IsBegun shape k xs → c ≡ cell_at shape k → IsBehind xs c
 begun_behind shape k xs c b e = record {
   behind = λ j l. rw (b.cells j (omega (arith, b.each)), e) (ascends shape j k (omega (arith, b.each)));
@@ -257,6 +261,7 @@ begun_more shape k xs ys i b e h = subst (IsBegun shape (k + 1)) (sym h) (record
 pub begun_table : (shape : Shape) (xs : List Input) → IsBegun shape (count_of shape) xs → IsTable shape xs
 begun_table shape xs b = record { each = b.each; cells = b.cells }
 
+-- before the first round any entries will do
 pub first_settled : (shape : Shape) (sheet : Cell → PlainContent) (xs : List Input) → AreSettled shape sheet 0 xs
 first_settled shape sheet xs = record { each = λ c i. settled_first shape sheet (entry_in xs c) c }
 
@@ -267,6 +272,7 @@ content_or [] k x l e = absurd (omega arith)
 content_or (y ∷ xs) zero x l e = ap plain e
 content_or (y ∷ xs) (suc k) x l e = content_or xs k x (omega arith) e
 
+-- the content with a cell's number is what the cell holds
 pub content_at : (sheet : Sheet) (k : ℕ) (x : Content) → k < length sheet.contents.items → x ≡ get_or sheet.contents.items k x → plain x ≡ contents_of sheet (cell_at sheet.shape k)
 content_at sheet k x l e =
     content_or sheet.contents.items k x l e

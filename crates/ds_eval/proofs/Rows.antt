@@ -66,6 +66,7 @@ module _ (xs : List Input) (a : IsAscending xs) where
 
 -- ---- a row, cell by cell
 
+-- one cell more of a row: its value behind those of the others
 pub row_values : (read : Cell → Value) (vs : List Value) (first : Cell) (k : ℕ)
     → (vs ++ map read (row_from first k)) ++ read (right_of first k) ∷ [] ≡ vs ++ map read (row_from first (k + 1))
 row_values read vs first k =
@@ -73,12 +74,14 @@ row_values read vs first k =
     ∙ ap (λ (ws : List Value). vs ++ ws) (sym (map-append read (row_from first k) (right_of first k ∷ [])))
     ∙ ap (λ (n : ℕ). vs ++ map read (row_from first n)) (let e : suc k ≡ k + 1 = omega arith in e)
 
+-- one cell more of a row: the greater of what was above the others and one more than its height
 pub row_height : (heights : Cell → ℕ) (first : Cell) (k : ℕ) → above (map heights (row_from first (k + 1))) ≡ max (above (map heights (row_from first k))) (suc (heights (right_of first k)))
 row_height heights first k =
     ap (λ (n : ℕ). above (map heights (row_from first n))) (let e : k + 1 ≡ suc k = omega arith in e)
     ∙ ap above (map-append heights (row_from first k) (right_of first k ∷ []))
     ∙ above_push (map heights (row_from first k)) (heights (right_of first k))
 
+-- above a row with at least one cell is a height of more than 0
 pub some_height : (heights : Cell → ℕ) (first : Cell) (columns : ℕ) → 0 < columns → 0 < above (map heights (row_from first columns))
 some_height heights first zero h = absurd (omega (arith, h))
 some_height heights first (suc k) h =
@@ -141,6 +144,7 @@ one_row_more area columns row first e =
     ap (first_cells area columns) (let x : columns * (row + 1) ≡ columns * row + columns = omega (arith, mul-suc columns row) in x)
     ∙ row_so_far area columns row columns first e (omega arith)
 
+-- one row more of a range: its values behind those of the rows before
 pub rows_values : (read : Cell → Value) (vs : List Value) (area : Rect) (columns row : ℕ) (first : Cell) → first ≡ record { column = area.first.column; row = area.first.row + row }
     → (vs ++ map read (first_cells area columns (columns * row))) ++ map read (row_from first columns) ≡ vs ++ map read (first_cells area columns (columns * (row + 1)))
 rows_values read vs area columns row first e =
@@ -148,6 +152,7 @@ rows_values read vs area columns row first e =
     ∙ ap (λ (ws : List Value). vs ++ ws) (sym (map-append read (first_cells area columns (columns * row)) (row_from first columns)))
     ∙ ap (λ (cs : List Cell). vs ++ map read cs) (sym (one_row_more area columns row first e))
 
+-- one row more of a range: the greater of what is above the rows before and above it
 pub rows_height : (heights : Cell → ℕ) (area : Rect) (columns row : ℕ) (first : Cell) → first ≡ record { column = area.first.column; row = area.first.row + row }
     → above (map heights (first_cells area columns (columns * (row + 1)))) ≡ max (above (map heights (first_cells area columns (columns * row)))) (above (map heights (row_from first columns)))
 rows_height heights area columns row first e =

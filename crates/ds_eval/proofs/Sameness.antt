@@ -19,10 +19,12 @@ listed_same (x ∷ xs) (y ∷ ys) e =
 called_same : (f g : Function) (xs ys : List Formula) → Called f (listed xs) ≡ Called g (listed ys) → xs ≡ ys
 called_same f g xs ys e = let q : listed xs ≡ listed ys = cc in listed_same xs ys q
 
+-- calls with equal plain views have arguments with equal plain views
 pub arguments_same : (t u : Tree) (f g : Function) (v w : Vec Tree) → t ≡ trees.Call f v → u ≡ trees.Call g w → formula t ≡ formula u → map formula v.items ≡ map formula w.items
 arguments_same t u f g v w p q e =
     called_same f g (map formula v.items) (map formula w.items) (sym (ap formula p ∙ formula_call f v) ∙ e ∙ ap formula q ∙ formula_call g w)
 
+-- trees at the same place of lists with equal plain views have equal plain views
 pub element_same : (xs ys : List Tree) (i : ℕ) (x y : Tree) → i < length xs → i < length ys → x ≡ get_or xs i x → y ≡ get_or ys i y → map formula xs ≡ map formula ys → formula x ≡ formula y
 element_same [] ys i x y l m p q e = absurd (omega arith)
 element_same (a ∷ xs) [] i x y l m p q e = absurd (omega arith)

@@ -60,6 +60,7 @@ greatest_push (n ∷ ns) z h = fold_push int_max n ns z
 abbrev pub NoGreater : ℤ → Type 0
 NoGreater z = int_min (pos (2 ^ 63 - 1)) z ≡ z
 
+-- the number is greater than the least one that there could be, or that one
 abbrev pub NoLess : ℤ → Type 0
 NoLess z = int_max (negsuc (2 ^ 63 - 1)) z ≡ z
 
@@ -141,24 +142,30 @@ number_totals w vs z t u m h =
 blank_totals : (w : Wants) (vs : List Value) (t : Totals) → AreTotals w (numbers vs) t → AreTotals w (numbers (vs ++ Blank ∷ [])) t
 blank_totals w vs t h = subst (λ (xs : List ℤ). AreTotals w xs t) (sym (numbers_skip vs Blank refl)) h
 
+-- a number behind values leaves their first error
 pub number_error : (vs : List Value) (z : ℤ) → first_error (vs ++ Number z ∷ []) ≡ first_error vs
 number_error vs z = error_push vs (Number z) ∙ or_none (first_error vs)
 
+-- a blank behind values leaves their first error
 pub blank_error : (vs : List Value) → first_error (vs ++ Blank ∷ []) ≡ first_error vs
 blank_error vs = error_push vs Blank ∙ or_none (first_error vs)
 
+-- the totals with one number more are those of the values with that number behind them
 pub number_counted : (w : Wants) (vs : List Value) (z : ℤ) (t u : Totals) → IsMore w z t u → AreCounted w vs t → AreCounted w (vs ++ Number z ∷ []) u
 number_counted w vs z t u m h = record { no_error = number_error vs z ∙ h.no_error; sums = number_totals w vs z t u m h.sums }
 
+-- a blank changes no totals
 pub blank_counted : (w : Wants) (vs : List Value) (t : Totals) → AreCounted w vs t → AreCounted w (vs ++ Blank ∷ []) t
 blank_counted w vs t h = record { no_error = blank_error vs ∙ h.no_error; sums = blank_totals w vs t h.sums }
 
+-- a tally's totals with one number more are of the values with that number behind them
 pub number_more : (w : Wants) (vs : List Value) (z : ℤ) (t : Tally) (u : Totals) → IsMore w z t.totals u → IsTally w vs t → IsTally w (vs ++ Number z ∷ []) (record { totals = u; error = t.error })
 number_more w vs z t u m h = record {
   error = h.error ∙ sym (number_error vs z);
   totals = λ none. number_totals w vs z t.totals u m (h.totals (sym (number_error vs z) ∙ none));
 }
 
+-- a blank changes no tally
 pub blank_more : (w : Wants) (vs : List Value) (t : Tally) → IsTally w vs t → IsTally w (vs ++ Blank ∷ []) t
 blank_more w vs t h = record { error = h.error ∙ sym (blank_error vs); totals = λ none. blank_totals w vs t.totals (h.totals (sym (blank_error vs) ∙ none)) }
 
@@ -169,6 +176,7 @@ never_none : (o : Option Value) (v : Value) → first_or o (Some v) ≡ no_error
 never_none None v e = cc
 never_none (Some w) v e = cc
 
+-- a tally with an error more keeps the first one
 pub error_more : (w : Wants) (vs : List Value) (v : Value) (t u : Tally) → first_error (v ∷ []) ≡ Some v → u.error ≡ first_or t.error (Some v) → IsTally w vs t → IsTally w (vs ++ v ∷ []) u
 error_more w vs v t u f e h =
     let pushed = error_push vs v ∙ ap (first_or (first_error vs)) f in
@@ -179,6 +187,7 @@ error_more w vs v t u f e h =
 
 -- ---- behind an error
 
+-- the first error among values stays the first, whatever comes behind them
 pub error_stays : (vs ws : List Value) (e : Value) → first_error vs ≡ Some e → first_error (vs ++ ws) ≡ Some e
 error_stays [] ws e h = absurd cc
 error_stays (Blank ∷ vs) ws e h = error_stays vs ws e h
@@ -211,17 +220,21 @@ not_some : (o : Option Value) → is_some o ≡ false → o ≡ None
 not_some None e = refl
 not_some (Some v) e = absurd cc
 
+-- a tally without an error has the totals of its values
 pub counted : (w : Wants) (vs : List Value) (t : Tally) → is_some t.error ≡ false → IsTally w vs t → AreCounted w vs t.totals
 counted w vs t e h = let none = sym h.error ∙ not_some t.error e in record { no_error = none; sums = h.totals none }
 
+-- the totals of values without an error are their tally
 pub tally_of : (w : Wants) (vs : List Value) (t : Totals) → AreCounted w vs t → IsTally w vs (record { totals = t; error = None })
 tally_of w vs t h = record { error = sym h.no_error; totals = λ none. h.sums }
 
+-- the first error among values is their tally, with any totals
 pub tally_stopped : (w : Wants) (vs : List Value) (t : Totals) (e : Value) → first_error vs ≡ Some e → IsTally w vs (record { totals = t; error = Some e })
 tally_stopped w vs t e h = record { error = sym h; totals = λ none. absurd (let x : Some e ≡ no_error = sym h ∙ none in cc) }
 
 -- ---- which values are errors
 
+-- each of the three errors is the first error of itself alone
 pub is_error : (v : Value) → (v ≡ DivZero) ⊎ ((v ≡ Num) ⊎ (v ≡ Circular)) → first_error (v ∷ []) ≡ Some v
 is_error DivZero e = refl
 is_error Num e = refl
@@ -240,9 +253,11 @@ from_totals w vs t f v e h g =
     let none : first_error vs ≡ None = sym h.error ∙ e in
     g (h.totals none) ∙ ap (λ (o : Option Value). error_or o (f (numbers vs))) (sym none)
 
+-- AND's value by the count of zeros: 1 where none of the numbers is 0
 pub all_told : (vs : List Value) (t : Tally) (v : Value) → t.error ≡ None → v ≡ truth (t.totals.zeros == 0) → IsTally Zeros vs t → v ≡ with_all vs (λ ns. truth (all_true ns))
 all_told vs t v e is h = from_totals Zeros vs t (λ ns. truth (all_true ns)) v e h (λ a. is ∙ ap (λ (n : ℕ). truth (n == 0)) (a.zeros refl) ∙ ap truth (no_zeros (numbers vs)))
 
+-- OR's value by the count of zeros: 1 where they are fewer than the numbers
 pub some_told : (vs : List Value) (t : Tally) (v : Value) → t.error ≡ None → v ≡ truth (nat_lt t.totals.zeros t.totals.count) → IsTally Zeros vs t → v ≡ with_all vs (λ ns. truth (some_true ns))
 some_told vs t v e is h =
     from_totals Zeros vs t (λ ns. truth (some_true ns)) v e h

@@ -11,6 +11,7 @@ use Rattle.ds_eval.specs.Tasks.{PlainTask}
 abbrev pub task : ℕ → Cell → ℕ → Shape → PlainContent → List Input → PlainTask
 task p c g s k i = record { process = p; cell = c; generation = g; shape = s; content = k; inputs = i }
 
+-- tasks with equal parts are equal
 pub task_same : {p q : ℕ} {c d : Cell} {g h : ℕ} {s t : Shape} {k l : PlainContent} {i j : List Input} → p ≡ q → c ≡ d → g ≡ h → s ≡ t → k ≡ l → i ≡ j → task p c g s k i ≡ task q d h t l j
 task_same {p} {q} {c} {d} {g} {h} {s} {t} {k} {l} {i} {j} e f m n o r =
     ap (λ (x : ℕ). task x c g s k i) e

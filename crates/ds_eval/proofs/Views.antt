@@ -12,20 +12,26 @@ use Rattle.ds_formula.specs.declared.content.Tree.TheFolds.{fold-roll-Tree}
 use Rattle.ds_formula.specs.declared.content.Tree.TheVariants.{Number, Reference, Range, Prefix, Binary, Call, rolls-Number, rolls-Reference, rolls-Range, rolls-Prefix, rolls-Binary, rolls-Call}
 use Rattle.ds_formula.specs.Plain.{Formula, Literal, At, Area, Signed, Joined, Called, listed, formula, layer}
 
+-- the plain view of a number
 pub formula_number : (n : ℤ) → formula (Number n) ≡ Literal n
 formula_number n = ap formula (sym (rolls-Number n)) ∙ fold-roll-Tree Formula layer (layers.Number n)
 
+-- the plain view of a reference
 pub formula_reference : (c : Cell) → formula (Reference c) ≡ At c
 formula_reference c = ap formula (sym (rolls-Reference c)) ∙ fold-roll-Tree Formula layer (layers.Reference c)
 
+-- the plain view of a range
 pub formula_range : (r : Rect) → formula (Range r) ≡ Area r
 formula_range r = ap formula (sym (rolls-Range r)) ∙ fold-roll-Tree Formula layer (layers.Range r)
 
+-- the plain view of a sign puts it before that of its operand
 pub formula_prefix : (s : Sign) (a : Box Tree) → formula (Prefix s a) ≡ Signed s (formula a.value)
 formula_prefix s a = ap formula (sym (rolls-Prefix s a)) ∙ fold-roll-Tree Formula layer (layers.Prefix s a)
 
+-- the plain view of an operator's tree joins those of its sides
 pub formula_binary : (o : Operator) (a b : Box Tree) → formula (Binary o a b) ≡ Joined o (formula a.value) (formula b.value)
 formula_binary o a b = ap formula (sym (rolls-Binary o a b)) ∙ fold-roll-Tree Formula layer (layers.Binary o a b)
 
+-- the plain view of a call's tree calls the function on those of its arguments
 pub formula_call : (g : Function) (v : Vec Tree) → formula (Call g v) ≡ Called g (listed (map formula v.items))
 formula_call g v = ap formula (sym (rolls-Call g v)) ∙ fold-roll-Tree Formula layer (layers.Call g v)

@@ -14,9 +14,11 @@ use Rattle.ds_eval.proofs.Neighbours.{reached, bound}
 
 -- ---- the cells by their numbers
 
+-- a cell of the sheet has a number below the number of cells
 pub index_below : (shape : Shape) (c : Cell) → IsInside shape c → index_of shape c < count_of shape
 index_below shape c i = mul-add-lt c.row shape.columns c.column shape.rows i.row i.column
 
+-- a cell of the sheet is the one with its number
 pub cell_back : (shape : Shape) (c : Cell) → IsInside shape c → cell_at shape (index_of shape c) ≡ c
 cell_back shape c i = same_cell (cell_at shape (index_of shape c)) c (mod-mul-add c.row shape.columns c.column i.column) (div-mul-add c.row shape.columns c.column i.column)
 

@@ -47,6 +47,7 @@ digit_lead s b bs l h =
     let d : is_ascii_digit b ≡ true = is_digit b l h in
     rw (p, q, r, u, d) refl
 
+-- the decimal of a number of at most 2^63 - 1 is read back as that operand
 pub literal_back : (s : Scope) (n : ℕ) (rest : List ℕ) → n ≤ 2 ^ 63 - 1 → Parts rest → lead_at s (decimal n ++ rest) ≡ Ok (leads.Leaf (Number (pos n)), rest)
 literal_back s n rest l e =
     let d = decimal_starts n (omega (arith, l)) in
@@ -165,11 +166,13 @@ range_of : (s : Shape) (text : List ℕ) (a b : Cell) (bs rest : List ℕ) → c
 unfolding byte_at
 range_of s text a b bs rest h = ap (λ (x : Read (Option Cell)). x >>= λ o. byte_at 93 o.1 >>= λ end. both_inside text (Some a) o.0 end) h
 
+-- the text of a reference to a cell of the sheet is read back
 pub reference_back : (s : Scope) (c : Cell) (rest : List ℕ) → IsInside s.shape c → lead_at s (91 ∷ 46 ∷ (cell_text c ++ 93 ∷ rest)) ≡ Ok (leads.Leaf (Reference c), rest)
 reference_back s c rest h =
     bracket_lead s (46 ∷ (cell_text c ++ 93 ∷ rest)) (Reference c) rest
     (reference_of s.shape (46 ∷ (cell_text c ++ 93 ∷ rest)) (Some c) (93 ∷ rest) (corner_back s.shape c (93 ∷ rest) h refl) ∙ end_of s.shape (91 ∷ 46 ∷ (cell_text c ++ 93 ∷ rest)) c rest)
 
+-- the text of a range between two cells of the sheet is read back
 pub range_back : (s : Scope) (a b : Cell) (rest : List ℕ) → IsInside s.shape a → IsInside s.shape b
     → (n : ℕ) × (lead_at s (91 ∷ 46 ∷ (cell_text a ++ 58 ∷ 46 ∷ (cell_text b ++ 93 ∷ rest))) ≡ Ok (leads.Leaf (Range (area_of a b) n), rest))
 range_back s a b rest h k =
@@ -180,6 +183,7 @@ range_back s a b rest h k =
           (reference_of s.shape text (Some a) (58 ∷ behind) (corner_back s.shape a (58 ∷ behind) h refl) ∙ range_of s.shape (91 ∷ text) a b behind rest (corner_back s.shape b (93 ∷ rest) k refl)),
     )
 
+-- the range between the corners of a well-formed range is that range
 pub area_back : (s : Shape) (r : Rect) → IsArea s r → area_of r.first r.last ≡ r
 area_back s r h =
     let a : min r.first.column r.last.column ≡ r.first.column = omega (arith, h.columns) in
@@ -192,6 +196,7 @@ area_back s r h =
 
 -- ---- names, signs and brackets
 
+-- the name of a function before its bracket is read back
 pub name_back : (s : Shape) (g : Function) (rest : List ℕ) → lead_at (scope_of s) (name_of g ++ 40 ∷ rest) ≡ Ok (leads.Name g (length (name_of g ++ 40 ∷ rest)), 40 ∷ rest)
 unfolding lead_at lead_of name_at
 name_back s Sum rest = refl
@@ -206,27 +211,33 @@ name_back s And rest = refl
 name_back s Or rest = refl
 name_back s Not rest = refl
 
+-- the text of a sign is read back where an operand is due
 pub sign_back : (s : Scope) (g : Sign) (rest : List ℕ) → lead_at s (sign_text g ++ rest) ≡ Ok (leads.Prefix g, rest)
 unfolding lead_at lead_of
 sign_back s Plus rest = refl
 sign_back s Minus rest = refl
 
+-- `(` is read back where an operand is due
 pub open_back : (s : Scope) (rest : List ℕ) → lead_at s (40 ∷ rest) ≡ Ok (leads.Open, rest)
 unfolding lead_at lead_of
 open_back s rest = refl
 
+-- an opening bracket at the front is found behind the name of a call
 pub bracket_back : (rest : List ℕ) → byte_at 40 (skipped (40 ∷ rest)) ≡ Ok rest
 unfolding byte_at
 bracket_back rest = refl
 
+-- `)` is read back behind an operand
 pub close_back : (rest : List ℕ) → follow_at (41 ∷ rest) ≡ Ok (Close, rest)
 unfolding follow_at follow_of
 close_back rest = refl
 
+-- `;` is read back behind an operand
 pub semicolon_back : (rest : List ℕ) → follow_at (59 ∷ rest) ≡ Ok (Semicolon, rest)
 unfolding follow_at follow_of
 semicolon_back rest = refl
 
+-- the end of a text is read back
 pub end_back : follow_at [] ≡ Ok (End, [])
 unfolding follow_at follow_of
 end_back = refl
@@ -244,6 +255,7 @@ greater_back : (rest : List ℕ) → Leads rest → after_greater rest ≡ (Grea
 greater_back [] h = refl
 greater_back (b ∷ bs) h = let q = h.no_equals in rw q refl
 
+-- the text of an operator is read back, before no `=` or `>`, which would lengthen it
 pub operator_back : (o : Operator) (rest : List ℕ) → Leads rest → follow_at (operator_text o ++ rest) ≡ Ok (Infix o, rest)
 unfolding follow_at follow_of
 operator_back Multiply rest h = refl
@@ -256,6 +268,7 @@ operator_back Greater rest h = ap (λ (x : Operator × List ℕ). found (62 ∷ 
 operator_back LessOrEqual rest h = refl
 operator_back GreaterOrEqual rest h = refl
 
+-- an operator's text parts a number before it from what is behind
 pub operator_parts : (o : Operator) (rest : List ℕ) → Parts (operator_text o ++ rest)
 operator_parts Multiply rest = record { digit = refl; fraction = refl }
 operator_parts Add rest = record { digit = refl; fraction = refl }

@@ -3,6 +3,7 @@ use Rattle.std.proofs.Common.{◌≡◌, ℕ, ◌+◌, ◌-◌, ◌*◌, ◌<◌
 use Rattle.std.specs.Char.{is_ascii_digit}
 use Rattle.ds_formula.specs.Bytes.{number_from}
 
+-- reading further digits leaves no longer text
 pub from_shorter : (n : ℕ) (text : List ℕ) → length (number_from n text).1 ≤ length text
 from_shorter n [] = omega arith
 from_shorter n (b ∷ bs) =
@@ -12,6 +13,7 @@ from_shorter n (b ∷ bs) =
       | false ↦ omega arith
     ]
 
+-- a number at the front, with at least one digit, leaves a shorter text
 pub digits_shorter : (text : List ℕ) (d : ℕ) → 0 < length text → is_ascii_digit (get_or text 0 d) ≡ true → length (number_from 0 text).1 < length text
 digits_shorter [] d h e = absurd (omega (arith, h))
 digits_shorter (b ∷ bs) d h e =

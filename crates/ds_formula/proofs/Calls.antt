@@ -41,6 +41,7 @@ pub record ArgumentsSoFar (s : Scope) (g : Function) (text : List ℕ) (fs : Lis
   pub walked : (f : Function) (n name : ℕ) (i : List Bracket) → Walk s AnOperand (Call f n name ∷ i) text AnOperator (Call f (n + length before) name ∷ i) rest
   pub shorter : length rest < length text
 
+-- the first expression in the brackets is the arguments so far
 pub arguments_first : (s : Scope) (g : Function) (text : List ℕ) (f : Formula) (r : Ranges) (rest : List ℕ) → Level s 0 text f r rest → length rest < length text → ArgumentsSoFar s g text (f ∷ []) (as_argument g r) rest
 arguments_first s g text f r rest v k = record {
   before = [];
@@ -69,6 +70,7 @@ first_assoc Placed b c = refl
 first_assoc (Bare n) b c = refl
 first_assoc (Misplaced n) b c = refl
 
+-- a semicolon and one more expression extend the arguments so far
 pub arguments_more : (s : Scope) (g : Function) (text : List ℕ) (fs : List Formula) (r : Ranges) (rest after : List ℕ) (f : Formula) (t : Ranges) (behind : List ℕ)
     → ArgumentsSoFar s g text fs r rest → follow_at rest ≡ Ok (Semicolon, after) → length after ≤ length rest → Level s 0 after f t behind → length behind < length after
     → ArgumentsSoFar s g text (fs ++ f ∷ []) (first_of r (as_argument g t)) behind
@@ -95,6 +97,7 @@ arguments_more s g text fs r rest after f t behind so h shrinks v k = record {
   shorter = omega (arith, so.shorter, k, shrinks);
 }
 
+-- the arguments so far are all, where no semicolon follows
 pub arguments_done : (s : Scope) (g : Function) (text : List ℕ) (fs : List Formula) (r : Ranges) (rest : List ℕ) → ArgumentsSoFar s g text fs r rest → NoSemicolon rest → Arguments s g text (listed fs) r rest
 arguments_done s g text fs r rest so n =
     let a = so.reaches (Then so.latest Nothing) (as_argument g so.latest_ranges) rest (last so.found n) in
@@ -102,6 +105,7 @@ arguments_done s g text fs r rest so n =
     subst (λ (x : Formulas). Arguments s g text x (first_of so.earlier (as_argument g so.latest_ranges)) rest) (followed_listed so.before so.latest ∙ ap listed (sym so.all)) a in
     subst (λ (x : Ranges). Arguments s g text (listed fs) x rest) (sym so.ranges) b
 
+-- a fault in an argument behind a semicolon is one of the arguments
 pub arguments_refused : (s : Scope) (g : Function) (text : List ℕ) (fs : List Formula) (r : Ranges) (rest after : List ℕ) (e : Refusal)
     → ArgumentsSoFar s g text fs r rest → follow_at rest ≡ Ok (Semicolon, after) → Refuses s after e → ArgumentsRefuse s text e
 arguments_refused s g text fs r rest after Memory so h x = tt
@@ -110,19 +114,23 @@ arguments_refused s g text fs r rest after (Stopped stop) so h x = λ f n name i
     let y = x (Call f (m + 1) name ∷ i) in
     (y.0, y.1, y.2, joined (so.walked f n name i) (joined (follow_step h refl) y.3), y.4)
 
+-- a fault in the first argument is one of the arguments
 pub arguments_first_refused : (s : Scope) (text : List ℕ) (e : Refusal) → Refuses s text e → ArgumentsRefuse s text e
 arguments_first_refused s text Memory x = tt
 arguments_first_refused s text (Stopped stop) x = λ f n name i. x (Call f n name ∷ i)
 
 -- ---- calls, behind the name
 
+-- a bracket, arguments and a closing bracket are a call, where the function takes so many
 pub call_done : (s : Scope) (g : Function) (text inner : List ℕ) (fs : Formulas) (r : Ranges) (mid rest : List ℕ) → Ok inner ≡ byte_at 40 (skipped text) → Arguments s g inner fs r mid → follow_at mid ≡ Ok (Close, rest) → takes g (count fs) ≡ true
     → forms.Call s g text fs r rest
 call_done s g text inner fs r mid rest h v k y = bracketed (sym h) v k y
 
+-- a name without a bracket behind it is a fault of the call
 pub call_no_bracket : (s : Scope) (g : Function) (name : ℕ) (text : List ℕ) (stop : Stop) → Err stop ≡ byte_at 40 (skipped text) → CallRefuses s g name text (Stopped stop)
 call_no_bracket s g name text stop e = λ i. (ItsBracket g name, i, text, stay, ap (by_bracket g name i) (sym e))
 
+-- a call with nothing in its brackets has the wrong number of arguments
 pub call_empty : (s : Scope) (g : Function) (name : ℕ) (text inner : List ℕ) → Ok inner ≡ byte_at 40 (skipped text) → begins 41 (skipped inner) ≡ true → CallRefuses s g name text (Stopped (record { kind = WrongArguments; left = name }))
 call_empty s g name text inner h e = λ i. (
   FirstArgument name,
@@ -138,6 +146,7 @@ first_cases s name {i = i} {text = text} stop same n stay f =
 first_cases s name {i = i} {text = text} stop same n (step {e = e} {f = f} {j = j} {k = k} {next = next} {rest = rest} h v) q =
     (f, k, rest, step (first_turn s i text name n ∙ subst (λ (x : Due). turn s x i text ≡ Goes e j next) same h) v, q)
 
+-- a fault among the arguments is one of the call
 pub call_arguments_refused : (s : Scope) (g : Function) (name : ℕ) (text inner : List ℕ) (e : Refusal) → Ok inner ≡ byte_at 40 (skipped text) → begins 41 (skipped inner) ≡ false → ArgumentsRefuse s inner e → CallRefuses s g name text e
 call_arguments_refused s g name text inner Memory h n x = tt
 call_arguments_refused s g name text inner (Stopped stop) h n x = λ i.
@@ -158,12 +167,14 @@ all_walk : {s : Scope} {g : Function} {text inner : List ℕ} {fs : Formulas} {r
     → Walk s (ItsBracket g name) i text AnOperator (Call g (count fs) name ∷ i) mid
 all_walk {fs = fs} name i h v = joined (bracket_step h) (first_walk name (arguments_open v) (arguments_walk v 1 (count fs) name i (omega arith)))
 
+-- arguments without a closing bracket behind them are a fault of the call
 pub call_unclosed : (s : Scope) (g : Function) (name : ℕ) (text inner : List ℕ) (fs : Formulas) (r : Ranges) (mid : List ℕ) (stop : Stop)
     → Ok inner ≡ byte_at 40 (skipped text) → Arguments s g inner fs r mid → Err stop ≡ close_at mid → CallRefuses s g name text (Stopped stop)
 call_unclosed s g name text inner fs r mid stop h v e = λ i.
     let end = arguments_end s g inner fs r mid v in
     (AnOperator, Call g (count fs) name ∷ i, mid, all_walk name i (sym h) v, call_open g (count fs) name i mid stop end.no_operator end.no_semicolon e)
 
+-- as many arguments as the function doesn't take are a fault at its name
 pub call_wrong : (s : Scope) (g : Function) (name : ℕ) (text inner : List ℕ) (fs : Formulas) (r : Ranges) (mid rest : List ℕ)
     → Ok inner ≡ byte_at 40 (skipped text) → Arguments s g inner fs r mid → follow_at mid ≡ Ok (Close, rest) → takes g (count fs) ≡ false
     → CallRefuses s g name text (Stopped (record { kind = WrongArguments; left = name }))
@@ -179,5 +190,6 @@ count_listed : (ts : List Tree) → count (listed (map formula ts)) ≡ length t
 count_listed [] = refl
 count_listed (t ∷ ts) = let e = count_listed ts in omega (arith, e)
 
+-- whether a function takes so many arguments is told by the length of the list of their trees
 pub takes_is : (g : Function) (ts : List Tree) (n : ℕ) (b : Bool) → b ≡ takes g n → n ≡ length ts → takes g (count (listed (map formula ts))) ≡ b
 takes_is g ts n b e h = ap (takes g) (count_listed ts ∙ sym h) ∙ sym e

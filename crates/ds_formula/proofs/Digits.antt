@@ -8,12 +8,14 @@ use Rattle.std.specs.Char.{is_ascii_digit}
 use Rattle.ds_formula.specs.declared.fault.FaultKind.TheVariants.{NotWhole, NumberTooLarge}
 use Rattle.ds_formula.specs.Bytes.{Read, stop_at, unexpected_stop, is_space, skipped, number_from, goes_on_as_fraction, number_at}
 
+-- the test says false of two numbers that differ
 pub unequal : (a b : ℕ) → (a ≡ b → ⊥) → eqb a b ≡ false
 unequal a b h = elim (eqb_tells a b) [
   | inl p ↦ absurd (h p.1)
   | inr p ↦ p.0
 ]
 
+-- the bytes from 48 to 57 are digits
 pub is_digit : (b : ℕ) → 48 ≤ b → b ≤ 57 → is_ascii_digit b ≡ true
 is_digit b h k = grind (arith, nat_tests)
 
@@ -28,6 +30,7 @@ no_space b h =
     let s : eqb b 13 ≡ false = unequal b 13 (λ e. omega (arith, h, e)) in
     rw (p, q, r, s) refl
 
+-- a byte above 32 isn't white space: nothing is skipped before it
 pub not_skipped : (b : ℕ) (bs : List ℕ) → 33 ≤ b → skipped (b ∷ bs) ≡ b ∷ bs
 not_skipped b bs h = ap (λ (t : Bool). cond t (skipped bs) (b ∷ bs)) (no_space b h)
 
@@ -42,6 +45,7 @@ digit_step m d rest h =
 abbrev Through : ℕ → List ℕ → Type 0
 Through n ds = (rest : List ℕ) → number_from 0 (ds ++ rest) ≡ number_from n rest
 
+-- reading a number's decimal gives that number, and reading goes on behind it
 pub number_through : (n : ℕ) → n < 2 ^ 64 → (rest : List ℕ) → number_from 0 (decimal n ++ rest) ≡ number_from n rest
 number_through n h = decimal_by_steps Through
     (λ m l rest. digit_step 0 m rest l ∙ ap (λ (x : ℕ). number_from x rest) (let x : 10 * 0 + m ≡ m = omega arith in x))
@@ -61,6 +65,7 @@ pub record StartsDigit (n : ℕ) (ds : List ℕ) : Type 0 where
   pub high : head ≤ 57
   pub positive : 0 < n → 49 ≤ head
 
+-- the decimal of a number below 2^64 begins with a digit, and not with 0 where the number isn't 0
 pub decimal_starts : (n : ℕ) → n < 2 ^ 64 → StartsDigit n (decimal n)
 decimal_starts n h = decimal_by_steps StartsDigit
     (λ m l. record { head = 48 + m; tail = []; is = refl; low = omega arith; high = omega arith; positive = λ p. omega (arith, p) })
@@ -76,6 +81,7 @@ decimal_starts n h = decimal_by_steps StartsDigit
 
 -- ---- what may stand behind a number
 
+-- whether a digit is at the front
 abbrev pub starts_digit : List ℕ → Bool
 starts_digit [] = false
 starts_digit (b ∷ bs) = is_ascii_digit b
@@ -85,6 +91,7 @@ pub record Parts (rest : List ℕ) : Type 0 where
   pub digit : starts_digit rest ≡ false
   pub fraction : goes_on_as_fraction rest ≡ false
 
+-- where no digit follows, the number that was read so far is the number
 pub number_stops : (n : ℕ) (rest : List ℕ) → starts_digit rest ≡ false → number_from n rest ≡ (n, rest)
 number_stops n [] e = refl
 number_stops n (b ∷ bs) e = ap (λ (t : Bool). cond t (number_from (10 * n + (b - 48)) bs) (n, b ∷ bs)) e
@@ -103,5 +110,6 @@ number_at_of limit (b ∷ bs) n rest e p f l =
 pub starts_text : (n : ℕ) (rest : List ℕ) (d : StartsDigit n (decimal n)) → starts_digit (decimal n ++ rest) ≡ true
 starts_text n rest d = ap (λ (x : List ℕ). starts_digit (x ++ rest)) d.is ∙ is_digit d.head d.low d.high
 
+-- the decimal of a number within the limit is read back as that number
 pub number_back : (limit n : ℕ) (rest : List ℕ) → n ≤ limit → n < 2 ^ 64 → Parts rest → number_at limit (decimal n ++ rest) ≡ Ok (n, rest)
 number_back limit n rest l h e = number_at_of limit (decimal n ++ rest) n rest (starts_text n rest (decimal_starts n h)) (number_through n h rest ∙ number_stops n rest e.digit) e.fraction l

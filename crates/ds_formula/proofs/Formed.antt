@@ -74,22 +74,27 @@ mutual
 
 -- ---- tokens
 
+-- what holds of both branches holds of an `if`
 pub either : {A : Type 0} (P : A → Type 0) (t : Bool) (x y : A) → (t ≡ true → P x) → (t ≡ false → P y) → P (cond t x y)
 either P true x y p q = p refl
 either P false x y p q = q refl
 
+-- what holds of each fault, and of what comes of each value, holds of both steps together
 pub bind : {A B : Type 0} (P : Result B Stop → Type 0) (x : Result A Stop) (f : A → Result B Stop) → ((e : Stop) → P (Err e)) → ((a : A) → P (f a)) → P (x >>= f)
 bind P (Ok a) f e h = h a
 bind P (Err u) f e h = e u
 
+-- the same, where what is known of the first step is handed on to the second
 pub bind_with : {A B : Type 0} (Q : Result A Stop → Type 0) (P : Result B Stop → Type 0) (x : Result A Stop) (f : A → Result B Stop) → Q x → ((e : Stop) → P (Err e)) → ((a : A) → Q (Ok a) → P (f a)) → P (x >>= f)
 bind_with Q P (Ok a) f q e h = h a q
 bind_with Q P (Err u) f q e h = e u
 
+-- a number that was read is within the limit
 abbrev pub NumberGood : ℕ → Read ℕ → Type 0
 NumberGood limit (Ok x) = x.0 ≤ limit
 NumberGood limit (Err e) = Unit {0}
 
+-- a whole number that was read is within its limit
 pub number_good : (limit : ℕ) (text : List ℕ) → NumberGood limit (number_at limit text)
 unfolding number_at
 number_good limit [] = tt
@@ -295,6 +300,7 @@ module _ {s : Scope} where
         let q = kind_used u in
         chain_good w (record { formed = (d.formed, b.formed); kinds = kind_first (used r) (used u) ∙ cc })
 
+-- of two expressions whose ranges stand alike, one has none misplaced where the other has none
 pub same_placing : (r t : Ranges) → kind r ≡ kind t → misplaced r ≡ None → misplaced t ≡ None
 same_placing Placed Placed e h = refl
 same_placing Placed (Bare n) e h = absurd cc
@@ -302,6 +308,7 @@ same_placing Placed (Misplaced n) e h = absurd cc
 same_placing (Bare m) t e h = absurd cc
 same_placing (Misplaced m) t e h = absurd cc
 
+-- the cells written in a content that was read are cells of the sheet
 pub read_inside : (s : Shape) (text : List ℕ) (p : PlainContent) (c : Cell) → ReadsLong s text p → Refers p c → IsInside s c
 read_inside s text p c blank m = absurd m
 read_inside s text p c (constant t z l n e) m = absurd m

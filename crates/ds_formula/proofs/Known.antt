@@ -119,6 +119,7 @@ module _ {s : Scope} where
     chain_calls (ends n) d = d
     chain_calls (goes_on h e v w) d = chain_calls w (d, level_calls v)
 
+-- a content that was read in a scope calls functions of the scope alone
 pub content_calls : (s : Scope) (text : List ℕ) (c : PlainContent) → ReadsLongIn s text c → ContentCallsOnly s.functions c
 content_calls s text c blank = tt
 content_calls s text c (constant t z l n e) = tt

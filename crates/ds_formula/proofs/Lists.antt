@@ -27,6 +27,7 @@ behind_last xs other d ascend some before c h =
       | inr ge ↦ (let last : length xs - 1 ≡ k = omega (arith, there, ge, some) in subst (λ (i : ℕ). IsBefore (get_or xs i other) d) last before)
     ])
 
+-- a possible cell behind all that are listed is put behind them
 pub one_listed : (d : Cell) (xs : List Cell) → AllPairs IsBefore xs → ((c : Cell) → Contains xs c → IsBefore c d) → IsPossible d → IsListed (At d) xs (xs ++ d ∷ [])
 one_listed d xs ascend behind possible = record {
   ascending = push_ascends xs d ascend behind;
@@ -39,6 +40,7 @@ one_listed d xs ascend behind possible = record {
   all = λ c same. subst (λ (x : Cell). Contains (xs ++ d ∷ []) x) same (Contains-push xs d);
 }
 
+-- listing the left side and then the right one lists what an operator joins
 pub both_listed : (o : Operator) (f g : Formula) (xs ys zs : List Cell) → IsListed f xs ys → IsListed g ys zs → IsListed (Joined o f g) xs zs
 both_listed o f g xs ys zs h k = record {
   ascending = k.ascending;

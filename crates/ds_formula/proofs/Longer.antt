@@ -23,6 +23,7 @@ named_cond : (t : Bool) (f g : Function) (x y : Option Function) → cond t (Som
 named_cond true f g x y e h = e
 named_cond false f g x y e h = h e
 
+-- the function that has a name in a list has it with further functions behind, too
 pub named_longer : (old new : List Function) (name : List ℕ) (g : Function) → function_named old name ≡ Some g → function_named (old ++ new) name ≡ Some g
 named_longer [] new name g e = absurd cc
 named_longer (f ∷ fs) new name g e = named_cond (is_name_of f name) f g (function_named fs name) (function_named (fs ++ new) name) e (named_longer fs new name g)

@@ -32,6 +32,7 @@ some_more : (fs : List Formula) (f : Formula) (c : Cell) → some_mentions (list
 some_more [] f c = or_false (mentions f c)
 some_more (g ∷ fs) f c = ap (λ (x : Bool). mentions g c || x) (some_more fs f c) ∙ sym (or_assoc (mentions g c) (some_mentions (listed fs) c) (mentions f c))
 
+-- marking one argument more adds the cells written in it
 pub marks_step : (ts : List Tree) (i : ℕ) (t : Tree) (a b d : List Bool) → i < length ts → t ≡ get_or ts i t → MarksBy (some_mentions (listed (map formula (take i ts)))) a b → Marks (formula t) b d
     → MarksBy (some_mentions (listed (map formula (take (i + 1) ts)))) a d
 marks_step ts i t a b d h e m n = record {
@@ -42,6 +43,7 @@ marks_step ts i t a b d h e m n = record {
       ∙ ap (λ (x : Bool). get_or a k false || x) (sym (some_more (map formula (take i ts)) (formula t) (cell_by k)) ∙ ap (λ (x : List Formula). some_mentions (listed x) (cell_by k)) (sym (one_more ts i t h e)));
 }
 
+-- the marks of all arguments are those of the call
 pub marks_all : (g : Function) (v : Vec Tree) (ts : List Tree) (i : ℕ) (a b : List Bool) → ts ≡ v.items → length ts ≤ i → MarksBy (some_mentions (listed (map formula (take i ts)))) a b → Marks (formula (Call g v)) a b
 marks_all g v ts i a b e h m =
     let p : listed (map formula (take i ts)) ≡ listed (map formula v.items) = ap (λ (x : List Tree). listed (map formula x)) (take_all i ts h ∙ e) in
@@ -188,9 +190,11 @@ refs_are f marks m = record {
       marked_has marks PLACES k c l (m.each k l ∙ ap (λ (x : Bool). x || mentions f (cell_by k)) (get_or-replicate PLACES k false false l) ∙ e) (place_of c p);
 }
 
+-- the cells with a mark below one place more: those so far, and that place's cell where it has a mark
 pub marked_more : (marks : List Bool) (n : ℕ) (t : Bool) (xs ys : List Cell) → get_or marks n false ≡ t → xs ≡ marked_below marks n → ys ≡ xs ++ cond t (cell_by n ∷ []) [] → ys ≡ marked_below marks (n + 1)
 marked_more marks n t xs ys e p q = q ∙ ap (λ (z : List Cell). z ++ cond t (cell_by n ∷ []) []) p ∙ ap (λ (u : Bool). marked_below marks n ++ cond u (cell_by n ∷ []) []) (sym e) ∙ sym (marked_step marks n)
 
+-- where the cells of a formula alone are marked, those that have a mark are its references
 pub refs_answer : {E : Type 0} (t : Tree) (r : Result (Vec Cell) E) (start marks : List Bool) → start ≡ replicate PLACES false → Marks (formula t) start marks
     → IfOk r (λ v. v.items ≡ marked_below marks PLACES) → IfOk r (λ v. AreRefs (Computed (formula t)) v.items)
 refs_answer t (Err e) start marks q m h = h
@@ -202,6 +206,7 @@ refs_answer t (Ok v) start marks q m h =
 unmarked : (marks : List Bool) (k : ℕ) → marks ≡ replicate PLACES false → k < PLACES → get_or marks k false ≡ true → ⊥
 unmarked marks k e l m = false≢true (sym (get_or-replicate PLACES k false false l) ∙ ap (λ (x : List Bool). get_or x k false) (sym e) ∙ m)
 
+-- where nothing is marked, any rows within the limit will do
 pub no_rows : (marks : List Bool) (rows : Rows) → marks ≡ replicate PLACES false → rows.first ≤ 64 → AreRowsOf marks rows
 no_rows marks rows e low = record {
   each = λ k l m. absurd (unmarked marks k e l m);
@@ -214,6 +219,7 @@ either_true : (a b : Bool) → (a || b) ≡ true → (a ≡ true) ⊎ (b ≡ tru
 either_true true b e = inl refl
 either_true false b e = inr e
 
+-- rows that also hold those of a range are the marked rows with the range marked
 pub area_rows : (area : Rect) (marks more : List Bool) (rows then : Rows) → AreRowsOf marks rows → MarksArea area marks more → MarksRows area rows.has_mark then.has_mark
     → then.first ≤ rows.first → then.first ≤ area.first.row → rows.end ≤ then.end → ((r : ℕ) → r ≤ area.last.row → r < 64 → r < then.end) → AreRowsOf more then
 area_rows area marks more rows then r m n f g h i =
@@ -243,6 +249,7 @@ is_false : (b : Bool) → (b ≡ true → ⊥) → b ≡ false
 is_false true n = absurd (n refl)
 is_false false n = refl
 
+-- a row without a mark adds no cell
 pub row_skipped : (marks : List Bool) (rows : Rows) (row : ℕ) → row < 64 → AreRowsOf marks rows → get_or rows.has_mark row false ≡ false → marked_below marks (26 * row + 26) ≡ marked_below marks (26 * row)
 row_skipped marks rows row l r e = unmarked_more marks (26 * row) 26 (λ k o p.
     let q : k / 26 ≡ row = omega arith in

@@ -35,6 +35,7 @@ lead_refused s text stop e = λ i. (AnOperand, i, text, stay, ap (by_lead i) (sy
 
 -- ---- what is behind a form
 
+-- each operator's level is below that of operands
 pub most : (o : Operator) → level_of o < 3
 most Multiply = omega arith
 most Add = omega arith
@@ -65,6 +66,7 @@ mutual
   none_after s l f r text g t rest (ends n) inner o after k e = at_end l rest n inner o after e (le_cases l (level_of o) k)
   none_after s l f r text g t rest (goes_on h p v w) inner o after k e = none_after s l _ _ _ _ _ _ w (none_behind s (suc l) _ _ _ _ v) o after k e
 
+-- behind an expression of the loosest level no operator follows
 pub no_operator : (s : Scope) (text : List ℕ) (f : Formula) (r : Ranges) (rest : List ℕ) → Level s 0 text f r rest → NoOperator rest
 no_operator s text f r rest v o after e = none_behind s 0 text f r rest v o after (omega arith) e
 
@@ -110,6 +112,7 @@ pub record ClimbSoFar (s : Scope) (at : ℕ) (text : List ℕ) (f : Formula) (r 
   pub walked : (i : List Bracket) → Walk s AnOperand i text AnOperator i rest
   pub shorter : length rest < length text
 
+-- an operand is an expression so far, before any operator
 pub climb_first : (s : Scope) (at : ℕ) (text : List ℕ) (f : Formula) (r : Ranges) (rest : List ℕ) → at ≤ 3 → Operand s text f r rest → length rest < length text → ClimbSoFar s at text f r rest
 climb_first s at text f r rest k v j =
     record {
@@ -146,6 +149,7 @@ added s l text f r rest o after g t behind grown h w (inr below) =
     let all = closed grown (λ p mid e a. none p mid (omega (arith, a, below)) e) in
     begun (most o) (lowered s text f r rest l (suc (level_of o)) below (at_most grown) all none) (λ x y end c. goes_on h refl w c)
 
+-- an operator of the level or a tighter one, with its right side, is added to what there is so far
 pub climb_more : (s : Scope) (at : ℕ) (text : List ℕ) (f : Formula) (r : Ranges) (rest : List ℕ) (o : Operator) (after : List ℕ) (g : Formula) (t : Ranges) (behind : List ℕ)
     → ClimbSoFar s at text f r rest → (follow_at rest ≡ Ok (Infix o, after)) × (at ≤ level_of o) → length after ≤ length rest → Level s (level_of o + 1) after g t behind → length behind < length after
     → ClimbSoFar s at text (Joined o f g) (first_of (used r) (used t)) behind
@@ -160,34 +164,42 @@ climb_more s at text f r rest o after g t behind so h shrinks v k =
       shorter = omega (arith, so.shorter, k, shrinks);
     }
 
+-- an expression of a level is whole where no operator of that level or a tighter one follows
 pub climb_done : (s : Scope) (at : ℕ) (text : List ℕ) (f : Formula) (r : Ranges) (rest : List ℕ) → ClimbSoFar s at text f r rest → NoneFrom at rest → Level s at text f r rest
 climb_done s at text f r rest so n =
     lowered s text f r rest so.level at so.from (at_most so.so_far) (closed so.so_far (λ o mid e k. n o mid (omega (arith, k, so.from)) e)) n
 
+-- a fault on the right side of an operator is one of the expression
 pub climb_refused : (s : Scope) (at : ℕ) (text : List ℕ) (f : Formula) (r : Ranges) (rest : List ℕ) (o : Operator) (after : List ℕ) (e : Refusal)
     → ClimbSoFar s at text f r rest → (follow_at rest ≡ Ok (Infix o, after)) × (at ≤ level_of o) → Refuses s after e → Refuses s text e
 climb_refused s at text f r rest o after e so h x = later s AnOperand text AnOperand after e (λ i. (i, joined (so.walked i) (follow_step h.0 refl))) x
 
 -- ---- operands
 
+-- a fault behind a sign is one of the operand
 pub sign_refused : (s : Scope) (text : List ℕ) (g : Sign) (mid : List ℕ) (e : Refusal) → Ok (leads.Prefix g, mid) ≡ lead_at s text → Refuses s mid e → Refuses s text e
 sign_refused s text g mid e h x = later s AnOperand text AnOperand mid e (λ i. (i, lead_step (sym h) refl)) x
 
+-- a fault in parentheses is one of the operand
 pub group_refused : (s : Scope) (text inner : List ℕ) (e : Refusal) → Ok (leads.Open, inner) ≡ lead_at s text → Refuses s inner e → Refuses s text e
 group_refused s text inner e h x = later s AnOperand text AnOperand inner e (λ i. (Group ∷ i, lead_step (sym h) refl)) x
 
+-- an expression without its closing parenthesis is a fault of the operand
 pub group_unclosed : (s : Scope) (text inner : List ℕ) (f : Formula) (r : Ranges) (mid : List ℕ) (stop : Stop)
     → Ok (leads.Open, inner) ≡ lead_at s text → Level s 0 inner f r mid → Err stop ≡ close_at mid → Refuses s text (Stopped stop)
 group_unclosed s text inner f r mid stop h v e = λ i. (AnOperator, Group ∷ i, mid, joined (lead_step (sym h) refl) (level_walk v (Group ∷ i)), group_open i mid stop (no_operator s inner f r mid v) e)
 
+-- a fault behind the name of a call is one of the operand
 pub call_refused : (s : Scope) (text : List ℕ) (g : Function) (left : ℕ) (mid : List ℕ) (e : Refusal) → Ok (leads.Name g left, mid) ≡ lead_at s text → CallRefuses s g left mid e → Refuses s text e
 call_refused s text g left mid e h x = later s AnOperand text (ItsBracket g left) mid e (λ i. (i, lead_step (sym h) refl)) x
 
 -- ---- whole texts
 
+-- a fault where an operand is due is one of the whole text
 pub whole_refused : (s : Scope) (text : List ℕ) (e : Refusal) → Refuses s text e → WholeRefuses s text e
 whole_refused s text Memory x = tt
 whole_refused s text (Stopped stop) x = x []
 
+-- an expression that the text doesn't end behind is a fault of the whole text
 pub whole_unended : (s : Scope) (text : List ℕ) (f : Formula) (r : Ranges) (rest : List ℕ) (stop : Stop) → Level s 0 text f r rest → Err stop ≡ end_at rest → WholeRefuses s text (Stopped stop)
 whole_unended s text f r rest stop v e = (AnOperator, [], rest, level_walk v [], whole_open rest stop (no_operator s text f r rest v) e)

@@ -58,6 +58,7 @@ constant_good text =
     (λ _. bind_with (WholeGood (2 ^ 63 - 1)) ConstantGood (whole_of (2 ^ 63 - 1) (drop 1 text)) positive (whole_good (2 ^ 63 - 1) (drop 1 text)) (λ _. tt) (λ n h. h))
     (λ _. bind_with (WholeGood (2 ^ 63 - 1)) ConstantGood (whole_of (2 ^ 63 - 1) text) positive (whole_good (2 ^ 63 - 1) text) (λ _. tt) (λ n h. h)))
 
+-- a constant that was read is a number from -2^63 to 2^63 - 1
 pub constant_range : (text : List ℕ) (z : ℤ) → constant_of text ≡ Ok z → InRange z
 constant_range text z e = subst (λ (x : Result ℤ Stop). ConstantGood x) e (constant_good text)
 
@@ -124,6 +125,7 @@ formula_text text e = ap found (nothing_added text e)
     found : List ℕ → Option (List ℕ)
     found x = Some x
 
+-- the text of a content that was read has that content
 pub reads_back : (s : Shape) (text : List ℕ) (p : PlainContent) → ReadsLong s text p → ReadsLong s (content_text p) p
 reads_back s text p blank = blank
 reads_back s text p (constant t z l n e) = constant_back s z (constant_range t z e)

@@ -41,6 +41,7 @@ none_case l bs o e k =
     let y : ◌≡◌ {A = Option (Operator × List ℕ)} (Some (o, bs)) None = sym x ∙ e in
     absurd cc
 
+-- where no operator of the level or a tighter one was found, none is at the front
 pub none_here : (l : ℕ) (text : List ℕ) → None ≡ operator_from l text → NoneFrom l text
 none_here l text e o rest k h = none_case l rest o (sym (ap (from_level l) h) ∙ sym e) k
 
@@ -61,9 +62,11 @@ semicolon_case (Ok (Close, bs)) rest e = absurd cc
 semicolon_case (Ok (End, bs)) rest e = absurd cc
 semicolon_case (Err s) rest e = absurd cc
 
+-- a semicolon that was found is the token at the front
 pub semicolon_here : (text rest : List ℕ) → Some rest ≡ semicolon_at text → follow_at text ≡ Ok (Semicolon, rest)
 semicolon_here text rest e = semicolon_case (follow_at text) rest (sym e)
 
+-- where no semicolon was found, none is at the front
 pub no_semicolon : (text : List ℕ) → None ≡ semicolon_at text → NoSemicolon text
 no_semicolon text e rest h = let x : Some rest ≡ None = sym (ap behind_semicolon h) ∙ sym e in cc
 
@@ -74,6 +77,7 @@ close_case text (Ok (Semicolon, bs)) rest e = absurd cc
 close_case text (Ok (End, bs)) rest e = absurd cc
 close_case text (Err s) rest e = absurd cc
 
+-- a closing bracket that was found is the token at the front
 pub close_here : (text rest : List ℕ) → Ok rest ≡ close_at text → follow_at text ≡ Ok (Close, rest)
 close_here text rest e = close_case text (follow_at text) rest (sym e)
 
@@ -84,6 +88,7 @@ end_case text (Ok (Semicolon, bs)) rest e = absurd cc
 end_case text (Ok (Close, bs)) rest e = absurd cc
 end_case text (Err s) rest e = absurd cc
 
+-- an end that was found is the token at the front
 pub end_here : (text rest : List ℕ) → Ok rest ≡ end_at text → follow_at text ≡ Ok (End, rest)
 end_here text rest e = end_case text (follow_at text) rest (sym e)
 
@@ -119,6 +124,7 @@ group_case i text s (Ok (Semicolon, bs)) h n e = turned s _ e
 group_case i text s (Ok (End, bs)) h n e = turned s _ e
 group_case i text s (Err u) h n e = ap Stops (error_here text u h) ∙ turned s _ e
 
+-- in parentheses, what is neither an operator nor a closing one is the fault there
 pub group_open : (i : List Bracket) (text : List ℕ) (s : Stop) → NoOperator text → lost s ≡ close_at text → by_follow (Group ∷ i) text (follow_at text) ≡ Stops s
 group_open i text s n e = group_case i text s (follow_at text) refl n e
 
@@ -130,6 +136,7 @@ call_case f k name i text s (Ok (Semicolon, bs)) h n m e = absurd (m bs h)
 call_case f k name i text s (Ok (End, bs)) h n m e = turned s _ e
 call_case f k name i text s (Err u) h n m e = ap Stops (error_here text u h) ∙ turned s _ e
 
+-- in a call, what is neither an operator nor a semicolon nor a closing bracket is the fault there
 pub call_open : (f : Function) (k name : ℕ) (i : List Bracket) (text : List ℕ) (s : Stop) → NoOperator text → NoSemicolon text → lost s ≡ close_at text → by_follow (Call f k name ∷ i) text (follow_at text) ≡ Stops s
 call_open f k name i text s n m e = call_case f k name i text s (follow_at text) refl n m e
 
@@ -140,6 +147,7 @@ whole_case text s (Ok (Semicolon, bs)) h n e = turned s _ e
 whole_case text s (Ok (Close, bs)) h n e = turned s _ e
 whole_case text s (Err u) h n e = ap Stops (error_here text u h) ∙ turned s _ e
 
+-- with no bracket open, what is neither an operator nor the end is the fault there
 pub whole_open : (text : List ℕ) (s : Stop) → NoOperator text → lost s ≡ end_at text → by_follow [] text (follow_at text) ≡ Stops s
 whole_open text s n e = whole_case text s (follow_at text) refl n e
 

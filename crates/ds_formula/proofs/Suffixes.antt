@@ -33,6 +33,7 @@ itself text = ([], refl)
 more : (b : ℕ) (bs rest : List ℕ) → Behind bs rest → Behind (b ∷ bs) rest
 more b bs rest h = (b ∷ h.0, ap (λ (x : List ℕ). b ∷ x) h.1)
 
+-- an end of an end of a text is an end of the text
 pub further : (text mid rest : List ℕ) → Behind text mid → Behind mid rest → Behind text rest
 further text mid rest h k = (h.0 ++ k.0, h.1 ∙ ap (λ (x : List ℕ). h.0 ++ x) k.1 ∙ sym (append_assoc h.0 k.0 rest))
 
@@ -58,6 +59,7 @@ abbrev RestIn : List ℕ → Result (List ℕ) Stop → Type 0
 RestIn text (Ok rest) = Behind text rest
 RestIn text (Err e) = Unit {0}
 
+-- what is behind white space is an end of the text
 pub skipped_behind : (text : List ℕ) → Behind text (skipped text)
 skipped_behind [] = itself []
 skipped_behind (b ∷ bs) = either (λ (x : List ℕ). Behind (b ∷ bs) x) (is_space b) (skipped bs) (b ∷ bs) (λ _. more b bs (skipped bs) (skipped_behind bs)) (λ _. itself (b ∷ bs))
@@ -271,6 +273,7 @@ turn_in s (FirstArgument name) i text =
 turn_in s (ItsBracket f name) i text = by_bracket_in text f name i (byte_at 40 (skipped text)) (byte_in text 40 (skipped text) (skipped_behind text))
 turn_in s AnOperator i text = by_follow_in text i (follow_at text) (follow_in text)
 
+-- what is behind the tokens of a walk is an end of its text
 pub walk_in : {s : Scope} {d e : Due} {i j : List Bracket} {text rest : List ℕ} → Walk s d i text e j rest → Behind text rest
 walk_in {text = text} stay = itself text
 walk_in {s} {d = d} {i = i} {text = text} {rest = rest} (step {next = next} h v) = further text next rest (subst (TurnIn text) h (turn_in s d i text)) (walk_in v)
@@ -306,5 +309,6 @@ body_in : (text : List ℕ) → BodyIn text (expression_of text)
 unfolding expression_of
 body_in text = skips_in text _ (or_in text _ _ (behind_in (61 ∷ []) text) (behind_in (111 ∷ 102 ∷ 58 ∷ 61 ∷ []) text))
 
+-- the expression of a formula is an end of its text
 pub body_behind : (text body : List ℕ) → expression_of text ≡ Some body → Behind text body
 body_behind text body e = subst (BodyIn text) e (body_in text)

@@ -20,10 +20,12 @@ abbrev pub separator : ℕ → List ℕ
 separator zero = []
 separator (suc n) = 59 ∷ []
 
+-- nothing stands before the first argument
 pub no_separator : (i : ℕ) → i ≤ 0 → separator i ≡ []
 no_separator zero h = refl
 no_separator (suc n) h = absurd (omega (arith, h))
 
+-- a semicolon stands before each further argument
 pub some_separator : (i : ℕ) → 0 < i → separator i ≡ 59 ∷ []
 some_separator zero h = absurd (omega (arith, h))
 some_separator (suc n) h = refl
@@ -38,6 +40,7 @@ texts_step ts i t h e =
     ap (λ (x : List Formula). texts_of (listed x)) (one_more ts i t h e) ∙ texts_more (map formula (take i ts)) (formula t)
     ∙ ap (λ (k : ℕ). texts_of (listed (map formula (take i ts))) ++ (separator k ++ text_of (formula t))) n
 
+-- its separator and one argument more extend the text of the arguments so far
 pub argument_written : (ts : List Tree) (i : ℕ) (t : Tree) (start mid parted new : List ℕ) → i < length ts → t ≡ get_or ts i t → mid ≡ start ++ texts_of (listed (map formula (take i ts))) → parted ≡ mid ++ separator i → new ≡ parted ++ text_of (formula t)
     → new ≡ start ++ texts_of (listed (map formula (take (i + 1) ts)))
 argument_written ts i t start mid parted new h e p q r =
@@ -46,6 +49,7 @@ argument_written ts i t start mid parted new h e p q r =
     let y : ((start ++ before) ++ separator i) ++ text_of (formula t) ≡ start ++ (before ++ (separator i ++ text_of (formula t))) = simp append_assoc in
     x ∙ y ∙ ap (λ (z : List ℕ). start ++ z) (sym (texts_step ts i t h e))
 
+-- a function's name, and its arguments in brackets, are the text of the call
 pub call_written : {A E : Type 0} (r : Result A E) (g : Function) (v : Vec Tree) (ts : List Tree) (i : ℕ) (tree : Tree) (old named opened looped new : List ℕ)
     → tree ≡ Call g v → ts ≡ v.items → length ts ≤ i → named ≡ old ++ name_of g → opened ≡ named ++ 40 ∷ [] → looped ≡ opened ++ texts_of (listed (map formula (take i ts))) → new ≡ cond (is_ok r) (looped ++ 41 ∷ []) looped
     → OnOk r (new ≡ old ++ text_of (formula tree))

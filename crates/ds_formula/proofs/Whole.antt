@@ -111,6 +111,7 @@ content_of s text c d (computed t b f r n e m k) blank = absurd (empty_body b n)
 content_of s text c d (computed t b f r n e m k) (constant t2 z2 l2 n2 e2) = absurd (no_body t b n2 n)
 content_of s text c d (computed t b f r n e m k) (computed t2 b2 f2 r2 n2 e2 m2 k2) = ap Computed (one_expression s b b2 f f2 r r2 (same_body t b b2 n n2) e e2).0
 
+-- a text has no two contents
 pub only_content : (s : Shape) (text : List ℕ) (c d : PlainContent) → Reads s text c → Reads s text d → c ≡ d
 only_content s text c d a b = content_of (scope_of s) text c d a.reads b.reads
 
@@ -131,6 +132,7 @@ both_of s text c x (computed t b f r n e m k) (in_formula t2 b2 p2 n2 e2) = not_
 both_of s text c x (computed t b f r n e m k) (range t2 b2 f2 r2 left2 n2 e2 m2) = placed_or_not r r2 left2 (one_expression s b b2 f f2 r r2 (same_body t b b2 n n2) e e2).1 m m2
 both_of s text c x (computed t b f r n e m k) (too_deep t2 b2 f2 r2 n2 e2 m2 k2) = k2 (subst Fits (one_expression s b b2 f f2 r r2 (same_body t b b2 n n2) e e2).0 k)
 
+-- a text that has a content has no fault
 pub only_one : (s : Shape) (text : List ℕ) (c : PlainContent) (x : TextFault) → Reads s text c → Faults s text x → ⊥
 only_one s text c x a (too_long l) = omega (arith, a.short, l)
 only_one s text c x a (within x2 l f) = both_of (scope_of s) text c x a.reads f
@@ -158,6 +160,7 @@ fault_of s text x y (too_deep t b f r n e m k) (in_formula t2 b2 p2 n2 e2) = abs
 fault_of s text x y (too_deep t b f r n e m k) (range t2 b2 f2 r2 left2 n2 e2 m2) = absurd (placed_or_not r r2 left2 (one_expression s b b2 f f2 r r2 (same_body t b b2 n n2) e e2).1 m m2)
 fault_of s text x y (too_deep t b f r n e m k) (too_deep t2 b2 f2 r2 n2 e2 m2 k2) = refl
 
+-- a text has no two faults
 pub only_fault : (s : Shape) (text : List ℕ) (x y : TextFault) → Faults s text x → Faults s text y → x ≡ y
 only_fault s text x y (too_long l) (too_long l2) = refl
 only_fault s text x y (too_long l) (within x2 l2 f2) = absurd (omega (arith, l, l2))
@@ -166,6 +169,7 @@ only_fault s text x y (within x1 l f) (within x2 l2 f2) = fault_of (scope_of s) 
 
 -- ---- the answer
 
+-- an empty text has the blank content
 pub blank_read : (s : Shape) (text : List ℕ) → length text ≡ 0 → Reads s text Empty
 blank_read s [] h = record { short = omega arith; reads = blank }
 blank_read s (b ∷ bs) h = absurd (omega (arith, h))
@@ -174,6 +178,7 @@ refused : (s : Scope) (text body : List ℕ) (f : Formula) (r : Ranges) (e : Tex
 refused s text body f r e b v (misplaced_range left h) = range text body f r left b v h
 refused s text body f r e b v (too_large h k) = too_deep text body f r b v h k
 
+-- a formula's answer is right where it accepts or refuses the expression that is the whole text
 pub formula_answer : (s : Shape) (text body : List ℕ) (f : Formula) (r : Ranges) (x : Result Content TextFault) → length text ≤ TEXT_LIMIT → expression_of text ≡ Some body → Expression (scope_of s) body f r
     → IfOk x (λ c. IsAccepted r f (plain c)) → IfErr x (λ e. IsRefused text r f e) → Answers s text x
 formula_answer s text body f r (Ok c) l b v ok err = subst (λ (p : PlainContent). Reads s text p) (sym ok.is) (record { short = l; reads = computed text body f r b v ok.placed ok.fits })

@@ -96,6 +96,7 @@ wrapped_leads : (t : Bool) (text rest : List ℕ) → Leads (text ++ rest) → L
 wrapped_leads true text rest h = record { no_equals = refl; no_greater = refl }
 wrapped_leads false text rest h = h
 
+-- a written expression begins with no `=` or `>`, which would lengthen an operator before it
 pub text_leads : (s : Shape) (f : Formula) (rest : List ℕ) → Formed s f → Leads (text_of f ++ rest)
 text_leads s (Literal z) rest h = subst (λ (x : ℤ). Leads (signed_decimal x ++ rest)) (sym h.is) (decimal_leads h.value rest (omega (arith, h.small)))
 text_leads s (At c) rest h = record { no_equals = refl; no_greater = refl }

@@ -38,16 +38,19 @@ no_field [] i is = refl
 no_field (f ∷ fields) zero is = absurd (cc)
 no_field (f ∷ fields) (suc i) is = no_field fields i is
 
+-- a cell's text is the field of its record that stands there
 pub text_some : (rows : List Row) (cell : Cell) (row : Row) (x : List ℕ) → cell.row < length rows → row ≡ get_or rows cell.row row → Some x ≡ field_at (fields_of row) cell.column → x ≡ text_at (map fields_of rows) cell
 text_some rows cell row x lt at is =
     sym (some_field (fields_of row) cell.column x is) ∙ ap (λ (r : Row). slice_index_or (fields_of r) cell.column []) at ∙ sym (ap (λ (r : List (List ℕ)). slice_index_or r cell.column []) (row_at rows cell.row row lt))
 
+-- a cell without a field in its record has the empty text
 pub text_none : (rows : List Row) (cell : Cell) (row : Row) → cell.row < length rows → row ≡ get_or rows cell.row row → None ≡ field_at (fields_of row) cell.column → [] ≡ text_at (map fields_of rows) cell
 text_none rows cell row lt at is =
     sym (no_field (fields_of row) cell.column is) ∙ ap (λ (r : Row). slice_index_or (fields_of r) cell.column []) at ∙ sym (ap (λ (r : List (List ℕ)). slice_index_or r cell.column []) (row_at rows cell.row row lt))
 
 -- ---- records of one length
 
+-- one record more that has as many fields as those before
 pub even_more : (rows : List Row) (i columns : ℕ) (row : Row) → i < length rows → row ≡ get_or rows i row → length (fields_of row) ≡ columns
     → ((r : ℕ) → r < i → width (map fields_of rows) r ≡ columns) → (r : ℕ) → r < i + 1 → width (map fields_of rows) r ≡ columns
 even_more rows i columns row lt at is before r below = elim (cases_lt r i) [
@@ -69,6 +72,7 @@ pushed (z ∷ xs) x y (suc i) is = elim (pushed xs x y i is) [
   | inr late ↦ inr ((let l = late.0 in omega arith), late.1)
 ]
 
+-- the content of the next cell's text, behind those of the cells before
 pub read_more : (shape : Shape) (rows : List (List (List ℕ))) (contents : List Content) (content : Content) (index : ℕ) (cell : Cell) (text : List ℕ) → AreRead shape rows contents → length contents ≡ index
     → cell ≡ cell_at shape index → text ≡ text_at rows cell → Reads shape text (plain content) → AreRead shape rows (contents ++ content ∷ [])
 read_more shape rows contents content index cell text read all at is now k x found = elim (pushed contents content x k found) [
@@ -94,6 +98,7 @@ first_fault shape rows contents index cell text fault read all back inside is (i
 
 -- ---- the report
 
+-- a grid fails as the reading of its contents does
 pub fails_of : (bytes : List ℕ) (rows : List (List (List ℕ))) (shape : Shape) (end : GridEnd) → IsCsv bytes rows → IsGridOf rows shape → FailsAt shape rows end → Fails bytes end
 fails_of bytes rows shape (ends.CellFault cell fault) csv grid first = record { rows = rows; csv = csv; shape = shape; grid = grid; first = first }
 fails_of bytes rows shape ends.NoMemory csv grid first = tt

@@ -36,6 +36,7 @@ both a b e f = ap (λ t. t && b) e ∙ f
 head_with : ℕ → ℕ → ℕ → Head
 head_with stamp process number = record { stamp = stamp; process = process; number = number }
 
+-- the word of a head is that head
 pub head_of-head_word : (processes : ℕ) (h : Head) → IsHead processes h → head_of processes (head_word h) ≡ Some h
 unfolding head_with
 head_of-head_word processes h k =
@@ -61,6 +62,7 @@ right : (a b : Bool) → (a && b) ≡ true → b ≡ true
 right true b e = e
 right false b e = absurd (false≢true e)
 
+-- a word of 64 bits that is a head is the word of it, and its process is one of the sheet
 pub IsHead-head_of : (processes word : ℕ) (h : Head) → word < 2 ^ 64 → head_of processes word ≡ Some h → IsHead processes h × (head_word h ≡ word)
 unfolding head_with
 IsHead-head_of processes word h small e =
@@ -227,6 +229,7 @@ code_small Pending = omega arith
 code_small Done = omega arith
 code_small NotDone = omega arith
 
+-- the word of an announcement is that announcement
 pub announcement_of-announcement_word : (a : Announcement) → IsAnnouncement a → announcement_of (announcement_word a) ≡ Some a
 announcement_of-announcement_word a k =
     let code : ℕ = phase_code a.phase in
@@ -246,6 +249,7 @@ announcement_of-announcement_word a k =
 header_with : ℕ → ℕ → Header
 header_with cell length = record { cell = cell; length = length }
 
+-- the word of a header is that header
 pub header_of-header_word : (cells : ℕ) (h : Header) → headers.CanPack h → IsHeader cells h → header_of cells (header_word h) ≡ Some h
 unfolding header_with
 header_of-header_word cells h c k =
@@ -285,6 +289,7 @@ shown cells Circular height value fits k =
     let at : height ≡ cells = k.0 in
     shown_past cells (cast_unsigned w64 value) (height * 8 + 4) (omega arith) ∙ ap (λ n. shown_with Circular n (pos 0)) (sym k.0) ∙ ap (λ z. shown_with Circular height z) (sym k.1)
 
+-- the two words of what a cell can show say just that
 pub stored_of-words : (cells : ℕ) (s : Stored) → FitsSigned w64 s.value → IsStored cells s → stored_of cells (value_word s) (kind_word s) ≡ s
 unfolding shown_with
 stored_of-words cells s fits k = shown cells s.kind s.height s.value fits k
@@ -355,6 +360,7 @@ announced_of number code a e = first (code == 1) (eqb-true code 1) e
         (ap (λ (x : Announcement). x.number) (sym same), ap (λ (x : Announcement). phase_code x.phase) (sym same) ∙ sym (t refl))
     first false t e = second (code == 2) (eqb-true code 2) e
 
+-- a word that is an announcement is the word of it, and its number is that of a record
 pub IsAnnouncement-announcement_of : (word : ℕ) (a : Announcement) → announcement_of word ≡ Some a → IsAnnouncement a × (announcement_word a ≡ word)
 IsAnnouncement-announcement_of word a e = none (word / 4 == 0) (nat_lt RECORDS (word / 4)) (eqb-false (word / 4) 0) (ltb-false RECORDS (word / 4)) e
   where
@@ -388,6 +394,7 @@ stored_by_is cells height code value h = first (code == 0)
     first true = (h, refl)
     first false = second (code == 1)
 
+-- whatever two words say, a cell can show it
 pub IsStored-stored_of : (cells value kind : ℕ) → IsStored cells (stored_of cells value kind)
 IsStored-stored_of cells value kind = by_test (nat_lt (kind / 8) cells) (ltb-true (kind / 8) cells)
   where

@@ -80,6 +80,7 @@ code_cases x y = elim (cases_eq x.kind y.kind) [
   ]
 ]
 
+-- two places are the same or not
 pub place_cases : (r place : Place) → (r ≡ place) ⊎ (r ≢ place)
 place_cases r place = elim (code_cases (code_of r) (code_of place)) [
   | inl e ↦ inl (sym (place_back-code_of r) ∙ ap place_back e ∙ place_back-code_of place)

@@ -233,10 +233,12 @@ pub place_of-number_of : (layout : Layout) (place : Place) → IsPlace layout pl
 unfolding place_of number_of starts_of
 place_of-number_of layout place h = place_by-number_by (cells_of layout) (parts_of layout) layout.processes place h
 
+-- the number of a place of the sheet is below that of its words
 pub number_of_below : (layout : Layout) (place : Place) → IsPlace layout place → number_of layout place < words_of layout
 unfolding number_of starts_of
 number_of_below layout place h = number_by_below (cells_of layout) (parts_of layout) layout.processes place h
 
+-- the place with a number has that number
 pub number_of-place_of : (layout : Layout) (n : ℕ) → number_of layout (place_of layout n) ≡ n
 unfolding place_of number_of starts_of
 number_of-place_of layout n = number_by-place_by (cells_of layout) (parts_of layout) layout.processes n
@@ -247,6 +249,7 @@ some_parts layout =
     let some : 1 * 1 ≤ layout.shape.columns * layout.shape.rows = mul-le 1 1 layout.shape.columns layout.shape.rows w.some_columns w.some_rows in
     omega arith
 
+-- the place with a number below that of the sheet's words is one of the sheet
 pub IsPlace-place_of : (layout : Layout) (n : ℕ) → n < words_of layout → IsPlace layout (place_of layout n)
 unfolding place_of starts_of
 IsPlace-place_of layout n h = IsPlaceOf-place_by (cells_of layout) (parts_of layout) layout.processes n (some_parts layout) h
@@ -260,6 +263,7 @@ pub record AreClasses (layout : Layout) (classes : List Class) (n : ℕ) : Type 
   pub count : length classes ≡ n
   pub each : (k : ℕ) → k < n → get_or classes k Stamped ≡ class_of (place_of layout k)
 
+-- the next place's class, behind those of the words before
 pub one_more_class : (layout : Layout) (classes longer : List Class) (n : ℕ) (c : Class) (r : Place) → AreClasses layout classes n → longer ≡ classes ++ c ∷ [] → c ≡ class_of r → r ≡ place_of layout n
     → AreClasses layout longer (n + 1)
 one_more_class layout classes longer n c r h more is at = record {

@@ -43,6 +43,7 @@ is_place_of-true cells parts processes (Text edition process number part) h =
     and-true (nat_lt process processes) (nat_lt number RECORDS && nat_lt part (parts_in edition)) (lt-ltb process processes h.0) (and-true (nat_lt number RECORDS) (nat_lt part (parts_in edition)) (lt-ltb number RECORDS h.1) (lt-ltb part (parts_in edition) h.2))
 is_place_of-true cells parts processes (Done process part) h = and-true (nat_lt process processes) (nat_lt part DONE_PARTS) (lt-ltb process processes h.0) (lt-ltb part DONE_PARTS h.1)
 
+-- a place that the test takes for one of the sheet is one
 pub IsPlaceOf-is_place_of : (cells parts processes : ℕ) (place : Place) → is_place_of cells parts processes place ≡ true → IsPlaceOf cells parts processes place
 IsPlaceOf-is_place_of cells parts processes Version e = tt
 IsPlaceOf-is_place_of cells parts processes (Head cell) e = ltb-true cell cells e
@@ -76,16 +77,19 @@ pub side_at_place : (layout : Layout) (side : ℕ → ℕ) (place : Place) → I
 unfolding side_at
 side_at_place layout side place h = ap (λ (b : Bool). if b then side (number_of layout place) else 0) (is_place-true layout place h)
 
+-- a side that is the same at each word is the same at each place
 pub side_same : (layout : Layout) (f g : ℕ → ℕ) → ((n : ℕ) → f n ≡ g n) → (r : Place) → side_at layout f r ≡ side_at layout g r
 unfolding side_at
 side_same layout f g h r = same_if (is_place layout r) (f (number_of layout r)) (g (number_of layout r)) (λ e. h (number_of layout r))
 
+-- a side that changes at one word alone changes at that word's place alone
 pub side_other : (layout : Layout) (f g : ℕ → ℕ) (place : Place) → IsPlace layout place → ((n : ℕ) → n ≢ number_of layout place → f n ≡ g n) → (r : Place) → r ≢ place → side_at layout f r ≡ side_at layout g r
 unfolding side_at
 side_other layout f g place k h r ne =
     same_if (is_place layout r) (f (number_of layout r)) (g (number_of layout r))
     (λ e. h (number_of layout r) (λ same. ne (number_of_alone layout r place (IsPlace-is_place layout r e) k same)))
 
+-- a side that is 0 at each word is 0 at each place
 pub side_zero : (layout : Layout) (f : ℕ → ℕ) → ((n : ℕ) → f n ≡ 0) → (r : Place) → side_at layout f r ≡ 0
 unfolding side_at
 side_zero layout f h r = same_if (is_place layout r) (f (number_of layout r)) 0 (λ e. h (number_of layout r)) ∙ zero_if (is_place layout r)
@@ -204,6 +208,7 @@ module _ (layout : Layout) (old new : Memory ℕ) where
   )
   performs_at classes fit Back p answer k h = (h.0, backs_at p k.1.1 h.1)
 
+-- a fresh memory of words is a fresh memory of places
 pub fresh_at : (layout : Layout) (m : Memory ℕ) → IsFresh m → IsFresh (memory_at layout m)
 fresh_at layout m h = record {
   cached = side_zero layout m.cached h.cached;
@@ -267,6 +272,7 @@ can_perform_in layout v s e h p access given is k =
     subst (λ (a : Access ℕ). words.CanPerform v p a) (sym is)
     (can_perform layout v h p access (subst (λ (x : SheetValue). CanPerform x.layout (memory x) p access) (sym e) k))
 
+-- what an access does to the words it does to the places
 pub performs_in : (layout : Layout) (v u : WordsValue) (s : SheetValue) → (let made : SheetValue = record { layout = layout; words = v } in made) ≡ s → IsLaidOut layout v → (p : ℕ) (access : Access Place) (given : Access ℕ) (answer : ℕ)
     → given ≡ access_at layout access → CanPerform s.layout (memory s) p access → Performs (class_at v) given p (memory_of v) (memory_of u) answer
     → PerformsAt access p (memory s) (memory_at layout (memory_of u)) answer

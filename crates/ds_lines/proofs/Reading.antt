@@ -57,6 +57,7 @@ unchanged_by sql old new rows plain h =
     let none = (subst IsPlain h.1.is plain).0 in
     (subst (ShowsRows old new sql h.0 _ rows) none h.2).3
 
+-- what is shown of a table with these lines is each line with its number, and the table stays
 pub lists : (old new : State) (rows : List Row) (lines : List (List ℕ)) → Holds lines old.now → Shown select_text [] old new rows
     → AreListed lines rows × Holds lines new.now
 lists old new rows lines has h =

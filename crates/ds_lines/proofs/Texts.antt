@@ -13,9 +13,11 @@ use Rattle.sqlite.specs.Listing.{understood, reads_listing}
 use Rattle.sqlite.proofs.Callers.{IsPlain, command_of, statement_of}
 use Rattle.ds_lines.specs.Tables.{journal, journal_schema, no_schema}
 
+-- the statement that makes the table
 abbrev pub create_text : List ℕ
 create_text = codes "CREATE TABLE journal (number INTEGER PRIMARY KEY, line TEXT NOT NULL) STRICT"
 
+-- the statement that inserts a line
 abbrev pub insert_text : List ℕ
 insert_text = codes "INSERT INTO journal (line) VALUES (?1)"
 
@@ -23,18 +25,22 @@ insert_text = codes "INSERT INTO journal (line) VALUES (?1)"
 abbrev pub terms : List Term
 terms = lit Null ∷ lit Null ∷ col 0 0 ∷ []
 
+-- `create_text` makes the table `journal`
 pub create_is : (command_of (understood no_schema create_text) ≡ CreateTable) × (statement_of create_text (understood no_schema create_text) ≡ create_text) × (table_defined_by create_text ≡ Ok journal)
 unfolding understood everything
 create_is = (refl, refl, refl)
 
+-- it has no RETURNING, and does not read the time
 pub create_plain : IsPlain (understood no_schema create_text)
 unfolding understood everything
 create_plain = (refl, refl)
 
+-- `insert_text` puts a line into the table, as a new row
 pub insert_is : command_of (understood journal_schema insert_text) ≡ Insert 0 (Values terms 3)
 unfolding understood everything
 insert_is = refl
 
+-- it has no RETURNING, and does not read the time
 pub insert_plain : IsPlain (understood journal_schema insert_text)
 unfolding understood everything
 insert_plain = (refl, refl)
@@ -64,6 +70,7 @@ went (inr on) = on
 pub same_value : {B E : Type 0} {a b : B} → ◌≡◌ {A = Result B E} (Ok a) (Ok b) → a ≡ b
 same_value e = cc
 
+-- the statement that reads the lines
 abbrev pub select_text : List ℕ
 select_text = codes "SELECT number, line FROM journal ORDER BY number"
 
@@ -81,10 +88,12 @@ query = record {
   offset = lit (Int (pos 0));
 }
 
+-- `select_text` reads the number and the line of each row, by the number, and no listing of the schema
 pub select_is : (command_of (understood journal_schema select_text) ≡ Select (record { lets = []; body = query }) (codes "number" ∷ codes "line" ∷ [])) × (reads_listing journal_schema select_text ≡ false)
 unfolding understood everything
 select_is = (refl, refl)
 
+-- it has no RETURNING, and does not read the time
 pub select_plain : IsPlain (understood journal_schema select_text)
 unfolding understood everything
 select_plain = (refl, refl)

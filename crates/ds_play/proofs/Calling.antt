@@ -12,14 +12,17 @@ use Rattle.ds_play.specs.ScriptTexts.{reply_text}
 use Rattle.ds_play.specs.Doing.{Says, Drives, called}
 use Rattle.ds_play.specs.Plays.{IsNoRound, halted, halt_text}
 
+-- a command whose call has begun drives its process
 pub begun_by : (w : WorldValue) (p : ℕ) (until : Until) (reply : Reply) → ((n : ℕ) × (reply ≡ Begun n)) ⊎ (reply ≡ Entered) → called w p until reply ≡ Drives p until
 begun_by w p until reply (inl h) = ap (λ (r : Reply). called w p until r) h.1
 begun_by w p until reply (inr h) = ap (λ (r : Reply). called w p until r) h
 
+-- a reply with a number, or that a call is entered, says that one has begun
 pub has_begun : (reply : Reply) → ((n : ℕ) × (reply ≡ Begun n)) ⊎ (reply ≡ Entered) → HasBegun reply
 has_begun reply (inl h) = subst HasBegun (sym h.1) tt
 has_begun reply (inr h) = subst HasBegun (sym h) tt
 
+-- a command whose call has not begun says the reply
 pub refused_by : (w : WorldValue) (p : ℕ) (until : Until) (reply : Reply) → ((n : ℕ) → reply ≡ Begun n → ⊥) → (reply ≡ Entered → ⊥) → called w p until reply ≡ Says (reply_text w p reply)
 refused_by w p until (Begun n) a b = absurd (a n refl)
 refused_by w p until Entered a b = absurd (b refl)

@@ -45,6 +45,7 @@ inside v p e good is = elim (cases_lt p v.sheet.layout.processes) [
   | inr ge ↦ absurd (let bad : Idle first_rest ≡ Working e = sym (get_or_past v.situations p (Idle first_rest) (let n = good.situations in omega arith)) ∙ is in cc)
 ]
 
+-- in a good world a process whose work doesn't wait wants a step
 pub wants_step : (v : WorldValue) (p : ℕ) → IsGood v → ((e : PlainWorkCall) → Waits (world_of v) p e → ⊥) → WantsStep v p
 wants_step v p good none = calls.wants_step v p (λ e works waits. none e (record { inside = inside v p e good works; works = works; waits = waits }))
 
@@ -67,10 +68,12 @@ module _ (old new : WorldValue) (p : ℕ) (until : Until) (wants : WantsStep old
 
 -- ---- options
 
+-- what follows from what holds of what is there holds of it, too
 pub if_some : {A : Type 0} (r : Option A) (P Q : A → Type 0) → ((x : A) → P x → Q x) → IfSome r P → IfSome r Q
 if_some (Some x) P Q f h = f x h
 if_some None P Q f h = tt
 
+-- what follows from what holds where there is nothing holds there, too
 pub if_none : {A : Type 0} (r : Option A) (P Q : Type 0) → (P → Q) → IfNone r P → IfNone r Q
 if_none (Some x) P Q f h = tt
 if_none None P Q f h = f h

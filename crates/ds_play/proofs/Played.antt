@@ -10,6 +10,7 @@ use Rattle.ds_play.specs.declared.drive.Until.{Until}
 use Rattle.ds_play.specs.Doing.{Doing, Says, Drives, asks, told}
 use Rattle.ds_play.specs.Plays.{Plays, Leads, Played, GoesOn}
 
+-- two plays of a command, one behind the other, are a play
 pub plays_on : (events : List Event) (replies : List Reply) (events' : List Event) (replies' : List Reply) (a b c : Doing) (old mid new : WorldValue)
     → Plays a old events replies b mid → Plays b mid events' replies' c new → Plays a old (events ++ events') (replies ++ replies') c new
 plays_on [] [] events' replies' a b c old mid new h k =
@@ -28,6 +29,7 @@ play_runs (event ∷ events) [] a b old new h = absurd h
 
 -- ---- where plays lead
 
+-- what leads a command on, twice, leads it on
 pub leads_on : (a b c : Doing) (old mid new : WorldValue) → Leads a old b mid → Leads b mid c new → Leads a old c new
 leads_on a b c old mid new h k = record {
   events = h.events ++ k.events;
@@ -35,9 +37,11 @@ leads_on a b c old mid new h k = record {
   plays = plays_on h.events h.replies k.events k.replies a b c old mid new h.plays k.plays;
 }
 
+-- no events lead a command to where it stands
 pub stays : (a b : Doing) (w : WorldValue) → b ≡ a → Leads a w b w
 stays a b w same = record { events = []; replies = []; plays = (same, refl) }
 
+-- a command leads on from where it stands, by whatever name
 pub leads_from : (a b c : Doing) (old new : WorldValue) → a ≡ b → Leads b old c new → Leads a old c new
 leads_from a b c old new is h = subst (λ (d : Doing). Leads d old c new) (sym is) h
 
@@ -45,6 +49,7 @@ leads_from a b c old new is h = subst (λ (d : Doing). Leads d old c new) (sym i
 pub one : (a b : Doing) (old new : WorldValue) (event : Event) (reply : Reply) → asks a old ≡ Some event → Fits old event reply new → told a event reply new ≡ b → Leads a old b new
 one a b old new event reply asked fits is = record { events = event ∷ []; replies = reply ∷ []; plays = (new, asked, fits, (sym is, refl)) }
 
+-- one event that leaves a process driven on leads the command from where it stands to there
 pub goes : (old new : WorldValue) (p : ℕ) (until : Until) → GoesOn old p until new → Leads (Drives p until) old (Drives p until) new
 goes old new p until h = one (Drives p until) (Drives p until) old new h.event h.reply h.asked h.fits h.on
 

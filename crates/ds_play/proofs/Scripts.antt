@@ -28,6 +28,7 @@ use Rattle.ds_play.proofs.Played.{play_runs}
 
 -- ---- runs
 
+-- the events up to a point of a script are a run
 pub carried_runs : (whole : Bool) (script : List ℕ) (lines : ℕ) (p : Progress) (out rest : List ℕ) → Carried whole script lines p out rest → WorldRun p.start p.events p.replies p.world
 carried_runs whole script lines p out rest (begins w made) = refl
 carried_runs whole script lines p out rest (skips n q o r line behind before next asks) = carried_runs whole script n q o r before
@@ -35,18 +36,21 @@ carried_runs whole script lines p out rest (makes n q o r line behind first colu
 carried_runs whole script lines p out rest (obeys n q o r line behind deed events replies answer new before next asks plays) =
     run_both q.events q.replies events replies q.start q.world new (carried_runs whole script n q o r before) (play_runs events replies (plan q.world deed) (Says answer) q.world new plays)
 
+-- the world that a point of a script began in is new
 pub carried_new : (whole : Bool) (script : List ℕ) (lines : ℕ) (p : Progress) (out rest : List ℕ) → Carried whole script lines p out rest → IsNew (world_of p.start)
 carried_new whole script lines p out rest (begins w made) = made.new
 carried_new whole script lines p out rest (skips n q o r line behind before next asks) = carried_new whole script n q o r before
 carried_new whole script lines p out rest (makes n q o r line behind first columns rows processes edition w before next asks made) = made.new
 carried_new whole script lines p out rest (obeys n q o r line behind deed events replies answer new before next asks plays) = carried_new whole script n q o r before
 
+-- the world that a point of a script began in is good
 pub carried_good : (whole : Bool) (script : List ℕ) (lines : ℕ) (p : Progress) (out rest : List ℕ) → Carried whole script lines p out rest → IsGood p.start
 carried_good whole script lines p out rest (begins w made) = made.good
 carried_good whole script lines p out rest (skips n q o r line behind before next asks) = carried_good whole script n q o r before
 carried_good whole script lines p out rest (makes n q o r line behind first columns rows processes edition w before next asks made) = made.good
 carried_good whole script lines p out rest (obeys n q o r line behind deed events replies answer new before next asks plays) = carried_good whole script n q o r before
 
+-- the run up to a point of a script has the headline
 pub carried_headline : (whole : Bool) (script : List ℕ) (lines : ℕ) (p : Progress) (out rest : List ℕ) → Carried whole script lines p out rest
     → (run : WorldRun p.start p.events p.replies p.world) → HasHeadline p.start p.events p.replies p.world run
 carried_headline whole script lines p out rest carried run =
@@ -87,6 +91,7 @@ obeyed_at whole script lines p out rest line behind before now then first' new c
   subst (λ (b : Begun). Led whole script (suc lines) b new (out ++ a.answer) behind) (sym a.begun_is) (obeyed_more whole script lines p out rest line behind a.order a.answer new carried next a.asks a.obeys),
 )
 
+-- a line that is obeyed leads on, and its answer stands behind those before
 pub line_more : (whole : Bool) (script : List ℕ) (lines : ℕ) (first : Begun) (w : WorldValue) (out rest line behind : List ℕ) (before now then : Option (List ℕ)) (first' : Begun) (new : WorldValue)
     → Led whole script lines first w out rest → Appends before now out → next_of whole rest ≡ ALine line behind → Obeyed first w line first' new now then
     → (out' : List ℕ) × Appends before then out' × Led whole script (suc lines) first' new out' behind
@@ -107,6 +112,7 @@ stops_at whole script lines p out rest line behind before now then failed stops.
     (out, subst (λ (o : Option (List ℕ)). Appends before o out) (sym s) written, inl (record { lines = lines; progress = p; rest = rest; carried = carried }))
 stops_at whole script lines p out rest line behind before now then failed stops.WriteFailed carried written next s = s
 
+-- a line that stops a script breaks it off there
 pub line_stops : (whole : Bool) (script : List ℕ) (lines : ℕ) (first : Begun) (w : WorldValue) (out rest line behind : List ℕ) (before now then : Option (List ℕ)) (failed : Bool) (stop : Stop)
     → Led whole script lines first w out rest → Appends before now out → next_of whole rest ≡ ALine line behind → Stopped first w line now then failed stop
     → RanLines whole script before then failed (Err (break_of (lines + 1) stop))
@@ -116,6 +122,7 @@ line_stops whole script lines first w out rest line behind before now then faile
 
 -- ---- endings
 
+-- what a script wrote fits how its input ended and how it did, but where a write failed
 pub writes_of : (whole : Bool) (script : List ℕ) (run : Result (Unit {0}) Break) (end : ScriptEnd) (input : InputEnd) (before now : Option (List ℕ)) (failed : Bool)
     → is_whole input ≡ whole → ((out : List ℕ) → Finishes whole script out → Writes input script out end) → RanLines whole script before now failed run → ending_of run end ≢ ends.WriteFailed
     → (out : List ℕ) × Appends before now out × Writes input script out (ending_of run end)
@@ -130,6 +137,7 @@ none_hidden (Err (breaks.Fault line kind)) end before now h ne = h
 none_hidden (Err breaks.NoMemory) end before now h ne = h
 none_hidden (Err breaks.WriteFailed) end before now h ne = absurd (ne refl)
 
+-- a script that stops hides no failed write, where what has failed stays but for a write that does
 pub same_after : (stop : Stop) (line : ℕ) (before now : Bool) → (stop ≢ stops.WriteFailed → now ≡ before) → HidesNone (Err (break_of line stop)) before now
 same_after (stops.Fault kind) line before now h = h (λ e. cc)
 same_after stops.NoMemory line before now h = h (λ e. cc)

@@ -298,6 +298,7 @@ clean_line p new (settle_ends.Left left) is = inl (ap left_text is.0)
 clean_line p new (settle_ends.Refused why) is = inr (inl (ap (λ (r : Refusal). refused_text p r) is))
 clean_line p new settle_ends.NoMemory is = inr (inr refl)
 
+-- a settle where each process is idle and marks are young says that all is clean, or that memory was wanting
 pub lone_says_clean : (p : ℕ) (old : WorldValue) (text : List ℕ) (new : WorldValue) → IsGood old → HasProcess old p → AreIdle (world_of old) → AreYoung (world_of old) (cells_of old.sheet.layout + 2)
     → Played (settle old p) old text new → SaysClean p text
 lone_says_clean p old text new good there idle young h =
@@ -312,6 +313,7 @@ run_good (event ∷ events) (reply ∷ replies) old new good run = run_good even
 run_good [] (reply ∷ replies) old new good run = absurd run
 run_good (event ∷ events) [] old new good run = absurd run
 
+-- the same, at a point of a script with few enough events
 pub script_says_clean : (whole : Bool) (script : List ℕ) (lines : ℕ) (at : Progress) (out rest : List ℕ) → Carried whole script lines at out rest → (p : ℕ) (text : List ℕ) (new : WorldValue) → HasProcess at.world p → AreIdle (world_of at.world)
     → length at.events + 2 * (cells_of at.world.sheet.layout + 2) ≤ SEEN_MOST → Played (plan at.world (Settle p)) at.world text new → SaysClean p text
 script_says_clean whole script lines at out rest carried p text new there idle few h =

@@ -106,6 +106,7 @@ starts old new p call _ fits h = absurd h
 
 -- ---- a settle
 
+-- a settle, up to each turn, leads its command to that turn
 pub settling_leads : (p : ℕ) (first : WorldValue) (turn : SettleStage) (new : WorldValue) → Settling p first turn new → Leads (settle first p) first (at_turn new p turn) new
 settling_leads p first turn new settling.begins = stays (settle first p) (settle first p) first refl
 settling_leads p first turn new (settling.works rounds cell old n result so_far whole) =
@@ -114,6 +115,7 @@ settling_leads p first turn new (settling.works rounds cell old n result so_far 
 
 -- ---- a process that the sheet does not have
 
+-- the begin of work of a process that the sheet doesn't have is answered by its reply alone
 pub of_nobody : (old new : WorldValue) (p : ℕ) (cell : Cell) (until : Until) (reply : Reply) → Fits old (BeginWork p cell) reply new → (p < old.sheet.layout.processes → ⊥) → called new p until reply ≡ Says (reply_text new p reply)
 of_nobody old new p cell until (Begun number) fits none = absurd fits.takes
 of_nobody old new p cell until Entered fits none = absurd (none fits.takes.named.process)

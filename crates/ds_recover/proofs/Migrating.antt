@@ -409,6 +409,7 @@ pub record Backed (p : ℕ) (r : Place) (v : ℕ) (old new : PlainWorld) : Type 
   pub mine : new.memory.buffer p ≡ []
   pub others : (q : ℕ) → q ≢ p → new.memory.buffer q ≡ old.memory.buffer q
 
+-- a write-back of a buffer's only entry is that entry's
 pub backed : (p : ℕ) (r : Place) (v : ℕ) (old new : PlainWorld) (first : BufferEntry Place) (rest : List (BufferEntry Place)) → old.memory.buffer p ≡ entry r v ∷ [] → WritesBack p first rest old.memory new.memory → Backed p r v old new
 backed p r v old new first rest one w =
     let both : first ∷ rest ≡ entry r v ∷ [] = sym w.oldest ∙ one in
@@ -584,6 +585,7 @@ migration_begins p old new sound real b =
 from_falls : (words n most : ℕ) → 4 < most → 4 + 4 * (words - n) < most → rank words (copy_from words n) < most
 from_falls words n most small h = by_test (λ s. rank words s < most) (nat_lt n words) (LoadOld n) Swap (λ b. h) (λ b. small)
 
+-- each step of a migration but the answer's leaves fewer
 pub migration_falls : (e : PlainMigrateCall) (s : MigrateStage) (word : ℕ) → IsCopied (old_words e.processes) s → ((how : _) → s ≡ Answer how → ⊥)
     → rank (old_words e.processes) (next_at e s word).stage < rank (old_words e.processes) s
 migration_falls e LoadVersion word is more = version (word == 0)
@@ -600,5 +602,6 @@ migration_falls e (FlushVersion how) word is more = omega arith
 migration_falls e (BackVersion how) word is more = omega arith
 migration_falls e (Answer how) word is more = absurd (more how refl)
 
+-- a migration of a sheet of P processes has at most 15,360 P + 5 steps
 pub migration_rank : (p processes : ℕ) → rank (old_words processes) (fresh p processes).stage ≡ 15360 * processes + 5
 migration_rank p processes = omega arith

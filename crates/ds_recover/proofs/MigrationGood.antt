@@ -25,6 +25,7 @@ pub record IsMoved (v : WorldValue) (p : ℕ) (e : PlainMigrateCall) : Type 0 wh
   pub there : p < length v.situations
   pub is : (world_of v).situation p ≡ Migrating e
 
+-- the process's situation that was read says which migration it is in
 pub moved_from : (v : WorldValue) (p : ℕ) (e : PlainMigrateCall) (read : Situation) → p < length v.situations → read ≡ get_or v.situations p read → read ≡ Migrating e → IsMoved v p e
 moved_from v p e read lt is here = record { there = lt; is = get_or_default v.situations p (Idle first_rest) read lt ∙ sym is ∙ here }
 

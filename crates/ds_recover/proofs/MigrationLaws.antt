@@ -21,16 +21,19 @@ no_report : (e : PlainMigrateCall) (s : MigrateStage) (word : ℕ) (f : PlainRep
 no_report e (Answer how) word f is = cc
 no_report e s word f is = cc
 
+-- what a step of a migration leaves is what a process's doing leaves
 pub migration_leaves : (e : PlainMigrateCall) (s : MigrateStage) (word : ℕ) (old new : PlainWorld) → IsSound old → e.process < old.layout.processes → old.situation e.process ≡ Migrating (at e s) → StepsAt e s word old new → Leaves e.process old new
 migration_leaves e s word old new sound real was t =
     let k = migration_keeps e s word old new sound real was t in
     leaves_same e.process old new k t.counted (middles_left e.process old new k (λ f is. no_report e s word f (sym t.situation ∙ is)))
 
+-- what the begin of a migration leaves is what a process's doing leaves
 pub begin_leaves : (p : ℕ) (old new : PlainWorld) → IsSound old → p < old.layout.processes → BeginsMigration p old new → Leaves p old new
 begin_leaves p old new sound real b =
     let k = migration_begins p old new sound real b in
     leaves_same p old new k b.counted (middles_left p old new k (λ f is. let both : Migrating (fresh p old.layout.processes) ≡ Reporting f = sym b.situation ∙ is in cc))
 
+-- in a sound world with a migration that is to answer, both sides say the second layout
 pub ends_second : (e : PlainMigrateCall) (how : MigrateEnd) (w : PlainWorld) → IsSound w → e.process < w.layout.processes → w.situation e.process ≡ Migrating e → e.stage ≡ Answer how → Agrees w.memory Second
 ends_second e how w sound real is last =
     let fit : MovesFit w e.process e = subst (λ (s : Situation). LayoutFits w e.process s) is (sound.layouts e.process real) in

@@ -55,5 +55,6 @@ module _ (e : PlainMigrateCall) (w : PlainWorld) (low : e.process < w.layout.pro
   buffered (BackVersion how) h b = first place.Version 1 b tt
   buffered (Answer how) h b = tt
 
+-- a migration that fits can perform the access of its stage
 pub possible : (e : PlainMigrateCall) (w : PlainWorld) → e.process < w.layout.processes → MigrationFits w e.process e → CanPerform w.layout w.memory e.process (access_at e e.stage)
 possible e w low fits = (named w.layout e fits.processes e.stage fits.is.stage, buffered e w low fits.processes e.stage fits.is.stage fits.buffer)

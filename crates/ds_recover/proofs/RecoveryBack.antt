@@ -31,6 +31,7 @@ use Rattle.ds_state.proofs.Sides.{EntryFits, IsBetween, newer_between}
 use Rattle.ds_state.proofs.Accesses.{Turn, store_moves, Backs, written_backs, back_moves, back_grows, back_sound}
 use Rattle.ds_recover.proofs.RecoveryFrame.{on, Passes, recovery_mine, recovery_apart, recovery_keeps, stays, silent_step}
 
+-- a cell that the process holds on both sides it holds so still, where its words only grow
 pub held_from : (p : ℕ) (old new : PlainWorld) → Grows p Version old new → (r : ℕ) → IsHeld old.memory p r → IsHeld new.memory p r
 held_from p old new g r k =
     let a = (g.holds r (λ x. cc)).cached k.by in
@@ -38,6 +39,7 @@ held_from p old new g r k =
     let by = k.by in
     record { by = omega arith; same = omega arith }
 
+-- an edit that both sides announce as pending is pending still, where the process's words only grow
 pub pends_from : (p : ℕ) (old new : PlainWorld) → Grows p Version old new → new.open_edits p ≡ old.open_edits p → (c : ℕ) → IsPending old p c → IsPending new p c
 pends_from p old new g pending c k = record {
   issue = k.issue;
@@ -47,6 +49,7 @@ pends_from p old new g pending c k = record {
   persisted = elim (g.owned_persisted (Announce p) refl (λ x. cc)) [ inl same ↦ same ∙ k.persisted | inr up ↦ up ∙ k.cached ];
 }
 
+-- a write-back is that of the buffer's first entry
 pub first_back : {p : ℕ} {old new : Memory Place} (x : BufferEntry Place) (xs : List (BufferEntry Place)) → old.buffer p ≡ x ∷ xs → BacksFirst p old new → WritesBack p x xs old new
 first_back {p} {old} {new} x xs holds (first, rest, m) =
     let both : x ∷ xs ≡ first ∷ rest = sym holds ∙ m.oldest in

@@ -39,6 +39,7 @@ last_none : (w : PlainWorld) (p n : ℕ) → n ≤ RECORDS → announcement_of (
 last_none w p zero few is = refl
 last_none w p (suc n) few is = absurd (none_some is (read n (phase_among w.counted p n) (omega arith)))
 
+-- a stopped process that announces nothing has 0 on both sides of its announcement
 pub unannounced : (w : PlainWorld) (p : ℕ) (o : Option PlainIssue) → DoubtFits w p o → announcement_of (w.memory.cached (Announce p)) ≡ None
     → (w.memory.cached (Announce p) ≡ 0) × (w.memory.persisted (Announce p) ≡ 0)
 unannounced w p None h is =
@@ -61,6 +62,7 @@ unannounced w p (Some issue) h is = at h.now h.before h.order h.cached h.persist
     at pending before order c v = absurd (none_some (ap announcement_of (sym c) ∙ is) (read e.number phase.Pending few))
     at (ended how) before order c v = absurd (none_some (ap announcement_of (sym c) ∙ is) (read e.number (phase_of how) few))
 
+-- an edit ended as done or as not done, by the list
 pub phases : (es : List PlainEdit) (p n : ℕ) → (phase_among es p n ≡ phase.Done) ⊎ (phase_among es p n ≡ phase.NotDone)
 phases [] p n = inr refl
 phases (x ∷ es) p n = choose (is_edit_of p n x) (phase_among es p n) (phases es p n)
@@ -87,6 +89,7 @@ pub record IsDoubted (w : PlainWorld) (p n : ℕ) (o : Option PlainIssue) : Type
   pub doubt : IsInDoubt w p issue
   pub now : doubt.now ≡ pending
 
+-- what a stopped process announces as pending is its edit in doubt
 pub pending_open : (w : PlainWorld) (p n : ℕ) (o : Option PlainIssue) → DoubtFits w p o → w.memory.cached (Announce p) ≡ announcement n phase.Pending → IsDoubted w p n o
 pending_open w p n None h is = absurd (last_not_pending w.counted p h.next n (sym h.rest.cached ∙ is))
 pending_open w p n (Some issue) h is = at h.now refl h.cached
@@ -120,6 +123,7 @@ recorded_reads w p issue h written word is =
     let back = header_of-header_word (cells_of w.layout) (record { cell = e.cell; length = length e.text }) (record { cell = omega arith; length = omega arith }) (record { cell = h.cell; length = h.text }) in
     ap (λ (x : ℕ). cell_from (header_of (cells_of w.layout) x)) there ∙ ap cell_from back
 
+-- a header read under a pending announcement names the cell of the edit in doubt
 pub header_reads : (w : PlainWorld) (p : ℕ) (issue : PlainIssue) → (h : IsInDoubt w p issue) → h.now ≡ pending → (word : ℕ) → word ≡ w.memory.cached (Header p issue.edit.number) → cell_from (header_of (cells_of w.layout) word) ≡ issue.edit.cell
 header_reads w p issue h now word is = recorded_reads w p issue h (subst (λ (a : Announced). Rattle.ds_state.specs.CallsFit.IsWritten w issue.edit a) now h.written) word is
 
@@ -133,6 +137,7 @@ ended_written w p word how issue h there tells own = by h.now h.cached h.written
     by pending c written = written
     by (ended end) c written = written
 
+-- a header read under an announced outcome names the cell of the edit in doubt, where that has the number
 pub ended_reads : (w : PlainWorld) (p word : ℕ) (how : Bool) (issue : PlainIssue) → IsInDoubt w p issue → w.memory.cached (Announce p) ≡ word → Tells word how → issue.edit.number + 1 ≡ word / 4
     → (seen : ℕ) → seen ≡ w.memory.cached (Header p (word / 4 - 1)) → cell_from (header_of (cells_of w.layout) seen) ≡ issue.edit.cell
 ended_reads w p word how issue h there tells own seen is =
@@ -154,6 +159,7 @@ both_eq a p b n h = elim (eqb_tells a p) [
   ]
 ]
 
+-- the test of a head's process and number holds where both are equal
 pub shown_own : (a p b n : ℕ) → a ≡ p → b ≡ n → (if a == p then b == n else false) ≡ true
 shown_own a p b n x y = elim (eqb_tells a p) [
   | inr other ↦ absurd (other.1 x)
@@ -163,6 +169,7 @@ shown_own a p b n x y = elim (eqb_tells a p) [
   ]
 ]
 
+-- an edit that counts has no number above all of its process's that count
 pub not_below : (w : PlainWorld) (f e : PlainEdit) → Contains w.counted f → f.process ≡ e.process → f.number ≡ e.number → AreBelow w e.process e.number → ⊥
 not_below w f e there p n below =
     let less : f.number < e.number = All-contains (λ (g : PlainEdit). g.process ≡ e.process → g.number < e.number) w.counted f below there p in

@@ -138,6 +138,7 @@ rests_some w p (Some issue) word how h is k = at_now h.now h.said h.cached
           cached = subst (λ (x : ℕ). w.memory.cached (Announce p) ≡ last_announcement w.counted p x) n (c ∙ l.0 ∙ ap (λ (q : ℕ). last_announcement w.counted q (suc e.number)) h.mine);
         }
 
+-- a recovery's process is, at its answer, at rest but for its open edit
 pub rests : (w : PlainWorld) (p word cell : ℕ) (how : Option Bool) → DoubtFits w p (w.open_edits p) → ResolvedFits w p word cell (over how) → Rests w p (next_number word how)
 rests w p word cell None h k = rests_none w p (w.open_edits p) h (let a = k.0 in let b = k.2 in omega arith)
 rests w p word cell (Some how) h k = rests_some w p (w.open_edits p) word how h k.0 k.2

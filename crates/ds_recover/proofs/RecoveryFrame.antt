@@ -57,6 +57,7 @@ held_on p old new m r k =
     let same = k.same in
     record { by = omega arith; same = omega arith }
 
+-- an edit that both sides announce as pending is pending still, where at most the version's word moves
 pub pends_on : (p : ℕ) (old new : PlainWorld) → Moves p Version old new → new.open_edits p ≡ old.open_edits p → (c : ℕ) → IsPending old p c → IsPending new p c
 pends_on p old new m pending c k = record {
   issue = k.issue;
@@ -66,6 +67,7 @@ pends_on p old new m pending c k = record {
   persisted = m.persisted (Announce p) (λ x. cc) ∙ k.persisted;
 }
 
+-- a step passes on what its process owes where each of its holds, and what it owes by its stage, goes on
 pub simple_passes : (p : ℕ) (row : List ℕ) (s : RecoverStage) (row' : List ℕ) (s' : RecoverStage) (old new : PlainWorld)
     → ((r : ℕ) → IsHeld old.memory p r → IsHeld new.memory p r) → ((c : ℕ) → IsPending old p c → IsPending new p c)
     → ((r c x : ℕ) → IsIndexed old r c → Matters new c x → IsHeld old.memory p r → RecoveryOwes old.memory p row s r c x → RecoveryOwes new.memory p row' s' r c x)

@@ -47,9 +47,11 @@ none_some x y = let z : None ≡ Some _ = sym x ∙ y in cc
 some_same : {o : Option ℕ} {d k : ℕ} → o ≡ Some d → o ≡ Some k → d ≡ k
 some_same x y = let z : Some _ ≡ Some _ = sym x ∙ y in cc
 
+-- where no cell is found to tell, no bit of a cell from there on stands in the row
 pub tells_none : (row : List ℕ) (cells d c : ℕ) → told_from row (cells - d) d ≡ None → c < cells → StandsIn row c → d ≤ c → ⊥
 tells_none row cells d c is inside bit low = let k = first_told row (cells - d) d c low (omega arith) bit in none_some is k.1
 
+-- the cell that is found to tell is the first from there on whose bit stands in the row
 pub tells_some : (row : List ℕ) (cells d d' c : ℕ) → told_from row (cells - d) d ≡ Some d' → c < cells → StandsIn row c → d ≤ c → d' ≤ c
 tells_some row cells d d' c is inside bit low =
     let k = first_told row (cells - d) d c low (omega arith) bit in

@@ -29,6 +29,7 @@ pub record IsRecovering (v : WorldValue) (p : ℕ) (e : PlainRecoverCall) : Type
   pub there : p < length v.situations
   pub is : (world_of v).situation p ≡ Recovering e
 
+-- the process's situation that was read says which recovery it is in
 pub recovering_from : (v : WorldValue) (p : ℕ) (e : PlainRecoverCall) (read : Situation) → p < length v.situations → read ≡ get_or v.situations p read → read ≡ Recovering e → IsRecovering v p e
 recovering_from v p e read lt is here = record { there = lt; is = get_or_default v.situations p (Idle first_rest) read lt ∙ sym is ∙ here }
 

@@ -94,5 +94,6 @@ noted_before d FlushVersion h = absurd h
 noted_before d BackVersion h = absurd h
 noted_before d _ h = refl
 
+-- behind its first three steps, a step of a recovery goes on with the layout that it noted
 pub recovery_goes : (e : PlainRecoverCall) (s : RecoverStage) (word : ℕ) (old new : PlainWorld) → e.process < old.layout.processes → old.situation e.process ≡ Recovering (record e { stage = s }) → IsAwake s → StepsAt e s word old new → Goes e.process old new
 recovery_goes e s word old new real was awake t = notes e.edition real (ap noted_in was ∙ noted_before e.edition s awake) (ap noted_in t.situation ∙ noted_after e s word awake)

@@ -18,11 +18,13 @@ no_report : (e : PlainRecoverCall) (s : RecoverStage) (word : ℕ) (f : PlainRep
 no_report e (Answer how) word f is = cc
 no_report e s word f is = cc
 
+-- what a step of a recovery leaves is what a process's doing leaves
 pub recovery_leaves : (e : PlainRecoverCall) (word : ℕ) (old new : PlainWorld) → IsSound old → e.process < old.layout.processes → old.situation e.process ≡ Recovering e → Steps e word old new → Leaves e.process old new
 recovery_leaves e word old new sound real was t =
     let k = laws.steps e word old new sound real was t in
     leaves_same e.process old new k t.counted (middles_left e.process old new k (λ f is. no_report e e.stage word f (sym t.situation ∙ is)))
 
+-- what the begin of a recovery leaves is what a process's doing leaves
 pub begin_leaves : (p : ℕ) (old new : PlainWorld) → IsSound old → p < old.layout.processes → IsBegun old p new → Leaves p old new
 begin_leaves p old new sound real b =
     let k = laws.begins p old new sound real b in

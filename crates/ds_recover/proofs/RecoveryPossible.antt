@@ -50,6 +50,7 @@ named layout e cells processes low (FlushOutcome how) h = rw processes low
 named layout e cells processes low (BackOutcome how) h = tt
 named layout e cells processes low (Answer how) h = tt
 
+-- each access of a recovery names a place of its sheet
 pub each_named : (layout : Layout) (e : PlainRecoverCall) → cells_of layout ≡ e.cells → layout.processes ≡ e.processes → IsRecovery e → NamesPlace layout (access_at e e.stage)
 each_named layout e cells processes is = named layout e cells processes is.process e.stage is.stage
 
@@ -94,5 +95,6 @@ module _ (e : PlainRecoverCall) (w : PlainWorld) (low : e.process < w.layout.pro
   buffered (BackOutcome how) h b = first (place.Announce e.process) e.announcement [] b low
   buffered (Answer how) h b = tt
 
+-- a recovery that fits can perform the access of its stage
 pub possible : (e : PlainRecoverCall) (w : PlainWorld) → e.process < w.layout.processes → RecoveryFits w e.process e → CanPerform w.layout w.memory e.process (access_at e e.stage)
 possible e w low fits = (each_named w.layout e fits.cells fits.processes fits.is, buffered e w low fits.cells e.stage fits.is.stage fits.buffer)

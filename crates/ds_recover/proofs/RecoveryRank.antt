@@ -111,6 +111,7 @@ falls e (FlushOutcome how) word most h = omega arith
 falls e (BackOutcome how) word most h = omega arith
 falls e (Answer how) word most h = tt
 
+-- each step of a recovery but the answer's leaves fewer
 pub each_falls : (e : PlainRecoverCall) (word : ℕ) → IsRecovery e → Falls e e.stage (next_at e e.stage word)
 each_falls e word is = falls e e.stage word is.cells is.stage
 
@@ -149,5 +150,6 @@ few e (FlushOutcome how) most h = omega arith
 few e (BackOutcome how) most h = omega arith
 few e (Answer how) most h = omega arith
 
+-- a recovery has at most 3 n + 30 steps left for each of n cells, and 23 more
 pub each_few : (e : PlainRecoverCall) → IsRecovery e → rank e.cells e.stage ≤ e.cells * (3 * e.cells + 30) + 23
 each_few e is = few e e.stage is.cells is.stage

@@ -14,6 +14,7 @@ use Rattle.ds_state.specs.declared.recovery.RecoverStage.TheVariants.{Telling}
 use Rattle.ds_recover.specs.RecoverySteps.{told, tell_from, row_from}
 use Rattle.ds_recover.proofs.RecoveryFree.{told_below}
 
+-- the dirty bit added to a mark's word gives that of the same tenure, dirty
 pub dirty : (mark : ℕ) → bit_or mark DIRTY ≡ marked mark
 dirty mark = or_dirty mark
 
@@ -24,6 +25,7 @@ tells_stage : (e : PlainRecoverCall) (cell d : ℕ) → IsFreeing e.cells e.mark
 tells_stage e cell d free row low None is = free
 tells_stage e cell d free row low (Some k) is = (free, ((let l = told_below e.row (e.cells - d) d k is in omega arith), row))
 
+-- the stage that tells the next cell, or gives this one back behind the last, is one of the recovery
 pub tell_stage : (e : PlainRecoverCall) (cell d : ℕ) → IsFreeing e.cells e.mark cell → length e.row ≡ parts_for e.cells → d ≤ e.cells → IsStage e (tell_from e.row e.cells cell d)
 tell_stage e cell d free row low = tells_stage e cell d free row low (told_from e.row (e.cells - d) d) refl
 
@@ -33,6 +35,7 @@ rows_stage : (e : PlainRecoverCall) (cell part : ℕ) → IsFreeing e.cells e.ma
 rows_stage e cell part free low row true is = (free, (ltb-true part (parts_for e.cells) is, row))
 rows_stage e cell part free low row false is = tell_stage e cell 0 free (let l = ltb-false part (parts_for e.cells) is in omega arith) (omega arith)
 
+-- the stage that loads a part of the row, or tells the first cell behind the last part, is one of the recovery
 pub row_stage : (e : PlainRecoverCall) (cell part : ℕ) → IsFreeing e.cells e.mark cell → part ≤ parts_for e.cells → length e.row ≡ part → IsStage e (row_from e.row e.cells cell part)
 row_stage e cell part free low row = rows_stage e cell part free low row (nat_lt part (parts_for e.cells)) refl
 

@@ -34,6 +34,7 @@ some_told : (word : ℕ) (how : Bool) → Tells word how → word / 4 ≡ word /
 some_told word true k = let i = k.is in omega arith
 some_told word false k = let i = k.is in omega arith
 
+-- a recovery that fits repeats, by its answer, how its process's last edit with a spent number ended
 pub repeats : (e : PlainRecoverCall) (how : Option Bool) (w : PlainWorld) → RecoveryFits w e.process (at e (Answer how)) → RepeatsAs w e.process (end_of e how)
 repeats e None w fits = (rests w e.process e.announcement e.cell None fits.doubt fits.resolved).below
 repeats e (Some how) w fits =

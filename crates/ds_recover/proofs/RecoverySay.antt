@@ -47,6 +47,7 @@ ended_word w f false = refl
 same_issue : {o : Option PlainIssue} {a b : PlainIssue} → o ≡ Some a → o ≡ Some b → a ≡ b
 same_issue x y = let both : Some _ ≡ Some _ = sym x ∙ y in cc
 
+-- the word that announces an outcome is an announcement of a record
 pub said_announced : (n : ℕ) (how : Bool) → n < RECORDS → IsAnnounced (announcement n (phase_for how))
 said_announced n true l = record { it = record { number = n; phase = phase.Done }; reads = announcement_of-announcement_word (record { number = n; phase = phase.Done }) l; some = omega arith; few = omega arith }
 said_announced n false l = record { it = record { number = n; phase = phase.NotDone }; reads = announcement_of-announcement_word (record { number = n; phase = phase.NotDone }) l; some = omega arith; few = omega arith }

@@ -30,6 +30,7 @@ pub record IsReporting (v : WorldValue) (p : ℕ) (e : PlainReportCall) : Type 0
   pub there : p < length v.situations
   pub is : (world_of v).situation p ≡ Reporting e
 
+-- the process's situation that was read says which report it is in
 pub showing_from : (v : WorldValue) (p : ℕ) (e : PlainReportCall) (read : Situation) → p < length v.situations → read ≡ get_or v.situations p read → read ≡ Reporting e → IsReporting v p e
 showing_from v p e read lt is here = record { there = lt; is = get_or_default v.situations p (Idle first_rest) read lt ∙ sym is ∙ here }
 

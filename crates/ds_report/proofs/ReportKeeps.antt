@@ -206,6 +206,7 @@ module _ (p : ℕ) (next : Rest) (old new : PlainWorld) (sound : IsSound old) (r
 below : (n : ℕ) (b : Bool) (x y : PlainReportCall) → (b ≡ true → rank x < n) → (b ≡ false → rank y < n) → rank (if b then x else y) < n
 below n b x y h k = branches (λ z. rank z < n) b x y h k
 
+-- each step of a report but the answer's leaves fewer
 pub falls : (e : PlainReportCall) (s : ReportStage) (word : ℕ) → IsStage e s → Falls e s (next_at e s word)
 falls e (LoadAnnounce i) word (l, h) = below (rank (at e (LoadAnnounce i))) (reads_pending word) _ _ (λ b. omega arith)
     (λ b. below (rank (at e (LoadAnnounce i))) (nat_lt (i + 1) e.processes) _ _ (λ t. let k = ltb-true (i + 1) e.processes t in omega arith) (λ f. omega arith))
@@ -219,6 +220,7 @@ falls e (AgainAnnounce i) word (l, h) = below (rank (at e (AgainAnnounce i))) (w
     (λ b. below (rank (at e (AgainAnnounce i))) (nat_lt (i + 1) e.processes) _ _ (λ t. let k = ltb-true (i + 1) e.processes t in omega arith) (λ f. omega arith)) (λ b. omega arith)
 falls e (Answer end) word h = tt
 
+-- a report has at most two steps left for each process, four for each cell, and the answer's
 pub few : (e : PlainReportCall) (s : ReportStage) → rank (at e s) ≤ 2 * e.processes + 4 * e.cells + 1
 few e (LoadAnnounce i) = omega arith
 few e (LoadMark i) = omega arith
@@ -248,5 +250,6 @@ no_buffer layout memory p (AgainMark i) = tt
 no_buffer layout memory p (AgainAnnounce i) = tt
 no_buffer layout memory p (Answer end) = tt
 
+-- a report that fits can perform the access of its stage
 pub possible : (w : PlainWorld) (p : ℕ) (e : PlainReportCall) (m : Moment) → ReportFitsAt w p e m → CanPerform w.layout w.memory p (access_at e.stage)
 possible w p e m fits = (named w.layout e fits.cells fits.processes e.stage fits.is.stage, no_buffer w.layout w.memory p e.stage)

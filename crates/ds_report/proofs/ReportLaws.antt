@@ -20,20 +20,26 @@ use Rattle.ds_state.specs.declared.situation.Rest.{Rest}
 fits_of : (e : PlainReportCall) (w : PlainWorld) → IsSound w → e.process < w.layout.processes → w.situation e.process ≡ Reporting e → ReportFits w e.process e
 fits_of e w sound real is = subst (λ (s : Situation). CallFits w e.process s) is (sound.calls e.process real)
 
+-- each step of a report leaves a sound world sound, and what the others count on
 pub steps : (e : PlainReportCall) (word : ℕ) (old new : PlainWorld) → IsSound old → e.process < old.layout.processes → old.situation e.process ≡ Reporting e → Steps e word old new → Keeps e.process old new
 steps e word old new sound real is t = step_keeps e e.stage word old new sound is t (fits_of e old sound real is)
 
+-- in a sound world a report can perform the access of its stage
 pub accesses : (e : PlainReportCall) (w : PlainWorld) → IsSound w → e.process < w.layout.processes → w.situation e.process ≡ Reporting e → CanPerform w.layout w.memory e.process (access_at e.stage)
 accesses e w sound real is = let f = fits_of e w sound real is in possible w e.process e f.0 f.1
 
+-- each access of a report names a place of its sheet
 pub named : (layout : Layout) (e : PlainReportCall) → cells_of layout ≡ e.cells → layout.processes ≡ e.processes → IsReport e → NamesPlace layout (access_at e.stage)
 named layout e cells processes is = keeps.named layout e cells processes e.stage is.stage
 
+-- each step of a report but the answer's leaves fewer, at its own stage
 pub each_falls : (e : PlainReportCall) (word : ℕ) → IsReport e → Falls e e.stage (next_at e e.stage word)
 each_falls e word is = falls e e.stage word is.stage
 
+-- a report has at most two steps left for each process, four for each cell, and the answer's, at its own stage
 pub each_few : (e : PlainReportCall) → rank e ≤ 2 * e.processes + 4 * e.cells + 1
 each_few e = few e e.stage
 
+-- the begin of a report leaves a sound world sound, and what the others count on
 pub begins : (p : ℕ) (next : Rest) (old new : PlainWorld) → IsSound old → p < old.layout.processes → Begins p next old new → Keeps p old new
 begins p next old new sound real b = begin_keeps p next old new sound real b

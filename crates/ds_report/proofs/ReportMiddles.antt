@@ -141,6 +141,7 @@ past e (Answer Settled) i j is at =
     record { have = is; marks = omega arith; announcements = omega arith }
 past e (Answer (Unsettled place word)) i j is at = absurd (cc)
 
+-- the middle of a report past its first collect has all that the report has seen again
 pub middle_says : (first w : PlainWorld) (p : ℕ) (e : PlainReportCall) (mid : PlainWorld) (i j : ℕ) → Middle first w p e mid → seen_at e.cells e.processes e.stage ≡ middle i j → IsMiddle first w p e i j mid
 middle_says first w p e mid i j h at =
     let saw : SawAgain w e.announcements e.marks e.values e.kinds (moment_of mid) i j = subst (λ (s : Seen). SeenFits w e.announcements e.marks e.values e.kinds (moment_of mid) s) at h.fits.seen in
@@ -174,6 +175,7 @@ middle_says first w p e mid i j h at =
       own = h.own;
     }
 
+-- the middle of a report that is to answer Settled is that of a settled one
 pub middle_settles : (first w : PlainWorld) (p : ℕ) (e : PlainReportCall) (mid : PlainWorld) → Middle first w p e mid → e.stage ≡ Answer Settled → WasSettled first w p e mid
 middle_settles first w p e mid h at =
     let s : IsSettled w e (moment_of mid) = settled_true w p e (moment_of mid) h.fits at in
@@ -188,14 +190,17 @@ middle_settles first w p e mid h at =
 
 -- ---- in the form of a rule: what a report leaves the others, and what its seat keeps of it
 
+-- what a step of a report leaves is what a process's doing leaves
 pub step_leaves : (e : PlainReportCall) (word : ℕ) (old new : PlainWorld) → IsSound old → e.process < old.layout.processes → old.situation e.process ≡ Reporting e → Steps e word old new → Leaves e.process old new
 step_leaves e word old new sound real was t = leaves_same e.process old new (steps e word old new sound real was t) t.counted
     (λ h. (h.0, but_for h.1 e.process (middle_after old (h.1 e.process) e.stage), middles_step h.0 h.1 old new h.2 e word sound real was t))
 
+-- what the begin of a report leaves is what a process's doing leaves
 pub begin_leaves : (p : ℕ) (next : Rest) (old new : PlainWorld) → IsSound old → p < old.layout.processes → Begins p next old new → Leaves p old new
 begin_leaves p next old new sound real b = leaves_same p old new (begin_keeps p next old new sound real b) b.counted
     (λ h. (but_for h.0 p new, but_for h.1 p new, middles_begin h.0 h.1 old new h.2 p next sound real b))
 
+-- a report that is to answer Settled was settled, and its middle had each of its process's counted edits
 pub report_settled : (w : PlainWorld) (p : ℕ) (e : PlainReportCall) (held : List PlainEdit) → HaveMiddles w → p < w.layout.processes → w.situation p ≡ Reporting e → e.stage ≡ Answer Settled
     → ((d : PlainEdit) → Contains held d → (d.process ≡ p) × Contains w.counted d) → IsToldReport w p e held
 report_settled w p e held h low is at own =
@@ -209,5 +214,6 @@ report_settled w p e held h low is at own =
       holds = λ d here. let o = own d here in m.own d o.0 o.1;
     }
 
+-- that a report was settled stays, while the sheet lasts
 pub report_stays : (old new : PlainWorld) (p : ℕ) (e : PlainReportCall) (held : List PlainEdit) → Lasts old new → IsToldReport old p e held → IsToldReport new p e held
 report_stays old new p e held l r = record { begun = r.begun; ended = r.ended; mid = r.mid; was = r.was; lasts = lasts_on r.ended old new r.lasts l; holds = r.holds }

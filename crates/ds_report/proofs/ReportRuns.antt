@@ -180,6 +180,7 @@ goes_to e e' (AgainMark i) word is = cc
 goes_to e e' (AgainAnnounce i) word is = cc
 goes_to e e' (Answer end) word is = absurd (cc)
 
+-- a situation is that of one report alone
 pub showing_inj : (s : Situation) (e e' : PlainReportCall) → s ≡ Reporting e → s ≡ Reporting e' → e ≡ e'
 showing_inj s e e' a b = let both : Reporting e ≡ Reporting e' = sym a ∙ b in cc
 
@@ -272,6 +273,7 @@ grows_same q but w = record {
   foreign = All-nil (λ (e : PlainEdit). e.process ≢ q);
 }
 
+-- where nothing happens a process may count on all
 pub rely_same : (q : ℕ) (w : PlainWorld) → Rely q w w
 rely_same q w = record {
   situation = refl;

@@ -20,6 +20,7 @@ use Rattle.ds_state.proofs.StillRight.{still_right}
 
 -- ---- lists with one more
 
+-- what holds of both branches holds of an `if`
 pub branches : (P : PlainReportCall → Type 0) (b : Bool) (x y : PlainReportCall) → (b ≡ true → P x) → (b ≡ false → P y) → P (if b then x else y)
 branches P true x y h k = h refl
 branches P false x y h k = k refl
@@ -146,6 +147,7 @@ abbrev pub moment_after : PlainWorld → Moment → ReportStage → Moment
 moment_after w m (LoadKind i) = moment_of w
 moment_after w m _ = m
 
+-- the report at this stage
 abbrev pub on : PlainReportCall → ReportStage → PlainReportCall
 on e s = record e { stage = s }
 

@@ -22,6 +22,7 @@ pub record IsSettled (w : PlainWorld) (e : PlainReportCall) (m : Moment) : Type 
   pub more : List PlainEdit
   pub counted : w.counted ≡ m.edits ++ more
 
+-- a report that is to answer Settled has a moment that was still, and its values were right then
 pub settled_true : (w : PlainWorld) (p : ℕ) (e : PlainReportCall) (m : Moment) → ReportFitsAt w p e m → e.stage ≡ Answer Settled → IsSettled w e m
 settled_true w p e m fits is =
     let seen : SawAgain w e.announcements e.marks e.values e.kinds m e.cells e.processes = subst (λ (s : ReportStage). SeenFits w e.announcements e.marks e.values e.kinds m (seen_at e.cells e.processes s)) is fits.seen in

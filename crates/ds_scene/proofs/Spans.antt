@@ -13,10 +13,12 @@ use Rattle.ds_scene.specs.Columns.{no_word, word_in, side_of, side_at, IsTrueSpa
 abbrev pub Stays : Word → List Row → ℕ → Side → ℕ → ℕ → ℕ → Type 0
 Stays first rows number side from word last = (line : ℕ) → from ≤ line → line ≤ last → side_at first rows number side line ≡ word
 
+-- at the first line a side is what it was before all events
 pub stays_first : (first : Word) (rows : List Row) (number : ℕ) (side : Side) → Stays first rows number side 0 (side_of side first) 0
 stays_first first rows number side zero a b = refl
 stays_first first rows number side (suc line) a b = absurd (let e : ⊥ = omega (arith, b) in e)
 
+-- behind an event a side is what the event's row says of its word
 pub side_behind : (first : Word) (rows : List Row) (number : ℕ) (side : Side) (event : ℕ) (row : Row) → event < length rows → side_at first rows number side (suc event) ≡ side_of side (word_in number (get_or rows event row))
 side_behind first rows number side event row lt = ap (λ (w : Word). side_of side w) (get_or-map (word_in number) rows event row no_word lt)
 
@@ -33,6 +35,7 @@ stays_on first rows number side from event word stays is line a b = elim (cases_
   | inr ge ↦ (let same : suc event ≡ line = omega (arith, ge, b) in subst (λ (n : ℕ). side_at first rows number side n ≡ word) same is)
 ]
 
+-- a span is true where the side stays its number up to its last line
 pub true_span : (first : Word) (rows : List Row) (number : ℕ) (side : Side) (span : Span) (last : ℕ) → Stays first rows number side span.from span.word last → span.to ≤ last + 1 → last ≤ length rows → IsTrueSpan first rows number side span
 true_span first rows number side span last stays to most = record {
   each = λ line a b. stays line a (omega (arith, b, to));

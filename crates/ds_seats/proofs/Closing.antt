@@ -45,6 +45,7 @@ module _ (R : RattleType) (s : IsSend R) where
       owning_send O all (λ d. (tt, inside d.ptr _ (slots_keyless d.ptr d.items d.filled)))
       (λ k. quiet (to O) (exits_of k (fields O)) ((struct_send (shape O) all).leaving k))
 
+-- a lease of slots in memory of the heap may go to another thread, whatever they are of
 pub lease_send : (R : RattleType) → IsSend (Lease.the_row R Heap.the_row ghosts)
 lease_send R =
     let O = Lease.the_type R Heap.the_row ghosts in

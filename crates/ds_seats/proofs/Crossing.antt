@@ -26,11 +26,14 @@ shared_sync = search (sendable, crosses, table_sync, right_sync) depth 60 fits 1
 home_send : IsSend Home.the_row
 home_send = search (sendable, crosses, end_send, pass_send) depth 60 fits 100000
 
+-- an open sheet may go to another thread
 pub sheet_send : IsSend OpenSheet.the_row
 sheet_send = search (sendable, crosses, shared_send, shared_sync, place_send, home_send) depth 60 fits 100000
 
+-- a seat may go to another thread
 pub seat_send : IsSend Seat.the_row
 seat_send = search (sendable, crosses, shared_send, shared_sync, place_send, end_send) depth 60 fits 100000
 
+-- a sheet at rest may go to another thread
 pub closed_send : IsSend RestingSheet.the_row
 closed_send = search (sendable, crosses, place_send, slots_send, lease_send) depth 60 fits 100000

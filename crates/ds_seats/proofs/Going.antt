@@ -19,6 +19,7 @@ at_stop (ends.Answered a) taken left fuse is none = tt
 at_stop (ends.Refused r) taken left fuse is none = tt
 at_stop ends.Stopped taken left fuse is none = let empty : left ≡ 0 = none (omega arith) in omega (arith, is, empty)
 
+-- a call whose fuse was asked before each step took no more steps than that has
 pub goes_of : {E : Type 0} (fuse : ℕ) (f g : Steps) (old new : Pass) (how : Ended E) → f.left ≡ fuse → IsAskedEachStep said f g old new how → new.process ≡ old.process
     → ((t : Told) → In (outcomes old.place) t → In (outcomes new.place) t) → Goes fuse old new how
 goes_of fuse f g old new how is h process kept =

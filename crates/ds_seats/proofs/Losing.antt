@@ -9,6 +9,7 @@ use Rattle.ds_drives.specs.Views.{past_of}
 use Rattle.ds_shared.specs.declared.sheet.ClosedSheet.{ClosedSheet}
 use Rattle.ds_seats.specs.Resting.{Rests}
 
+-- a closed sheet at rest is at rest behind a crash, too
 pub rests_on : (old new : ClosedSheet) → new.layout ≡ old.layout → past_of new.before ≡ past_of old.before
     → ((b : Behind) → AtRest old.layout (slots_items old.table.words) b → Survives old.layout (slots_items old.table.words) (slots_items new.table.words) b)
     → Rests old → Rests new

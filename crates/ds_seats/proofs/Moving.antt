@@ -36,9 +36,11 @@ still_process n before p some same are = (same 0 p some).1 ∙ are 0 p some
 pub head_all : {X : Type 0} (P : X → Type 0) (x : X) (xs : List X) → All P (x ∷ xs) → P x
 head_all P x xs all = all 0 x (omega arith)
 
+-- what holds of all of a list holds of all behind its first element
 pub tail_all : {X : Type 0} (P : X → Type 0) (x : X) (xs : List X) → All P (x ∷ xs) → All P xs
 tail_all P x xs all = λ k d below. all (suc k) d (omega (arith, below))
 
+-- what holds of an element holds of all of a list of that one
 pub only : {X : Type 0} (P : X → Type 0) (x : X) → P x → All P (x ∷ [])
 only P x here = All-push P [] x (λ k d low. absurd (omega (arith, low))) here
 

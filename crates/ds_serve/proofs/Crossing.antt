@@ -24,6 +24,7 @@ use Rattle.ds_store.specs.contracts.edit.ToldEdit as ToldEdit
 use Rattle.ds_formula.specs.contracts.cells.Cell as Cell
 use Rattle.std.specs.contracts.sync.Condvar as Condvar
 
+-- a locked truth value may be shared by threads
 pub told_sync : IsSync (Mutex.the_row bool)
 told_sync = search (sendable, crosses) depth 40
 
@@ -45,15 +46,19 @@ signal_sync = search (sendable, crosses) depth 40
 keeping_sync : IsSync Keeping.the_row
 keeping_sync = search (sendable, crosses, told_sync, told_lock, signal_sync) depth 40
 
+-- the door of a server may be shared by threads
 pub door_sync : IsSync Door.the_row
 door_sync = search (sendable, crosses, keeping_sync) depth 60 fits 100000
 
+-- a connection may go to another thread
 pub stream_send : IsSend TcpStream.the_row
 stream_send = search (sendable, crosses) depth 40
 
+-- a listener may be shared by threads
 pub listener_sync : IsSync TcpListener.the_row
 listener_sync = search (sendable, crosses) depth 40
 
+-- what a server is asked to serve may go to another thread
 pub service_send : IsSend Service.the_row
 service_send = search (sendable, crosses) depth 40
 

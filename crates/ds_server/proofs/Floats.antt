@@ -24,6 +24,7 @@ refusal_no_float refusal.Stopped = refl
 refusal_no_float refusal.RecordsFull = refl
 refusal_no_float refusal.NoMemory = refl
 
+-- no answer has a float
 pub said_no_float : (shape : Shape) (said : Said) → has_float (said_data shape said) ≡ false
 said_no_float shape (Joined process None) = refl
 said_no_float shape (Joined process (Some told)) = refl

@@ -5,6 +5,7 @@ use Rattle.serde_json.specs.Data.{Data}
 use Rattle.ds_eval.specs.declared.value.Value.{Value}
 use Rattle.ds_server.specs.SessionTexts.{row_data, rows_of}
 
+-- the next row, behind those so far, leaves the rows that are still to come
 pub rows_more : (columns rows i : ℕ) (rest : List Value) (so_far whole : List Data) (first behind : List Value) (d : Data) (items : List Data) → i < rows
     → so_far ++ map row_data (rows_of columns (rows - i) rest) ≡ whole → first ≡ take columns rest → behind ≡ drop columns rest → d ≡ row_data first → items ≡ so_far ++ d ∷ []
     → items ++ map row_data (rows_of columns (rows - (i + 1)) behind) ≡ whole
@@ -29,5 +30,6 @@ take_min_by n l false t =
       ap (λ (k : ℕ). drop k l) m ∙ drop_all (length l) l here ∙ sym (drop_all n l h),
     )
 
+-- a list has no more to take, or to drop, than its length
 pub take_min : (n : ℕ) (l : List Value) → (take (min n (length l)) l ≡ take n l) × (drop (min n (length l)) l ≡ drop n l)
 take_min n l = take_min_by n l (nat_lt n (length l)) refl

@@ -17,6 +17,7 @@ use Rattle.ds_server.specs.Boards.{Leaves}
 use Rattle.ds_server.specs.WorldBoards.{Does, joins, sets, reports, is_refused, lacks, tells, leaves, world_rules}
 use Rattle.ds_server.specs.Session.{Obeys, refuses, calls, Answers, no_json, no_memory, reads, Turns, short, long, Session, begins, turns, Served, Broken, Ran, Outcome}
 
+-- what a call of a session does to a world is a run
 pub does_runs : (old new : WorldValue) (call : Call) (said : Said) → Does old call said new → IsRun old new
 does_runs old new call said (joins p answer told n whole is) = whole_runs _ Recovery p (BeginRecover p) old answer new whole
 does_runs old new call said (sets p cell text answer end n whole is) = whole_runs _ Edit p (BeginEdit (request p cell text)) old answer new whole
@@ -61,9 +62,11 @@ leaves_runs : (joined : Option ℕ) (old new : WorldValue) → Leaves world_rule
 leaves_runs None old new h = same_run old new h
 leaves_runs (Some p) old new h = does_runs old new (Leave p) Left h
 
+-- what a session does to a world is a run
 pub outcome_runs : (most limit : ℕ) (first last : WorldValue) (bytes out : List ℕ) (end : SessionEnd) → Outcome world_rules most limit first bytes out last end → IsRun first last
 outcome_runs most limit first last bytes out end h = runs_on first h.board last (ran_runs most limit first h.board bytes out h.joined end h.ran) (leaves_runs h.joined h.board last h.leaves)
 
+-- a run from a new world, with what a session does behind it, is a run, and has the headline
 pub outcome_headline : (most limit : ℕ) (start first last : WorldValue) (bytes out : List ℕ) (end : SessionEnd) → IsNew (world_of start) → IsGood start → IsRun start first → Outcome world_rules most limit first bytes out last end
     → (run : IsRun start last) × HasHeadline start run.events run.replies last run.run
 outcome_headline most limit start first last bytes out end new good before h =

@@ -60,12 +60,15 @@ stop_hides rules old said before now failed_before failed_now stops.WriteFailed 
 
 -- ---- ends
 
+-- the lines of a session, with a rest behind them, are served
 pub served : {B : Type 0} (rules : Rules B) (most : ℕ) (first last : B) (bytes rest out : List ℕ) (joined : Option ℕ) → Session rules most first bytes last joined out → Served rules most first (bytes ++ rest) out rest last joined
 served rules most first last bytes rest out joined s = record { lines = bytes; session = s; is = refl }
 
+-- a rest within what could come is within the limit of the session
 pub within : (limit left : ℕ) (bytes rest : List ℕ) → length bytes + left ≡ limit → ReadsPart left rest → Within limit (bytes ++ rest) rest
 within limit left bytes rest c r = record { no_feed = r.no_feed; within = omega (arith, length-append bytes rest, c, r.within) }
 
+-- a rest over what could come is over the limit of the session
 pub over : (limit left : ℕ) (bytes rest : List ℕ) → length bytes + left ≡ limit → ReadsOver left rest → OverLimit limit (bytes ++ rest) rest
 over limit left bytes rest c r =
     record {
@@ -78,8 +81,10 @@ over limit left bytes rest c r =
 
 -- ---- how many bytes
 
+-- what a reader gave grows by no more than the bytes that were read, and then more
 pub more_given : (bytes more : List ℕ) (a b c : ℕ) → b ≤ a + length bytes → c ≤ b + length more → c ≤ a + length (bytes ++ more)
 more_given bytes more a b c h k = omega (arith, length-append bytes more, h, k)
 
+-- bytes that were read, and then more, with what is left, make up the limit
 pub more_counted : (bytes more : List ℕ) (left rest limit : ℕ) → length bytes + left ≡ limit → length more + rest ≡ left → length (bytes ++ more) + rest ≡ limit
 more_counted bytes more left rest limit h k = omega (arith, length-append bytes more, h, k)

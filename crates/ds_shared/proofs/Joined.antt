@@ -40,6 +40,7 @@ still_of all x v there known e inside = ⊎_elim
     (subst (λ (z : View). In z.entries e) (ap (λ m. m.0) x.known.alone) b))
     (in_append v.entries x.place.me.0.entries e inside)
 
+-- where no pass is left to join, each one that was taken is in the view
 pub none_left : (ps : List Pass) (p : Pass) (v : View) → length ps ≡ 0 → IsTaken ps v p → In v.entries (sole p.place)
 none_left ps p v e known = ⊎_elim (λ (t : Contains ps p). absurd (let h = t.1 in omega arith)) (λ t. t) known
 
@@ -76,16 +77,20 @@ all_seated (q ∷ qs) all v past none before seats = absurd (omega arith)
 pub in_order : (xs ys : List Pass) (x : Pass) (p : ℕ) → ys ≡ xs ++ x ∷ [] → x.process ≡ p → map (λ (q : Pass). q.process) xs ≡ range_with_len 0 p → map (λ (q : Pass). q.process) ys ≡ range_with_len 0 (p + 1)
 in_order xs ys x p is own so_far = ap (map (λ (q : Pass). q.process)) is ∙ (map_push (λ (q : Pass). q.process) xs x ∙ ((λ i. so_far i ++ own i ∷ []) ∙ sym (one_more 0 p p (omega arith))))
 
+-- a pass on a newcomer's seat, with number 0, has begun no call
 pub fresh_at : (x : Pass) (p : ℕ) (stopped : Bool) → x.stopped ≡ stopped → x.number ≡ 0 → x.place.me ≡ (lone (newcomer (first_now stopped) p), []) → IsFresh stopped x
 fresh_at x p stopped is number me = record { stopped_is = is; number = number; told = ap (λ m. (deeds_at m).told) me; steps = ap (λ m. (deeds_at m).steps) me }
 
+-- with one pass more behind, a list is one longer
 pub one_longer : (xs ys : List Pass) (x : Pass) → ys ≡ xs ++ x ∷ [] → length ys ≡ length xs + 1
 one_longer xs ys x is = ap length is ∙ length-append xs (x ∷ [])
 
 -- ---- popped
 
+-- the pass at the end of a list is in it
 pub last_there : (ps qs : List Pass) (x : Pass) → ps ≡ qs ++ x ∷ [] → Contains ps x
 last_there ps qs x e = subst (λ (l : List Pass). Contains l x) (sym e) (Contains-append_right qs (x ∷ []) x (0, omega arith, refl))
 
+-- a pass of a list is in it with one more behind
 pub still_there : (ps qs : List Pass) (x p : Pass) → ps ≡ qs ++ x ∷ [] → Contains qs p → Contains ps p
 still_there ps qs x p e there = subst (λ (l : List Pass). Contains l p) (sym e) (Contains-append_left qs (x ∷ []) p there)

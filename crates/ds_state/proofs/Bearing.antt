@@ -68,6 +68,7 @@ recovery_parts m p row (recoveries.FlushGiven cell) r c x h = h
 recovery_parts m p row (recoveries.BackGiven cell) r c x h = h
 recovery_parts m p row _ r c x h = absurd h
 
+-- whoever may have the two sides of a held cell's words differ owes every cell a mark
 pub parts_owe : (m : Memory Place) (p : ℕ) (s : Situation) (r c x : ℕ) → Parts s r → Owes m p s r c x
 parts_owe m p (Idle next) r c x h = absurd h
 parts_owe m p Stopped r c x h = tt
@@ -96,6 +97,7 @@ recovery_splits m p c (recoveries.BackOutcome how) x h = absurd h
 recovery_splits m p c (recoveries.Answer how) x h = absurd h
 recovery_splits m p c _ x h = tt
 
+-- whoever may have the two sides of a cell's head differ owes the cell its edit's mark
 pub splits_excuse : (w : PlainWorld) (p : ℕ) (s : Situation) (c head x : ℕ) → Splits w p s c head → Excuses w p s c x
 splits_excuse w p (Idle next) c head x h = absurd h
 splits_excuse w p Stopped c head x h = h
@@ -105,6 +107,7 @@ splits_excuse w p (Recovering e) c head x h = (h.0, recovery_splits w.memory p c
 splits_excuse w p (Reporting e) c head x h = absurd h
 splits_excuse w p (Migrating e) c head x h = h
 
+-- a cell whose head is on its way is excused: the edit that swung it still owes the cell its mark
 pub on_its_way_excuses : (w : PlainWorld) (cell persisted x : ℕ) → IsSound w → IsOnItsWay w (of_cell cell w.counted) persisted → IsExcused w cell x
 on_its_way_excuses w cell persisted x sound b =
     let its : b.last.cell ≡ cell = cell_of-middle cell w.counted b.before b.last [] b.parts in
@@ -362,10 +365,12 @@ clean_agrees w c q its sound clean (inr a) = absurd (clean_free _ a.holder clean
 pub record Buffered (w : PlainWorld) : Type 0 where
   pub had : (q c x : ℕ) → q < w.layout.processes → Contains (w.memory.buffer q) (entry (Mark c) x) → x ≤ w.memory.cached (Mark c)
 
+-- a mark that is persisted or on its way is no newer than the cached one
 pub durable_most : (w : PlainWorld) (c x : ℕ) → IsSound w → Buffered w → IsDurable w c x → x ≤ w.memory.cached (Mark c)
 durable_most w c x sound buffered (inl is) = let b = (sound.words (Mark c)).behind in omega arith
 durable_most w c x sound buffered (inr d) = buffered.had d.by c x d.process d.there
 
+-- a mark that is persisted or on its way is no older than the persisted one
 pub durable_least : (w : PlainWorld) (c x : ℕ) → IsDurable w c x → w.memory.persisted (Mark c) ≤ x
 durable_least w c x (inl is) = omega arith
 durable_least w c x (inr d) = d.no_older
@@ -467,6 +472,7 @@ module _ (p : ℕ) (place : Place) (old new : PlainWorld) (m : Moves p place old
     on_persisted = λ c x clean now. elim (marks.durable c x clean now) [ inl was ↦ same_durable c x clean now was | inr fresh ↦ fresh ];
   }
 
+-- an entry of a buffer with one more behind is one of the buffer's, or that one
 pub in_push : (xs : List (BufferEntry Place)) (y e : BufferEntry Place) → Contains (xs ++ y ∷ []) e → Contains xs e ⊎ (y ≡ e)
 in_push xs y e h = elim (Contains-append_cases xs (y ∷ []) e h) [
   | inl k ↦ inl k

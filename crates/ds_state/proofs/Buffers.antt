@@ -25,6 +25,7 @@ use Rattle.ds_state.specs.declared.situation.Situation.TheVariants.{Idle, Stoppe
 use Rattle.ds_state.proofs.Bearing.{Buffered}
 use Rattle.ds_layout.specs.declared.place.Edition.{Edition}
 
+-- nothing is in an empty buffer
 pub none : {b : List (BufferEntry Place)} (e : BufferEntry Place) → b ≡ [] → Contains b e → ⊥
 none e is h = nothing (subst (λ (xs : List (BufferEntry Place)). Contains xs e) is h)
   where
@@ -38,6 +39,7 @@ one x e is h = only (subst (λ (xs : List (BufferEntry Place)). Contains xs e) i
     only (zero, l, same) = same
     only (suc k, l, same) = absurd (omega arith)
 
+-- a buffer with one entry, of another word, has no mark of the cell
 pub not_mark : {b : List (BufferEntry Place)} (r : Place) (v c x : ℕ) → r ≢ Mark c → b ≡ entry r v ∷ [] → Contains b (entry (Mark c) x) → ⊥
 not_mark r v c x apart is h = apart (ap (λ (y : BufferEntry Place). y.place) (one (entry r v) (entry (Mark c) x) is h))
 
@@ -49,6 +51,7 @@ a_mark_is w d v c x had is h =
     let eq = ap (λ (y : Place). w.memory.cached y) at in
     omega arith
 
+-- no word of a record is a mark
 pub record_no_mark : (edition : Edition) (p n k c : ℕ) → record_place edition p n k ≢ Mark c
 record_no_mark edition p n zero c = λ same. cc
 record_no_mark edition p n (suc k) c = λ same. cc
@@ -113,5 +116,6 @@ call_had w p (Recovering e) c x h k = recovery_had w e.process e.announcement e.
 call_had w p (Reporting e) c x h k = absurd (none (entry (Mark c) x) h.1.buffer (subst (λ (q : ℕ). Contains (w.memory.buffer q) (entry (Mark c) x)) (sym h.1.mine) k))
 call_had w p (Migrating e) c x h k = migration_had w p e e.stage c x h.buffer k
 
+-- in a sound world each mark in a buffer is one that its cell has had
 pub buffered : (w : PlainWorld) → IsSound w → Buffered w
 buffered w sound = record { had = λ q c x l k. call_had w q (w.situation q) c x (sound.calls q l) k }

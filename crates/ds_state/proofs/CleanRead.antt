@@ -22,6 +22,7 @@ read_code processes zero dirty h is = (refl, none_clean dirty is)
 read_code processes (suc code) dirty h is = absurd (false≢true (
     sym (ap (λ (o : Option ℕ). is_clean (state_by (present processes o) dirty)) (some_code code) ∙ held_not processes code dirty (h code (omega arith))) ∙ is))
 
+-- a mark of the sheet that is read as clean is clean
 pub clean_read : (w : PlainWorld) (c word : ℕ) → IsMark w.layout c word → reads_clean w.layout.processes word ≡ true → IsClean word
 clean_read w c word mark is =
     let r = read_code w.layout.processes (word / 2 % 16) (word % 2 == 1) (λ q by. (mark q by).0) is in
@@ -29,11 +30,13 @@ clean_read w c word mark is =
     let b = eqb-false (word % 2) 1 r.1 in
     omega arith
 
+-- a clean mark is read as clean
 pub clean_reads : (processes word : ℕ) → IsClean word → reads_clean processes word ≡ true
 clean_reads processes word clean =
     let a : word / 2 % 16 ≡ 0 = omega arith in
     ap (λ (code : ℕ). is_clean (state_by (present processes (holder_of code)) (word % 2 == 1))) a
     ∙ ap (λ (b : Bool). is_clean (state_by None b)) (ne_eqb (word % 2) 1 (λ same. omega arith))
 
+-- a mark that is not read as clean is not clean
 pub dirty_read : (processes word : ℕ) → reads_clean processes word ≡ false → IsClean word → ⊥
 dirty_read processes word is clean = false≢true (sym is ∙ clean_reads processes word clean)

@@ -67,6 +67,7 @@ increasing_push (x ∷ es) e h below =
 subset_of : (a b : ℕ) → b ≡ a → IsSubset a b
 subset_of a b e = subst (λ (x : ℕ). IsSubset a x) (sym e) (IsSubset-same a)
 
+-- what is in a list of one element is that element
 pub contains_one : {A : Type 0} (x e : A) → Contains (x ∷ []) e → e ≡ x
 contains_one x e (zero, lt, is) = sym is
 contains_one x e (suc k, lt, is) = absurd (omega arith)

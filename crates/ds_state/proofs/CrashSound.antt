@@ -65,6 +65,7 @@ two_phases (x ∷ es) p n = by (is_edit_of p n x) refl (two_phases es p n)
 abbrev pub Said : Known → Type 0
 Said k = MaySay k.standing k.before × MaySay k.standing k.now × (rank k.before ≤ rank k.now)
 
+-- at each stage an edit announces, on both sides, what one in doubt may announce, in that order
 pub edit_says : (parts refs : ℕ) (s : Stage) → Said (known_at parts refs s)
 edit_says parts refs (edits.StoreOutcome outcome.Done) = (tt, tt, omega arith)
 edit_says parts refs (edits.StoreOutcome (outcome.Overtaken a b)) = (tt, tt, omega arith)
@@ -98,6 +99,7 @@ header_of_record w edition e size some h = record { cached = at; persisted = at'
     at' zero l = h.persisted 0 some
     at' (suc k) l = absurd (omega arith)
 
+-- an edit whose record is whole on both sides has its header there, whatever it announces
 pub written_all : (w : PlainWorld) (edition : Edition) (e : PlainEdit) (a : Announced) → IsRecorded w edition e (record_size e) (record_size e) → IsWritten w e a
 written_all w edition e last h = tt
 written_all w edition e pending h = header_of_record w edition e (record_size e) (omega arith) h

@@ -28,6 +28,7 @@ pub survivors_increase : (m : Memory Place) (es : List PlainEdit) → Increasing
 unfolding survivors
 survivors_increase m es h = increasing_filter (λ (f : PlainEdit). if is_lost m f then false else true) es h
 
+-- what holds of all edits holds of those that a crash leaves
 pub survivors_all : (P : PlainEdit → Type 0) (m : Memory Place) (es : List PlainEdit) → All P es → All P (survivors m es)
 unfolding survivors
 survivors_all P m es h = All-filter (λ (f : PlainEdit). if is_lost m f then false else true) P es h

@@ -25,6 +25,7 @@ dirty_bit x (suc i) =
     let d : bit_at (x / 2 * 2 + 1) (suc i) ≡ bit_at (x / 2) i = bit_at-suc (x / 2 * 2 + 1) i ∙ ap (λ (y : ℕ). bit_at y i) half in
     omega arith
 
+-- the dirty bit added to a mark's word: the odd word of the same tenure
 pub or_dirty : (x : ℕ) → bit_or x DIRTY ≡ x / 2 * 2 + 1
 or_dirty x = same_from_bits (bit_or x 1) (x / 2 * 2 + 1) (λ i. dirty_bit x i)
 
@@ -38,6 +39,7 @@ or_moves p c v =
       holds = λ q ne. record { cached = λ h. omega arith; persisted = λ h k. k; came = λ h. omega arith };
     }
 
+-- a mark that fits also fits with the dirty bit added on its cached side
 pub or_mark_fits : (w : PlainWorld) (cell c v : ℕ) → MarkFits w cell c v → MarkFits w cell (bit_or c DIRTY) v
 or_mark_fits w cell c v h =
     let is = or_dirty c in

@@ -46,6 +46,7 @@ distinct_few (e ∷ es) cs d h =
 pub dones_few : (counted : List PlainEdit) (pending : ℕ → Option PlainIssue) (done : ℕ) → HasAnswered counted pending done → done ≤ length counted
 dones_few counted pending done h = subst (λ (n : ℕ). n ≤ length counted) h.as_many (distinct_few h.closed counted h.once h.count)
 
+-- no more edits were answered Done than count
 pub few_dones : (v : WorldValue) → IsGood v → v.done ≤ length v.counted
 few_dones v g = dones_few (world_of v).counted (world_of v).open_edits v.done g.answered
 

@@ -23,6 +23,7 @@ use Rattle.ds_state.proofs.Heads.{cell_of-middle}
 use Rattle.ds_state.proofs.Noted.{of_sheet_middle}
 use Rattle.ds_state.proofs.EditSteps.{edit_on}
 
+-- what was owed is owed where it matters, clean marks stand, and sides that may differ still may, or agree
 pub record Framed (old new : PlainWorld) : Type 0 where
   pub bears : Bears old new
   pub stand : AllStand new

@@ -17,6 +17,7 @@ use Rattle.ds_state.proofs.Frames.{Moves, CatchesUp}
 use Rattle.ds_state.proofs.Bearing.{Buffered, Mine, durable_least, on_its_way_excuses}
 use Rattle.ds_state.proofs.Telling.{matters_most, odd_above}
 
+-- the same edit, at this stage
 abbrev pub edit_on : PlainEditCall → Stage → PlainEditCall
 edit_on e s = record e { stage = s }
 

@@ -56,6 +56,7 @@ length_total k (e ∷ es) h =
     let b = total_more k e es (All-head (λ (f : PlainEdit). f.process < k) e es h) in
     omega arith
 
+-- in a sound world no more edits count than 256 for each process
 pub counted_few : (w : PlainWorld) → IsSound w → length w.counted ≤ 256 * w.layout.processes
 counted_few w s =
     let a = length_total w.layout.processes w.counted (λ k d l. (s.of_sheet k d l).process) in

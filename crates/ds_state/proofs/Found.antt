@@ -17,9 +17,11 @@ use Rattle.ds_state.proofs.Heads.{cell_of-middle}
 use Rattle.ds_state.proofs.Outcomes.{kept, dropped}
 use Rattle.ds_state.proofs.Noted.{of_sheet_middle}
 
+-- what stands between two lists is in the whole
 pub contains_at : (before : List PlainEdit) (e : PlainEdit) (after : List PlainEdit) → Contains (before ++ e ∷ after) e
 contains_at before e after = Contains-append_right before (e ∷ after) e (zero, omega arith, refl)
 
+-- what is in a list is in it with one more in front
 pub contains_more : (x e : PlainEdit) (es : List PlainEdit) → Contains es e → Contains (x ∷ es) e
 contains_more x e es (k, l, is) = (suc k, omega arith, is)
 
@@ -27,6 +29,7 @@ in_front : (x e : PlainEdit) (es fs : List PlainEdit) → (Contains fs e → Con
 in_front x e es fs again (zero, l, is) = (zero, omega arith, is)
 in_front x e es fs again (suc k, l, is) = contains_more x e es (again (k, omega arith, is))
 
+-- an edit among those of one cell is one of the list
 pub from_cell : (cell : ℕ) (es : List PlainEdit) (e : PlainEdit) → Contains (of_cell cell es) e → Contains es e
 unfolding of_cell
 from_cell cell [] e (k, l, is) = absurd (omega arith)
@@ -35,6 +38,7 @@ from_cell cell (x ∷ es) e h = elim (eqb_tells x.cell cell) [
   | inr other ↦ contains_more x e es (from_cell cell es e (subst (λ (xs : List PlainEdit). Contains xs e) (dropped cell x es other.0) h))
 ]
 
+-- an edit that gave a cell a head counts
 pub gave_counts : (w : PlainWorld) (cell head : ℕ) (by : PlainEdit) → IsHeadBy (of_cell cell w.counted) head by → Contains w.counted by
 gave_counts w cell head by h = from_cell cell w.counted by (subst (λ (es : List PlainEdit). Contains es by) (sym h.parts) (contains_at h.before by h.after))
 

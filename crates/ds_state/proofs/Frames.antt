@@ -58,6 +58,7 @@ MovesWord m p (Header q n) c v c' v' = (q ≡ p) ⊎ CatchesUp c v c' v'
 MovesWord m p (Text edition q n part) c v c' v' = (q ≡ p) ⊎ (CatchesUp c v c' v' ⊎ (seen_edition m ≡ edition → ⊥))
 MovesWord m p (Done q part) c v c' v' = IsSubset c c' × IsSubset v v'
 
+-- a mark whose sides stay keeps each hold
 pub stays_hold : (q c v c' v' : ℕ) → c' ≡ c → v' ≡ v → KeepsHold q c v c' v'
 stays_hold q c v c' v' a b = record { cached = λ h. omega arith; persisted = λ h k. omega arith; came = λ h. omega arith }
 
@@ -83,6 +84,7 @@ noted_stage edition FlushVersion = None
 noted_stage edition BackVersion = None
 noted_stage edition _ = Some edition
 
+-- the layout that a process in this situation counts on, where it counts on one
 abbrev pub noted_in : Situation → Option Edition
 noted_in (Idle next) = Some next.edition
 noted_in Stopped = None
@@ -144,9 +146,11 @@ abbrev pub KeepsApart : PlainWorld → PlainWorld → Type 0
 KeepsApart old new = (cell : ℕ) → IsApart old cell
     → IsApart new cell ⊎ ((new.memory.persisted (Value cell) ≡ new.memory.cached (Value cell)) × (new.memory.persisted (Kind cell) ≡ new.memory.cached (Kind cell)))
 
+-- a mark has one holder at most
 pub one_holder : (m p q : ℕ) → IsHeldBy p m → IsHeldBy q m → q ≡ p
 one_holder m p q a b = omega arith
 
+-- nobody holds a clean mark
 pub clean_free : (m q : ℕ) → IsClean m → IsHeldBy q m → ⊥
 clean_free m q a b = omega arith
 
@@ -175,6 +179,7 @@ pub shown_back : (old new : PlainWorld) → CatchesUp (old.memory.cached Version
 shown_back old new up edition (inl now) = inl (ap edition_of (sym up.0) ∙ now)
 shown_back old new up edition (inr now) = elim up.1 [ inl same ↦ inr (ap edition_of (sym same) ∙ now) | inr caught ↦ inl (ap edition_of (sym caught) ∙ now) ]
 
+-- where the version's word at most catches up, a layout that both sides say they still say
 pub agrees_on : (old new : PlainWorld) → CatchesUp (old.memory.cached Version) (old.memory.persisted Version) (new.memory.cached Version) (new.memory.persisted Version) → (edition : Edition) → Agrees old.memory edition → Agrees new.memory edition
 agrees_on old new up edition h = record {
   cached = ap edition_of up.0 ∙ h.cached;

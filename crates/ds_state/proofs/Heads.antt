@@ -14,19 +14,23 @@ pub record IsSmall (e : PlainEdit) : Type 0 where
   pub process : e.process < 256
   pub number : e.number < 256
 
+-- the processes and numbers of all these edits fit their places in a head
 abbrev pub Small : List PlainEdit → Type 0
 Small es = All (λ e. IsSmall e) es
 
 pub IsSmall-of_sheet : (w : PlainWorld) (e : PlainEdit) → IsOfSheet w e → IsSmall e
 IsSmall-of_sheet w e h = let p = h.process in let n = h.number in let l = w.layout.limited in record { process = omega arith; number = omega arith }
 
+-- the processes and numbers of edits of the sheet fit their places in a head
 pub small_counted : (w : PlainWorld) → All (λ e. IsOfSheet w e) w.counted → Small w.counted
 small_counted w h = λ k d lt. IsSmall-of_sheet w (get_or w.counted k d) (h k d lt)
 
+-- the edits of a cell in two lists, one behind the other, are those in the first and then those in the second
 pub of_cell-append : (cell : ℕ) (xs ys : List PlainEdit) → of_cell cell (xs ++ ys) ≡ of_cell cell xs ++ of_cell cell ys
 unfolding of_cell
 of_cell-append cell xs ys = filter-append (λ e. e.cell == cell) xs ys
 
+-- what fits in all edits fits in those of one cell
 pub small_of_cell : (cell : ℕ) (es : List PlainEdit) → Small es → Small (of_cell cell es)
 unfolding of_cell
 small_of_cell cell es h = All-filter (λ e. e.cell == cell) (λ e. IsSmall e) es h
@@ -45,6 +49,7 @@ pub of_cell-own : (e : PlainEdit) → of_cell e.cell (e ∷ []) ≡ e ∷ []
 unfolding of_cell
 of_cell-own e = rw (eq-eqb e.cell e.cell refl) refl
 
+-- an edit of another cell is none of the cell's
 pub of_cell-other : (cell : ℕ) (e : PlainEdit) → e.cell ≢ cell → of_cell cell (e ∷ []) ≡ []
 unfolding of_cell
 of_cell-other cell e ne = elim (eqb_tells e.cell cell) [ inl (t, eq) ↦ absurd (ne eq) | inr (f, ne') ↦ rw f refl ]
@@ -60,6 +65,7 @@ get_or-left [] ys k d lt = absurd (omega arith)
 get_or-left (x ∷ xs) ys zero d lt = refl
 get_or-left (x ∷ xs) ys (suc k) d lt = get_or-left xs ys k d (omega arith)
 
+-- what fits in all edits fits in the first of them
 pub small_before : (xs ys : List PlainEdit) → Small (xs ++ ys) → Small xs
 small_before xs ys h = λ k d lt.
     subst (λ (e : PlainEdit). IsSmall e) (get_or-left xs ys k d lt) (h k d (omega (arith, length-append xs ys)))
@@ -73,10 +79,12 @@ bounds (e ∷ es) stamp head s low high =
     let h = bounds es (stamp + 1) (head_by (stamp + 1) e) (small_tail e es s) (omega arith) (omega arith) in
     (omega arith, omega arith)
 
+-- the head after so many edits has no stamp below their number
 pub head_low : (es : List PlainEdit) → Small es → length es * 65536 ≤ head_after_all es
 unfolding head_after_all
 head_low es s = let h = bounds es 0 0 s (omega arith) (omega arith) in omega (arith, h.0)
 
+-- the head after so many edits has no stamp above their number
 pub head_high : (es : List PlainEdit) → Small es → head_after_all es < (length es + 1) * 65536
 unfolding head_after_all
 head_high es s = let h = bounds es 0 0 s (omega arith) (omega arith) in omega (arith, h.1)
@@ -85,10 +93,12 @@ from-push : (es : List PlainEdit) (stamp head : ℕ) (e : PlainEdit) → head_fr
 from-push [] stamp head e = ap (λ n. head_by n e) (omega arith)
 from-push (x ∷ es) stamp head e = from-push es (stamp + 1) (head_by (stamp + 1) x) e ∙ ap (λ n. head_by n e) (omega arith)
 
+-- the head after one edit more is that edit's, with the next stamp
 pub head_push : (es : List PlainEdit) (e : PlainEdit) → head_after_all (es ++ e ∷ []) ≡ head_by (length es + 1) e
 unfolding head_after_all
 head_push es e = from-push es 0 0 e ∙ ap (λ n. head_by n e) (omega arith)
 
+-- the head after some edits is less than that after one more, and whatever comes behind
 pub head_grows : (before : List PlainEdit) (e : PlainEdit) (after : List PlainEdit) → Small (before ++ e ∷ after) → head_after_all before < head_after_all (before ++ e ∷ after)
 head_grows before e after s =
     let low = head_low (before ++ e ∷ after) s in
@@ -105,6 +115,7 @@ most before e (x ∷ after) s =
     let l = head_push before e in
     omega arith
 
+-- a head that one of the edits gave is no greater than the head after all of them
 pub by_most : (es : List PlainEdit) (word : ℕ) (e : PlainEdit) → Small es → IsHeadBy es word e → word ≤ head_after_all es
 by_most es word e s h =
     let m = most h.before e h.after (subst (λ (xs : List PlainEdit). Small xs) h.parts s) in
@@ -112,6 +123,7 @@ by_most es word e s h =
     let w = h.is in
     omega arith
 
+-- a head that an edit gave is still that edit's where others come behind
 pub by_append : (es more : List PlainEdit) (word : ℕ) (e : PlainEdit) → IsHeadBy es word e → IsHeadBy (es ++ more) word e
 by_append es more word e h = record {
   before = h.before;
@@ -120,6 +132,7 @@ by_append es more word e h = record {
   is = h.is;
 }
 
+-- the head after all edits is that of the last one
 pub by_last : (es : List PlainEdit) (e : PlainEdit) → IsHeadBy (es ++ e ∷ []) (head_after_all (es ++ e ∷ [])) e
 by_last es e = record { before = es; after = []; parts = refl; is = head_push es e }
 

@@ -121,5 +121,6 @@ by_head : (w : PlainWorld) (cell : ℕ) → IsSound w → (found : Option declar
 by_head w cell s None is = sym (text_without_head w cell s is)
 by_head w cell s (Some head) is = let h = text_at_head w cell head s is in record_read w.layout w.memory (seen_edition w.memory) head.process head.number h.cell (last_text (of_cell cell w.counted)) h.within h.stands
 
+-- in a sound world a cell has the text of its last edit that counts
 pub text_right : (w : PlainWorld) (cell : ℕ) → IsSound w → text_at w.layout w.memory cell ≡ last_text (of_cell cell w.counted)
 text_right w cell s = by_head w cell s (head_of w.layout.processes (w.memory.cached (place.Head cell))) refl

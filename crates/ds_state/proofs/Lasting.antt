@@ -15,6 +15,7 @@ use Rattle.ds_state.proofs.Heads.{of_cell-append, by_append}
 use Rattle.ds_layout.specs.declared.place.Edition.{Edition}
 use Rattle.ds_state.specs.Editions.{seen_edition}
 
+-- a number that is at most a second one is at most what that one is at most
 pub at_most : {a b c : ℕ} → a ≤ b → b ≤ c → a ≤ c
 at_most h k = omega arith
 

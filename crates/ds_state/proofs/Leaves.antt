@@ -41,6 +41,7 @@ module _ (p : ℕ) (old new : PlainWorld) where
   pub stop_leaves : IsSound old → p < old.layout.processes → StopsIn p old new → Leaves p old new
   stop_leaves sound low stop = leaves_same (stop_keeps p old new sound low stop) stop.counted (λ h. (h.0, h.1, middles_stopped h.0 h.1 old new h.2 p sound low stop))
 
+-- what two doings of a process leave, one after the other, is what one doing leaves
 pub leaves_on : (p : ℕ) (old mid new : PlainWorld) → Leaves p old mid → Leaves p mid new → Leaves p old new
 leaves_on p old mid new a b = record {
   sound = b.sound;

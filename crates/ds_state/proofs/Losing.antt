@@ -42,6 +42,7 @@ survivors_of : (m : Memory Place) (cell : ℕ) (edits : List PlainEdit) → of_c
 unfolding of_cell survivors
 survivors_of m cell edits = keeps_cell (keep m) cell edits
 
+-- where each process's numbers grow along a list, they do along what is left of it
 pub increasing_filter : (p : PlainEdit → Bool) (es : List PlainEdit) → Increasing es → Increasing (filter p es)
 increasing_filter p [] h = tt
 increasing_filter p (x ∷ es) h = by (p x) refl (increasing_filter p es h.1)
@@ -50,6 +51,7 @@ increasing_filter p (x ∷ es) h = by (p x) refl (increasing_filter p es h.1)
     by true q again = rw q (All-filter p (λ (f : PlainEdit). f.process ≡ x.process → x.number < f.number) es h.0, again)
     by false q again = rw q again
 
+-- where each process's numbers grow along a list, they do along the edits of one cell
 pub increasing_cell : (cell : ℕ) (es : List PlainEdit) → Increasing es → Increasing (of_cell cell es)
 unfolding of_cell
 increasing_cell cell es h = increasing_filter (λ e. e.cell == cell) es h

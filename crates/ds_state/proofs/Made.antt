@@ -20,6 +20,7 @@ use Rattle.ds_state.specs.declared.situation.Situation.TheVariants.{Idle}
 use Rattle.ds_state.proofs.New.{new_sound, reads_back}
 use Rattle.ds_state.proofs.Underway.{none_idle}
 
+-- so many equal situations and one more are one more of them
 pub one_more : (n : ℕ) (s : Situation) → replicate n s ++ s ∷ [] ≡ replicate (n + 1) s
 one_more n s = replicate_more n s
 
@@ -45,6 +46,7 @@ made sheet edition = record {
   reports = no_reports sheet.layout.processes (cells_of sheet.layout);
 }
 
+-- a world made of new words is new
 pub made_new : (sheet : SheetValue) (edition : Edition) → AreNew (memory sheet) edition → IsNew (world_of (made sheet edition))
 made_new sheet edition fresh = record {
   edition = edition;
@@ -54,6 +56,7 @@ made_new sheet edition fresh = record {
   open_edits = λ p. none_same sheet.layout.processes p;
 }
 
+-- a world made of new words is good, and has a place for each edit that can be numbered
 pub made_kept : (sheet : SheetValue) (edition : Edition) (room : ℕ) → AreNew (memory sheet) edition → sheet.layout.processes * RECORDS ≤ room → IsReserved (made sheet edition) room
 made_kept sheet edition room fresh enough =
     let processes : ℕ = sheet.layout.processes in

@@ -30,6 +30,7 @@ dirty_is zero lt = refl
 dirty_is (suc zero) lt = refl
 dirty_is (suc (suc n)) lt = absurd (omega arith)
 
+-- in a sound world a mark's word says no more than what is read of it
 pub mark_whole : (w : PlainWorld) (cell : ℕ) → IsSound w → mark_word (mark_at w.layout w.memory cell) ≡ w.memory.cached (Mark cell)
 mark_whole w cell sound =
     let word : ℕ = w.memory.cached (Mark cell) in
@@ -66,6 +67,7 @@ by_call w cell q (Recovering e) fits by = tt
 by_call w cell q (Reporting e) fits by = fits.1.holds_none cell (subst (λ p. IsHeldBy p (w.memory.cached (Mark cell))) (sym fits.1.mine) by)
 by_call w cell q (Migrating e) fits by = tt
 
+-- in a sound world a mark names a process of the sheet that may hold the cell
 pub mark_names : (w : PlainWorld) (cell q : ℕ) → IsSound w → (mark_at w.layout w.memory cell).holder ≡ Some q → (q < w.layout.processes) × MayHold cell (w.situation q)
 mark_names w cell q sound is =
     let one = named w.layout.processes (w.memory.cached (Mark cell) / 2 % 16) q is in

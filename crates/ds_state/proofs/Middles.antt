@@ -41,6 +41,7 @@ lasts_of q but old new g = record {
 pub lasts_kept : (p : ℕ) (old new : PlainWorld) → Keeps p old new → Lasts old new
 lasts_kept p old new k = lasts_of (suc p) Version old new ((k.others (suc p) (λ same. omega arith)).grows Version)
 
+-- all lasts where nothing happens
 pub lasts_same : (w : PlainWorld) → Lasts w w
 lasts_same w = record {
   layout = refl;
@@ -51,6 +52,7 @@ lasts_same w = record {
   counted = sym (append-nil w.counted);
 }
 
+-- what lasts from a first world to a second and from there to a third lasts from the first to the third
 pub lasts_on : (old mid new : PlainWorld) → Lasts old mid → Lasts mid new → Lasts old new
 lasts_on old mid new a b = record {
   layout = b.layout ∙ a.layout;
@@ -85,12 +87,14 @@ lasts_evicted place old new v = record {
 
 -- ---- one world in place of another
 
+-- the process that is changed has the new world
 pub but_here : (worlds : ℕ → PlainWorld) (p q : ℕ) (w : PlainWorld) → q ≡ p → but_for worlds p w q ≡ w
 but_here worlds p q w same = elim (eqb_tells q p) [
   | inl is ↦ rw is.0 refl
   | inr differs ↦ absurd (differs.1 same)
 ]
 
+-- each other process has the world that it had
 pub but_there : (worlds : ℕ → PlainWorld) (p q : ℕ) (w : PlainWorld) → q ≢ p → but_for worlds p w q ≡ worlds q
 but_there worlds p q w ne = elim (eqb_tells q p) [
   | inl is ↦ absurd (ne is.1)
@@ -142,11 +146,14 @@ module _ (firsts mids : ℕ → PlainWorld) (old new : PlainWorld) (h : Middles 
 middles_none : (firsts mids : ℕ → PlainWorld) (w : PlainWorld) → ((p : ℕ) → p < w.layout.processes → (e : PlainReportCall) → w.situation p ≡ Reporting e → ⊥) → Middles firsts mids w
 middles_none firsts mids w none p low e is = absurd (none p low e is)
 
+-- in a new world no report needs a middle
 pub middles_new : (firsts mids : ℕ → PlainWorld) (w : PlainWorld) → IsNew w → Middles firsts mids w
 middles_new firsts mids w new = middles_none firsts mids w (λ p low e is. let both : Idle (record { number = 0; edition = new.edition }) ≡ Reporting e = sym (new.situation p low) ∙ is in cc)
 
+-- where every process is stopped no report needs a middle
 pub middles_at_rest : (firsts mids : ℕ → PlainWorld) (w : PlainWorld) → ((p : ℕ) → p < w.layout.processes → w.situation p ≡ Stopped) → Middles firsts mids w
 middles_at_rest firsts mids w rest = middles_none firsts mids w (λ p low e is. let both : Stopped ≡ Reporting e = sym (rest p low) ∙ is in cc)
 
+-- after a crash no report needs a middle
 pub middles_crashed : (firsts mids : ℕ → PlainWorld) (old new : PlainWorld) → CrashesTo old new → Middles firsts mids new
 middles_crashed firsts mids old new crash = middles_at_rest firsts mids new (λ p low. crash.situation p (let same = ap (λ (x : Layout). x.processes) crash.layout in omega arith))

@@ -74,6 +74,7 @@ version_word : (edition : Edition) (c p : ℕ) → c ≡ edition_word edition �
 version_word First c p a b = record { behind = omega arith; most = omega arith }
 version_word Second c p a b = record { behind = omega arith; most = omega arith }
 
+-- the version's word of a layout says that layout
 pub reads_back : (edition : Edition) (word : ℕ) → word ≡ edition_word edition → edition_of word ≡ edition
 reads_back First word is = ap edition_of is
 reads_back Second word is = ap edition_of is
@@ -102,6 +103,7 @@ new_stands w is =
       on_persisted = λ c x clean d. inr (record { content = Empty; has = inl (fresh.persisted (Head c) (λ x. cc), refl); inputs = u; on_value = fresh.persisted (Value c) (λ x. cc) ∙ sym value; on_kind = fresh.persisted (Kind c) (λ x. cc) ∙ sym kind; near = λ d refers inside. absurd refers });
     }
 
+-- a new world is sound
 pub new_sound : (w : PlainWorld) → IsNew w → IsSound w
 new_sound w is =
     let fresh = is.memory in

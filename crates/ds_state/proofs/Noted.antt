@@ -21,6 +21,7 @@ last_cases (x ∷ es) = elim (last_cases es) [
   | inr found ↦ inr (x ∷ found.0, found.1, ap (λ zs. x ∷ zs) found.2)
 ]
 
+-- lists that are equal have the same last edit
 pub last_same : (before : List PlainEdit) (by : PlainEdit) (before' : List PlainEdit) (by' : PlainEdit) → before ++ by ∷ [] ≡ before' ++ by' ∷ [] → by' ≡ by
 last_same before by before' by' same = elim (parts_cases before by before' by' [] same) [
   | inl both ↦ both.1
@@ -42,9 +43,11 @@ of_sheet_middle w h cell before by after parts =
 pub when_now : (w : PlainWorld) (cell : ℕ) → of_cell_when w cell (length w.counted) ≡ of_cell cell w.counted
 when_now w cell = ap (λ es. of_cell cell es) (take-length w.counted)
 
+-- the edits of a cell are those of when so many counted, and then those that came since
 pub when_rest : (w : PlainWorld) (cell count : ℕ) → of_cell cell w.counted ≡ of_cell_when w cell count ++ of_cell cell (drop count w.counted)
 when_rest w cell count = ap (λ es. of_cell cell es) (sym (take-append-drop count w.counted)) ∙ of_cell-append cell (take count w.counted) (drop count w.counted)
 
+-- the head that an edit noted is one that a counted edit gave its cell, now, too
 pub noted_by : (w : PlainWorld) (e : PlainEdit) (since : ℕ) (head : Head) → (h : IsNoted w e since head) → IsHeadBy (of_cell e.cell w.counted) (head_word head) h.by
 noted_by w e since head h = subst (λ (es : List PlainEdit). IsHeadBy es (head_word head) h.by) (sym (when_rest w e.cell h.count))
     (by_append (of_cell_when w e.cell h.count) (of_cell e.cell (drop h.count w.counted)) (head_word head) h.by
@@ -56,6 +59,7 @@ pub when_most : (xs ys : List PlainEdit) → Small (xs ++ ys) → head_after_all
 when_most xs [] s = rw (append-nil xs) (omega arith)
 when_most xs (y ∷ ys) s = let g = head_grows xs y ys s in omega arith
 
+-- where the head is the same with edits behind, there are none behind
 pub when_same : (xs ys : List PlainEdit) → Small (xs ++ ys) → head_after_all xs ≡ head_after_all (xs ++ ys) → xs ++ ys ≡ xs
 when_same xs [] s same = append-nil xs
 when_same xs (y ∷ ys) s same = let g = head_grows xs y ys s in absurd (omega arith)

@@ -6,6 +6,7 @@ use Rattle.std.proofs.lemmas.List.Elements.{All-head, All-tail}
 use Rattle.ds_layout.specs.declared.announcement.Phase.TheVariants as phase
 use Rattle.ds_state.specs.World.{PlainEdit, of_cell, phase_among}
 
+-- an edit above all numbers of its process in the list is not done
 pub not_among : (es : List PlainEdit) (p n : ℕ) → All (λ e. e.process ≡ p → e.number < n) es → phase_among es p n ≡ phase.NotDone
 not_among [] p n h = refl
 not_among (e ∷ es) p n h =
@@ -24,9 +25,11 @@ in_rest : (es : List PlainEdit) (cell : ℕ) (x e : PlainEdit) (before after : L
 in_rest es cell x e [] after again ne parts = absurd (ne (cc))
 in_rest es cell x e (b ∷ before) after again ne parts = again before (cc)
 
+-- an edit of the cell at the front is the first of the cell's
 pub kept : (cell : ℕ) (x : PlainEdit) (es : List PlainEdit) → (x.cell == cell) ≡ true → filter (λ (f : PlainEdit). f.cell == cell) (x ∷ es) ≡ x ∷ filter (λ (f : PlainEdit). f.cell == cell) es
 kept cell x es t = rw t refl
 
+-- an edit of another cell at the front is none of the cell's
 pub dropped : (cell : ℕ) (x : PlainEdit) (es : List PlainEdit) → (x.cell == cell) ≡ false → filter (λ (f : PlainEdit). f.cell == cell) (x ∷ es) ≡ filter (λ (f : PlainEdit). f.cell == cell) es
 dropped cell x es t = rw t refl
 
@@ -38,6 +41,7 @@ later es cell x e before after again parts ne = elim (eqb_tells x.cell cell) [
   | inr other ↦ again before (sym (dropped cell x es other.0) ∙ parts)
 ]
 
+-- an edit that stands among those of its cell ended as done
 pub among : (es : List PlainEdit) (cell : ℕ) (before : List PlainEdit) (e : PlainEdit) (after : List PlainEdit) → of_cell cell es ≡ before ++ e ∷ after → phase_among es e.process e.number ≡ phase.Done
 unfolding of_cell
 among [] cell [] e after parts = absurd (cc)

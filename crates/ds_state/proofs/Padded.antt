@@ -56,6 +56,7 @@ padded_push bytes len b h room small =
       rest = same ∙ twice ∙ ap (λ (xs : List ℕ). drop 1 xs) h.rest ∙ zeros_less (TEXT_MOST - (len + 1)) (TEXT_MOST - len) (omega arith);
     }
 
+-- what lies at the front of padded bytes is a text
 pub text_within : (bytes : List ℕ) (len : ℕ) → IsPadded bytes len → IsText (take len bytes)
 text_within bytes len h =
     let size = h.size in

@@ -32,6 +32,7 @@ no_excuse w p (Recovering e) c x none h o = none_some (w.open_edits p) o.0.issue
 no_excuse w p (Reporting e) c x none h o = o
 no_excuse w p (Migrating e) c x none h o = none_some (w.open_edits p) o.issue none o.issued
 
+-- in a sound, calm world each cell shows what its content gives of what the others show
 pub quiet_right : (w : PlainWorld) → IsSound w → IsCalm w → (c : ℕ) → IsLocalAt w c
 quiet_right w sound calm c = elim (sound.stand.on_cached c (calm.clean c)) [
   | inl o ↦ absurd (no_excuse w o.process (w.situation o.process) c _ (calm.answered o.process o.inside) (sound.calls o.process o.inside) o.still)

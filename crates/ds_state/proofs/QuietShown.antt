@@ -47,6 +47,7 @@ says w p (Recovering e) none h = let t = subst (λ (o : Option PlainIssue). Doub
 says w p (Reporting e) none h = (e.next, h.1.rest.number, subst (λ (q : ℕ). w.memory.cached (Announce q) ≡ last_announcement w.counted q e.next) h.1.mine h.1.rest.cached)
 says w p (Migrating e) none h = let t = subst (λ (o : Option PlainIssue). DoubtFits w p o) none h.doubt in (t.next, t.rest.number, t.rest.cached)
 
+-- the moment that a sound, quiet world is, is still
 pub quiet_still : (w : PlainWorld) → IsSound w → IsQuiet w → IsStill w.layout (moment_of w)
 quiet_still w sound quiet = record {
   clean = λ c l. clean_read w c (w.memory.cached (Mark c)) (sound.words (Mark c)).holder (ap is_clean (quiet.clean c l));
@@ -58,6 +59,7 @@ pub same_map : (f g : ℕ → values.Value) (a n : ℕ) → ((i : ℕ) → a ≤
 same_map f g a zero h = refl
 same_map f g a (suc n) h = ap (λ (x : values.Value). x ∷ map f (range_with_len (a + 1) n)) (h a (omega arith) (omega arith)) ∙ ap (λ (xs : List values.Value). g a ∷ xs) (same_map f g (a + 1) n (λ i l k. h i (omega arith) (omega arith)))
 
+-- a sound, quiet world shows the values of the edits that count, from scratch
 pub quiet_shows : (w : PlainWorld) → IsSound w → IsQuiet w → AreScratch w.layout.shape w.counted (values_shown w)
 quiet_shows w sound quiet =
     let right : IsRight w.layout.shape (moment_of w) = still_right w sound (quiet_still w sound quiet) in

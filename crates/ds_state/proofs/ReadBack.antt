@@ -46,6 +46,7 @@ parts_more m edition process number count part =
     let same : part + 1 ≡ suc part = omega arith in
     ap (λ (k : ℕ). parts_at m edition process number count k) same
 
+-- the bytes of the next part, behind those read so far: one part more of the record's text
 pub next_read : (m : Memory Place) (edition : Edition) (process number count part rest word : ℕ) (before bytes after : List ℕ) → before ≡ parts_at m edition process number count part → rest ≡ min (count - 8 * part) 8
     → word ≡ m.cached (place.Text edition process number part) → bytes ≡ bytes_of word → after ≡ before ++ take rest bytes → after ≡ parts_at m edition process number count (part + 1)
 next_read m edition process number count part rest word before bytes after prior few is read added =
@@ -82,6 +83,7 @@ record_read layout m edition process number cell text within h =
 pub header_in_some : (edition : Edition) (header : Header) → header.length ≤ most_in edition → header_in edition (Some header) ≡ Some header
 header_in_some edition header fits = ap (λ (b : Bool). if b then Some header else None) (le-leb header.length (most_in edition) fits)
 
+-- a header that a layout takes says no more bytes than a text of the layout may have
 pub header_in_fits : (edition : Edition) (o : Option Header) (header : Header) → header_in edition o ≡ Some header → header.length ≤ most_in edition
 header_in_fits edition None header is = absurd (cc)
 header_in_fits edition (Some h) header is = by (nat_le h.length (most_in edition)) refl is
@@ -90,6 +92,7 @@ header_in_fits edition (Some h) header is = by (nat_le h.length (most_in edition
     by true le same = let one : h ≡ header = cc in subst (λ (x : Header). x.length ≤ most_in edition) one (leb-true h.length (most_in edition) le)
     by false le same = absurd (cc)
 
+-- a text has at most 240 bytes in either layout
 pub most_small : (edition : Edition) → most_in edition ≤ 240
 most_small First = omega arith
 most_small Second = omega arith

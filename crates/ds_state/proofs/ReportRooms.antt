@@ -5,6 +5,7 @@ use Rattle.std.proofs.lemmas.List.Elements.{All-push, All-set, All-get_or}
 use Rattle.ds_eval.specs.declared.value.Value.{Value}
 use Rattle.ds_state.specs.Reports.{HaveRoom}
 
+-- one more report, with no values and with room for all cells, behind those that are so
 pub one_more : {X : Type 0} (f : X → List Value) (g : X → ℕ) (xs ys : List X) (x : X) (n cells : ℕ) → ys ≡ xs ++ x ∷ [] → map f xs ≡ replicate n [] → HaveRoom cells (map g xs) → f x ≡ [] → cells ≤ g x
     → (map f ys ≡ replicate (n + 1) []) × HaveRoom cells (map g ys)
 one_more f g xs ys x n cells is none rooms empty room =

@@ -91,6 +91,7 @@ module _ (w : PlainWorld) (small : Small w.counted) where
   between_moves m p (Text edition q n part) c v v' h b = inr (inl (refl, b))
   between_moves m p (Done q part) c v v' h b = (IsSubset-same c, b.0)
 
+-- a word that fits also fits with a persisted side that a write-back or an eviction may make of it
 pub between_fits : (w : PlainWorld) (r : Place) (c v v' : ℕ) → WordFits w r c v → IsBetween w.layout r c v v' → WordFits w r c v'
 between_fits w Version c v v' h b = record { behind = (let k = h.behind in elim b [ inl same ↦ omega arith | inr now ↦ omega arith ]); most = h.most }
 between_fits w (Head cell) c v v' h b = elim b [

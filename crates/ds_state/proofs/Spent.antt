@@ -27,6 +27,7 @@ spent_grown old new q n more h = omega (arith, more, h)
 pub spent_stays : (p : ℕ) (old new : PlainWorld) → Keeps p old new → (q n : ℕ) → IsSpent old q n → IsSpent new q n
 spent_stays p old new k q n = spent_grown old new q n (((k.others (suc p) (λ same. omega arith)).grows Version).announces_persisted q)
 
+-- a number that is spent stays so in an eviction
 pub spent_evicted : (place : Place) (old new : PlainWorld) → IsSound old → Evicts place old new → (q n : ℕ) → IsSpent old q n → IsSpent new q n
 spent_evicted place old new sound v q n = spent_grown old new q n (elim (place_cases (Announce q) place) [
   | inl eq ↦ (
@@ -36,6 +37,7 @@ spent_evicted place old new sound v q n = spent_grown old new q n (elim (place_c
   | inr ne ↦ (let same = v.memory.elsewhere (Announce q) ne in omega (arith, same))
 ])
 
+-- a number that is spent stays so in a crash
 pub spent_crashed : (old new : PlainWorld) → CrashesTo old new → (q n : ℕ) → IsSpent old q n → IsSpent new q n
 spent_crashed old new crash q n = spent_grown old new q n (let same = crash.memory.persisted (Announce q) in omega (arith, same))
 
@@ -55,8 +57,10 @@ module _ (w : PlainWorld) (e : PlainEditCall) (sound : IsSound w) (low : e.proce
   answer_spent outcome.Done is = let k = knows (Answer outcome.Done) is in elim k.announced.persisted [ inl p ↦ omega (arith, p) | inr p ↦ omega (arith, p) ]
   answer_spent (outcome.Overtaken noted seen) is = let k = knows (Answer (outcome.Overtaken noted seen)) is in elim k.announced.persisted [ inl p ↦ omega (arith, p) | inr p ↦ omega (arith, p) ]
 
+-- an edit that is about to swing has a number above each spent one of its process
 pub swap_law : (w : PlainWorld) (e : PlainEditCall) (head n : ℕ) → IsSound w → e.process < w.layout.processes → w.situation e.process ≡ Editing e → e.stage ≡ Swap head → IsSpent w e.process n → n < e.number
 swap_law w e head n sound low at = swap_unspent w e sound low at head n
 
+-- at its answer an edit's number is spent
 pub answer_law : (w : PlainWorld) (e : PlainEditCall) (how : Outcome) → IsSound w → e.process < w.layout.processes → w.situation e.process ≡ Editing e → e.stage ≡ Answer how → IsSpent w e.process e.number
 answer_law w e how sound low at = answer_spent w e sound low at how

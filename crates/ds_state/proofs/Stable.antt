@@ -165,6 +165,7 @@ header_stable but old new e g apart h = record {
     at' zero l = elim (g.owned_persisted (Header e.process e.number) refl apart) [ inl same ↦ same ∙ h.persisted 0 l | inr now ↦ now ∙ h.cached 0 l ]
     at' (suc k) l = absurd (omega arith)
 
+-- the header of an edit that has announced itself stays, but at the word that its process itself changes
 pub written_stable : (but : Place) (old new : PlainWorld) (e : PlainEdit) → Grows e.process but old new → Header e.process e.number ≢ but → (a : Announced) → IsWritten old e a → IsWritten new e a
 written_stable but old new e g apart last h = tt
 written_stable but old new e g apart pending h = header_stable but old new e g apart h

@@ -80,5 +80,6 @@ show_goes old new q e m g' pending buffer h =
       seen = seen_stable e.process old new g e.announcements e.marks e.values e.kinds m (seen_at e.cells e.processes e.stage) h.seen;
     }
 
+-- what a report knows stays while another process steps
 pub show_stable : (old new : PlainWorld) (q : ℕ) (e : PlainReportCall) → Rely q old new → ReportFits old q e → ReportFits new q e
 show_stable old new q e r (m, h) = (m, show_goes old new q e m (r.grows Version) r.open_edits r.buffer h)

@@ -26,6 +26,7 @@ abbrev pub ToldFits : List ℕ → ℕ → ℕ → Option ℕ → Type 0
 ToldFits row n d (Some k) = (d ≤ k) × (k < d + n) × ((c : ℕ) → d ≤ c → StandsIn row c → k ≤ c)
 ToldFits row n d None = (c : ℕ) → d ≤ c → c < d + n → StandsIn row c → ⊥
 
+-- the search finds the first cell whose bit stands in the row, from a cell on, or there is none
 pub first_told : (row : List ℕ) (n d : ℕ) → ToldFits row n d (told_from row n d)
 first_told row zero d = λ c l m h. omega arith
 first_told row (suc n) d = go (bit_at (slice_index_or row (d / 64) 0) (d % 64) == 1) (eqb-false (bit_at (slice_index_or row (d / 64) 0) (d % 64)) 1) (told_from row n (d + 1)) (first_told row n (d + 1))
@@ -57,6 +58,7 @@ told_is row cells d o some none = go (told_from row (cells - d) d) refl (first_t
       | inr ne ↦ absurd (some.1.none j fits.0 (let m = fits.2 k some.1.from some.1.has in omega arith) (told_stands row (cells - d) d j is))
     ]
 
+-- the dirty bit added on a mark's cached side leaves each hold
 pub or_hold : (q c v : ℕ) → KeepsHold q c v (bit_or c DIRTY) v
 or_hold q c v = let is = or_dirty c in record { cached = λ h. omega arith; persisted = λ h k. k; came = λ h. omega arith }
 
@@ -80,6 +82,7 @@ matters_most p cell n old new store moves sound buffered c x (even, inr d) =
     let grows = (each_moved p (Mark cell) old new moves (Mark c)).cached in
     omega arith
 
+-- an even number that is at most an odd one is less
 pub odd_above : (x n : ℕ) → x % 2 ≡ 0 → n % 2 ≡ 1 → x ≤ n → x < n
 odd_above x n a b c = omega arith
 

@@ -16,6 +16,7 @@ after_set (x ∷ xs) (suc p) s d l = let h = after_set xs p s d (omega arith) in
 pub no_more : (ss : List Situation) (p : ℕ) (s : Situation) (settled most : ℕ) → p < length ss → reports_in s ≡ 0 → settled + reports_under_way ss ≤ most → settled + reports_under_way (set ss p s) ≤ most
 no_more ss p s settled most l none h = let k = after_set ss p s s l in omega arith
 
+-- one process has at most one report under way
 pub at_most_one : (s : Situation) → reports_in s ≤ 1
 at_most_one (Idle next) = omega arith
 at_most_one Stopped = omega arith
@@ -42,6 +43,7 @@ one_more (x ∷ xs) s = let h = one_more xs s in omega arith
 pub one_further : (ss : List Situation) (i : ℕ) (s : Situation) → i < length ss → s ≡ get_or ss i s → reports_under_way (take (i + 1) ss) ≡ reports_under_way (take i ss) + reports_in s
 one_further ss i s l is = ap reports_under_way (take_more ss i s l ∙ ap (λ (x : Situation). take i ss ++ x ∷ []) (sym is)) ∙ one_more (take i ss) s
 
+-- the first so many processes have at most so many reports under way
 pub at_most_so_many : (ss : List Situation) (i : ℕ) → reports_under_way (take i ss) ≤ i
 at_most_so_many ss zero = omega arith
 at_most_so_many [] (suc i) = omega arith

@@ -19,6 +19,7 @@ use Rattle.ds_stops.proofs.Playing.{count_on}
 
 -- ---- a command that is on its way
 
+-- a command that is on its way, and is then played to its end, ends
 pub way_ends : (doing : Doing) (old mid new : WorldValue) (l : Left) (before taken now : ℕ) → OnTheWay doing old before taken l mid → Ends (doing_of l) mid taken now new → Ends doing old before now new
 way_ends doing old mid new l before taken now o e = record {
   events = o.events ++ e.events;
@@ -30,6 +31,7 @@ way_ends doing old mid new l before taken now o e = record {
       omega (arith, both, o.count, e.count);
 }
 
+-- a command that is on its way, and is then played up to a step, halts there
 pub way_halts : (doing : Doing) (old mid new : WorldValue) (l : Left) (before taken last : ℕ) (left : Option Left) → OnTheWay doing old before taken l mid → Halts (doing_of l) mid taken last left new → Halts doing old before last left new
 way_halts doing old mid new l before taken last left o h =
     let events : (o.events ++ h.events) ++ Step h.p ∷ [] ≡ o.events ++ (h.events ++ Step h.p ∷ []) = append_assoc o.events h.events (Step h.p ∷ []) in

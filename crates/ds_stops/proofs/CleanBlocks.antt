@@ -175,6 +175,7 @@ module _ (whole : Bool) (script : List ℕ) (k : ℕ) (text : List ℕ) (b : IsB
     answers_are = reported.answers_are ∙ ap (λ (xs : List ℕ). xs ++ reported.answer) settled.answers_are;
   }
 
+-- a block with few enough events tells recoveries, a settle that says all is clean or lacks memory, and a report
 pub blocks_clean : (whole : Bool) (script : List ℕ) (k : ℕ) (text : List ℕ) (b : IsBlock whole script k text) → HasProcess b.crashed 0 → length (block_events b) + 2 * (cells_of b.crashed.sheet.layout + 2) ≤ SEEN_MOST
     → TellsClean b.crashed b.events b.replies b.answers b.new
 blocks_clean whole script k text b there few = clean_line whole script k text b there few

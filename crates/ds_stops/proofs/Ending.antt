@@ -27,6 +27,7 @@ use Rattle.ds_stops.proofs.Telling.{is_block}
 
 -- ---- ends
 
+-- the blocks of so many stops, with what is told of the next one behind, are those of one stop more
 pub blocks_more : (range : StopRange) (whole : Bool) (script out text : List ℕ) (k : ℕ) (w : WorldValue) → Blocks range whole script k out → StandsAt whole script (k + 1) w → IsTold range (k + 1) w text → Blocks range whole script (k + 1) (out ++ text)
 blocks_more range whole script out text k w blocks stands (inl told) =
     let e : k + 1 ≡ suc k = omega arith in
@@ -48,6 +49,7 @@ ends_by range false script out k (shorts.Fault line kind) blocks h = record { st
 ends_by range true script out k shorts.NoMemory blocks h = (k, blocks)
 ends_by range false script out k shorts.NoMemory blocks h = (k, blocks)
 
+-- where a run falls short of the next step, the blocks of those before are what is written
 pub ends_with : (range : StopRange) (whole : Bool) (script out : List ℕ) (k : ℕ) (short : Short) (end : ScriptEnd) → Blocks range whole script k out → FallsShort whole script (k + 1) short → end ≡ end_of whole short → StopsWith range whole script out end
 ends_with range whole script out k short end blocks h is =
     let e : k + 1 ≡ suc k = omega arith in
@@ -72,6 +74,7 @@ not_read range limit script out end (inr h) = not_read_with range false (take li
 
 -- ---- runs
 
+-- deeds that are carried out in their order are a run
 pub turn_runs : (start : WorldValue) (deeds : List Deed) (events : List Event) (replies : List Reply) (answers : List ℕ) (w : WorldValue) → InTurn start deeds events replies answers w → WorldRun start events replies w
 turn_runs start deeds events replies answers w no_deed = refl
 turn_runs start deeds events replies answers w (one_deed_more before es rs ts v deed own told answer new h plays) =

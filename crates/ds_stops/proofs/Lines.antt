@@ -26,6 +26,7 @@ use Rattle.ds_stops.specs.Reaching.{Ends, Halts, EndsOrder, HaltsOrder, PassesLi
 use Rattle.ds_stops.proofs.Playing.{count_on}
 use Rattle.ds_stops.proofs.Carrying.{way_ends, way_halts}
 
+-- no lines lead to the first world
 pub begins_led : (whole : Bool) (script : List ℕ) (w : WorldValue) → IsMade 2 2 2 Second w → Led whole script 0 (record { begun = begun.Nothing; taken = 0 }) w script
 begins_led whole script w made = record { progress = begins_at begun.Nothing w; begun_is = refl; world_is = refl; count = refl; out = []; carried = begins w made }
 
@@ -151,6 +152,7 @@ module _ (whole : Bool) (script : List ℕ) (lines : ℕ) (point : Point) (w : W
 
 -- ---- in a command
 
+-- a run of a script that has something left of a command stands in that command
 pub inside : (whole : Bool) (script : List ℕ) (place : Place) (l : Left) (w : WorldValue) → place.left ≡ Some l → IsAt whole script place w → IsInside whole script place.lines place.point place.rest.now l w
 inside whole script place l w is h = subst (λ (o : Option Left). IsAtLeft whole script place.lines place.point place.rest.now o w) is h
 

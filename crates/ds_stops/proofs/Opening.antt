@@ -25,6 +25,7 @@ use Rattle.ds_stops.specs.Reaching.{Opens, OpensOrder}
 
 -- ---- no event
 
+-- a command of which so much is left is played up to its first step where it stands
 pub opens_at : (doing : Doing) (w : WorldValue) (l : Option Left) → Remains l doing → Opens doing w l w
 opens_at doing w l remains = record { events = []; replies = []; last = doing; plays = (refl, refl); none = refl; remains = remains }
 
@@ -37,6 +38,7 @@ begins_unstepped p calls.Report reply = refl
 begins_unstepped p calls.Recovery reply = refl
 begins_unstepped p calls.Migration reply = refl
 
+-- a call's command, with its begin, is played up to its first step
 pub call_opens : (old new : WorldValue) (p : ℕ) (call : Call) (reply : Reply) (l : Option Left) → Fits old (beginning p call) reply new → Remains l (called new p ToAnswer reply)
     → Opens (Calls p (beginning p call)) old l new
 call_opens old new p call reply l fits remains = record {
@@ -48,6 +50,7 @@ call_opens old new p call reply l fits remains = record {
   remains = remains;
 }
 
+-- a call that is driven works on no cell of a settle
 pub call_within : (w : WorldValue) (p : ℕ) (l : Option Left) → IfSome l (λ next. next ≡ left.Drives p ToAnswer) → IfSome l (IsWithin w)
 call_within w p l same = if_some l (λ next. next ≡ left.Drives p ToAnswer) (IsWithin w) (λ next is. subst (λ (x : Left). IsWithin w x) (sym is) tt) same
 

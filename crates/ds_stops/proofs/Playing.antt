@@ -35,6 +35,7 @@ one_more events replies event reply a b old mid h =
 
 -- ---- on the way
 
+-- a command is on its way where it begins
 pub sets_out : (l : Left) (w : WorldValue) (before : ℕ) → OnTheWay (doing_of l) w before before l w
 sets_out l w before = record { events = []; replies = []; last = doing_of l; plays = (refl, refl); is = refl; count = add-zero before }
 
@@ -107,6 +108,7 @@ fewer_by : (b : Bool) (taken now last n m : ℕ) → now ≡ taken + steps_of b 
 fewer_by true taken now last n m is below few less = omega (arith, is, below, few)
 fewer_by false taken now last n m is below few less = let k = less refl in omega (arith, is, below, k)
 
+-- each event of a command that goes up to a step leaves fewer to come
 pub fewer : (old new : WorldValue) (l next : Left) (turn : Turn) (taken now last : ℕ) → now ≡ taken + steps_of turn.stepped → now < last
     → (turn.stepped ≡ false → events_to_step new next < events_to_step old l) → 4 * (last - now) + events_to_step new next < 4 * (last - taken) + events_to_step old l
 fewer old new l next turn taken now last is below less = fewer_by turn.stepped taken now last (events_to_step old l) (events_to_step new next) is below (at_most (asks (doing_of next) new)) less

@@ -18,6 +18,7 @@ pub crash_fits : (old new : WorldValue) (reply : Reply) → Fits old events.Cras
 crash_fits old new Crashed h = h
 crash_fits old new reply h = absurd h.takes
 
+-- what follows from what holds where there is no error holds there, too
 pub on_ok : {A E : Type 0} (r : Result A E) (P Q : Type 0) → (P → Q) → OnOk r P → OnOk r Q
 on_ok (Ok x) P Q f h = f h
 on_ok (Err e) P Q f h = tt
@@ -27,6 +28,7 @@ pub if_ok : {A E : Type 0} (r : Result A E) (P Q : A → Type 0) → ((x : A) �
 if_ok (Ok x) P Q f h = f x h
 if_ok (Err e) P Q f h = tt
 
+-- what follows from what holds of an error holds of it, too
 pub if_err : {A E : Type 0} (r : Result A E) (P Q : E → Type 0) → ((e : E) → P e → Q e) → IfErr r P → IfErr r Q
 if_err (Ok x) P Q f h = tt
 if_err (Err e) P Q f h = f e h
@@ -52,6 +54,7 @@ pub tells_behind : (start new : WorldValue) (processes : ℕ) (before now : List
 tells_behind start new processes before now t =
     subst (λ (deeds : List Deed). Tells start deeds before now new) (append_assoc (recoveries processes) (Settle 0 ∷ []) (Whole 0 (events.BeginReport 0) ∷ [])) t
 
+-- a crash and what is told behind it are the block of the stop
 pub tells_block : (k : ℕ) (old crashed new : WorldValue) (text : List ℕ) → Fits old events.Crash Crashed crashed → Tells crashed (deeds_behind crashed.sheet.layout.processes) (stop_text k) text new → TellsBlock k old text new
 tells_block k old crashed new text crash t = record { crashed = crashed; crash = crash; events = t.events; replies = t.replies; answers = t.answers; behind = t.behind; is = t.is }
 

@@ -167,6 +167,7 @@ says w p until (Answered answer) a b = absurd (b answer refl)
 says w p (InRound rounds cell) reply a b = refl
 says w p until reply a b = refl
 
+-- a driven process whose step is not taken ends its command
 pub can_not : (old new : WorldValue) (p : ℕ) (until : Until) (reply : Reply) → WantsStep old p → Fits old (Step p) reply new
     → (reply ≡ Stepped → ⊥) → ((answer : Answer) → reply ≡ Answered answer → ⊥)
     → TakesTurn (left.Drives p until) old (record { stepped = false; left = None }) new

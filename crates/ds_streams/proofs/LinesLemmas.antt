@@ -24,5 +24,6 @@ by_shorter (Some i) whole bytes line behind h e =
     let below = h i refl in
     rw (r, length-drop) (omega (arith, below))
 
+-- behind a line less of the script is left
 pub next_shorter : (whole : Bool) (bytes line behind : List ℕ) → next_of whole bytes ≡ ALine line behind → length behind < length bytes
 next_shorter whole bytes line behind e = by_shorter (position (λ b. nat_eq b 10) bytes) whole bytes line behind (λ i p. (position-Some (λ b. nat_eq b 10) bytes i 0 p).0) e

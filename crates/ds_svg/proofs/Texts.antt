@@ -14,6 +14,7 @@ piece false false false true quot b text plain h = an_entity (codes "amp") text 
 piece false false false false true b text plain h = an_entity (codes "quot") text (inr (inr (inr refl))) h
 piece false false false false false b text plain h = a_byte 46 text refl h
 
+-- what stands for bytes in a document is a text without markup
 pub texts : (bytes : List ℕ) → IsText (escaped bytes)
 texts [] = no_byte
 texts (b ∷ bytes) = piece (is_plain b) (nat_eq b 60) (nat_eq b 62) (nat_eq b 38) (nat_eq b 34) b (escaped bytes) (λ h. h) (texts bytes)

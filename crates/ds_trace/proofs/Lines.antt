@@ -39,6 +39,7 @@ pub record LedFrom (places : List Place) (whole : Bool) (script : List ℕ) (lin
   pub led : Led places whole script lines first w rows rest
   pub starts : start ≡ map (sides_of led.progress.start) places
 
+-- no lines lead to the first world, and have no rows
 pub begins_led : (places : List Place) (whole : Bool) (script : List ℕ) (w : WorldValue) (rows : List Row) → IsMade 2 2 2 Second w → rows ≡ [] → Led places whole script 0 begun.Nothing w rows script
 begins_led places whole script w rows made none = record {
   progress = begins_at begun.Nothing w;
@@ -49,6 +50,7 @@ begins_led places whole script w rows made none = record {
   are = subst (λ (l : List Row). AreRows places w [] [] l w) (sym none) refl;
 }
 
+-- before the first line the run has begun in the first world
 pub begins_start : (places : List Place) (whole : Bool) (script : List ℕ) (w : WorldValue) (rows : List Row) (made : IsMade 2 2 2 Second w) (none : rows ≡ []) → (begins_led places whole script w rows made none).progress.start ≡ w
 unfolding begins_led
 begins_start places whole script w rows made none = refl
@@ -62,6 +64,7 @@ no_events places old [] (reply ∷ replies) rows new h none = absurd h
 no_events places old (event ∷ events) [] rows new h none = absurd h
 no_events places old (event ∷ events) (reply ∷ replies) [] new h none = absurd h
 
+-- a run without rows has begun in the world where it stands
 pub starts_here : (places : List Place) (whole : Bool) (script : List ℕ) (lines : ℕ) (first : Begun) (w : WorldValue) (rows : List Row) (rest : List ℕ) (led : Led places whole script lines first w rows rest) → rows ≡ []
     → led.progress.start ≡ w
 starts_here places whole script lines first w rows rest led none =

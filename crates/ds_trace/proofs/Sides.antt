@@ -27,9 +27,11 @@ unfolding side_at
 outside layout side place none =
     outside_by (is_place layout place) _ (λ e. none (IsPlaceOf-is_place_of (cells_of layout) (parts_of layout) layout.processes place e))
 
+-- a place that is none of the sheet reads as 0 on both sides
 pub reads_zero : (v : WorldValue) (place : Place) → (IsPlace v.sheet.layout place → ⊥) → record { cached = 0; persisted = 0 } ≡ sides_of v place
 reads_zero v place none = ap (λ (n : ℕ). record { cached = n; persisted = 0 }) (sym (outside v.sheet.layout _ place none)) ∙ ap (λ (n : ℕ). record { cached = (memory v.sheet).cached place; persisted = n }) (sym (outside v.sheet.layout _ place none))
 
+-- a place that was found not to be one of the sheet is none of its layout
 pub not_there : (layout now : Layout) (place : Place) (there : Bool) → ((there ≡ true → IsPlace now place) × (IsPlace now place → there ≡ true)) → there ≡ false → now ≡ layout → IsPlace layout place → ⊥
 not_there layout now place there is false_is same h =
     let yes : there ≡ true = is.1 (subst (λ (l : Layout). IsPlace l place) (sym same) h) in
@@ -55,6 +57,7 @@ begin_what old p calls.Report = refl
 begin_what old p calls.Recovery = refl
 begin_what old p calls.Migration = refl
 
+-- the text that an edit is to have is the same by its call and by its event
 pub begin_text : (p : ℕ) (call : Call) → text_in call ≡ text_by (beginning p call)
 begin_text p (calls.Edit cell text) = refl
 begin_text p (calls.Work cell) = refl

@@ -23,6 +23,7 @@ use Rattle.ds_trace.specs.Trails.{AreRows, Trail, TakesTurn, ObeysBy}
 
 -- ---- rows
 
+-- the rows of two runs, one behind the other, are those of both
 pub rows_on : (places : List Place) (events : List Event) (replies : List Reply) (rows : List Row) (events' : List Event) (replies' : List Reply) (rows' : List Row) (old mid new : WorldValue)
     → AreRows places old events replies rows mid → AreRows places mid events' replies' rows' new → AreRows places old (events ++ events') (replies ++ replies') (rows ++ rows') new
 rows_on places [] [] [] events' replies' rows' old mid new h k = subst (λ (v : WorldValue). AreRows places v events' replies' rows' new) h k
@@ -51,6 +52,7 @@ pub record OnTheWay (places : List Place) (doing : Doing) (old : WorldValue) (la
   pub are : AreRows places old events replies rows new
   pub behind : after ≡ before ++ rows
 
+-- a command is on its way where it begins, and has no rows
 pub sets_out : (places : List Place) (doing : Doing) (w : WorldValue) (rows : List Row) → OnTheWay places doing w doing w rows rows
 sets_out places doing w rows = record { events = []; replies = []; rows = []; plays = (refl, refl); are = refl; behind = sym (append-nil rows) }
 
@@ -113,6 +115,7 @@ event_first places doing old mid new event reply r s t asked h rest = record {
   behind = rest.behind ∙ ap (λ (l : List Row). l ++ rest.rows) h.row.1 ∙ append_assoc r (h.row.0 ∷ []) rest.rows;
 }
 
+-- what follows from what holds where there is no error holds there, too
 pub on_ok : {E : Type 0} (result : Result (Unit {0}) E) (P Q : Type 0) → (P → Q) → OnOk result P → OnOk result Q
 on_ok (Ok done) P Q f h = f h
 on_ok (Err e) P Q f h = tt

@@ -18,14 +18,17 @@ pub word_at-with_other : (v : WordsValue) (n : ℕ) (w : Word) (r : ℕ) → r �
 unfolding word_at with_word
 word_at-with_other v n w r ne = get_or-set_other v.words n r w zero_word ne
 
+-- a change of a word leaves each buffer as it is
 pub buffer_of-with_word : (v : WordsValue) (n : ℕ) (w : Word) (p : ℕ) → buffer_of (with_word v n w) p ≡ buffer_of v p
 unfolding buffer_of with_word
 buffer_of-with_word v n w p = refl
 
+-- the changed buffer is read back, of a process that is there
 pub buffer_of-with_same : (v : WordsValue) (p : ℕ) (entries : List (BufferEntry ℕ)) → HasProcess v p → buffer_of (with_buffer v p entries) p ≡ entries
 unfolding buffer_of with_buffer
 buffer_of-with_same v p entries h = get_or-set_same v.buffers p entries [] h
 
+-- a change of one process's buffer leaves those of the others
 pub buffer_of-with_other : (v : WordsValue) (p q : ℕ) (entries : List (BufferEntry ℕ)) → q ≢ p → buffer_of (with_buffer v p entries) q ≡ buffer_of v q
 unfolding buffer_of with_buffer
 buffer_of-with_other v p q entries ne = get_or-set_other v.buffers p q entries [] ne
@@ -34,10 +37,12 @@ pub word_at-with_buffer : (v : WordsValue) (p : ℕ) (entries : List (BufferEntr
 unfolding word_at with_buffer
 word_at-with_buffer v p entries r = refl
 
+-- a change of a word leaves the classes and how many words and buffers there are
 pub SameShape-with_word : (v : WordsValue) (n : ℕ) (w : Word) → SameShape v (with_word v n w)
 unfolding with_word
 SameShape-with_word v n w = record { classes = refl; words = length-set v.words n w; buffers = refl }
 
+-- a change of a buffer leaves the classes and how many words and buffers there are
 pub SameShape-with_buffer : (v : WordsValue) (p : ℕ) (entries : List (BufferEntry ℕ)) → SameShape v (with_buffer v p entries)
 unfolding with_buffer
 SameShape-with_buffer v p entries = record { classes = refl; words = refl; buffers = length-set v.buffers p entries }
@@ -58,6 +63,7 @@ persisted_kept v n w h same r = elim (cases_eq r n) [
   | inr ne ↦ ap (λ (x : Word). x.persisted) (word_at-with_other v n w r ne)
 ]
 
+-- a word with a new cached side and its old persisted one: a store
 pub stores-with : (v : WordsValue) (n value : ℕ) → HasWord v n
     → StoresAt n value (memory_of v) (memory_of (with_word v n (record { cached = value; persisted = (word_at v n).persisted })))
 stores-with v n value h =
@@ -69,6 +75,7 @@ stores-with v n value h =
       buffer = buffer_of-with_word v n w;
     }
 
+-- a word whose persisted side is its cached one: an eviction
 pub evicts-with : (v : WordsValue) (n : ℕ) → HasWord v n
     → EvictsAt n (memory_of v) (memory_of (with_word v n (record { cached = (word_at v n).cached; persisted = (word_at v n).cached })))
 evicts-with v n h =
@@ -80,6 +87,7 @@ evicts-with v n h =
       buffer = buffer_of-with_word v n w;
     }
 
+-- the word's cached side behind the last entry of the process: a flush
 pub flushes-with : (v : WordsValue) (p n : ℕ) → HasProcess v p
     → FlushesAt p n (class_at v n) (memory_of v) (memory_of (with_buffer v p (buffer_of v p ++ record { place = n; class = class_at v n; value = (word_at v n).cached } ∷ [])))
 flushes-with v p n h =
@@ -91,6 +99,7 @@ flushes-with v p n h =
       others = λ q ne. buffer_of-with_other v p q entries ne;
     }
 
+-- a process that is there, with an empty buffer: a stop
 pub stops-with : (v : WordsValue) (p : ℕ) → HasProcess v p → StopsAt p (memory_of v) (memory_of (with_buffer v p []))
 stops-with v p h = record {
   cached = λ r. ap (λ (x : Word). x.cached) (word_at-with_buffer v p [] r);
@@ -120,6 +129,7 @@ nested_read f xs p x ys e lt is =
     let l : length ys ≡ length xs = ap length (sym e) ∙ length-map xs f in
     ap f is ∙ sym (get_or-map f xs p x [] (omega arith)) ∙ ap (λ zs. get_or zs p []) e
 
+-- one kept buffer set to another: the words with the buffer of that process changed
 pub nested_write : {X : Type 0} (f : X → List (BufferEntry ℕ)) (v u : WordsValue) (xs : List X) (p : ℕ) (y : X) (entries : List (BufferEntry ℕ))
     → u.classes ≡ v.classes → u.words ≡ v.words → u.buffers ≡ map f (set xs p y) → map f xs ≡ v.buffers → f y ≡ entries → u ≡ with_buffer v p entries
 unfolding with_buffer
@@ -165,6 +175,7 @@ first_there v p entry rest h oldest =
     let one : h.entry ≡ entry = cc in
     subst (λ (x : BufferEntry ℕ). HasWord v x.place) one h.there
 
+-- with the oldest entry taken out, its word is still there
 pub taken_there : (v u : WordsValue) (p : ℕ) (entry : BufferEntry ℕ) (rest : List (BufferEntry ℕ)) → HasEntry v p → buffer_of v p ≡ entry ∷ rest → u ≡ with_buffer v p rest → HasWord u entry.place
 unfolding with_buffer
 taken_there v u p entry rest h oldest e =
@@ -185,6 +196,7 @@ backs_first v u w p entry rest read persisted h oldest taken is new set =
           (writes_back v p entry rest x h.process oldest there (ap (λ (y : Word). y.cached) seen) (new ∙ ap (λ (y : Word). newer entry.class y.persisted entry.value) seen)),
     )
 
+-- an entry taken out and its word written leave the classes and how many words and buffers there are
 pub backs_shape : (v u w : WordsValue) (p n : ℕ) (rest : List (BufferEntry ℕ)) (x : Word) → u ≡ with_buffer v p rest → w ≡ with_word u n x → SameShape v w
 backs_shape v u w p n rest x e f =
     let first : SameShape v u = subst (λ y. SameShape v y) (sym e) (SameShape-with_buffer v p rest) in
@@ -206,6 +218,7 @@ HasEntry-tested v p (x ∷ xs) d n h e some words = (
   λ has. lt-ltb x.place n (subst (λ k. x.place < k) (sym words) (first_there v p x xs has (sym e))),
 )
 
+-- a process that has an entry to write back has a buffer that isn't empty
 pub HasEntry-some : (v : WordsValue) (p : ℕ) (es : List (BufferEntry ℕ)) → es ≡ buffer_of v p → HasEntry v p → (length es == 0) ≡ true → ⊥
 HasEntry-some v p [] e h t =
     let bad : [] ≡ h.entry ∷ h.rest = e ∙ h.oldest in
@@ -219,6 +232,7 @@ same_all zero k x = refl
 same_all (suc n) zero x = refl
 same_all (suc n) (suc k) x = same_all n k x
 
+-- fresh words are a fresh memory
 pub IsFresh-fresh_words : (classes : List Class) (processes : ℕ) → IsFresh (memory_of (fresh_words classes processes))
 unfolding word_at buffer_of
 IsFresh-fresh_words classes processes = record {

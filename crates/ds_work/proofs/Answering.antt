@@ -123,6 +123,7 @@ module _ (e : PlainWorkCall) (word : ℕ) (old new : PlainWorld) (sound : IsSoun
   decided (BackCleared before) fits t d = d
   decided (Answer before) fits t d = d
 
+-- each answer of work is true by the step that decides it
 pub answer_true : (e : PlainWorkCall) (stage : WorkStage) (word : ℕ) (old new : PlainWorld) (end : WorkEnd) → IsSound old → e.process < old.layout.processes
     → old.situation e.process ≡ Working (at e stage) → StepsAt e stage word old new → IsDecided (next_at e stage word).stage end → IsTrueAnswer e stage old new end
 answer_true e stage word old new end sound real was t d = decided e word old new sound real end stage (fits_at e stage old sound real was) t d

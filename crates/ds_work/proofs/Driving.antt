@@ -205,17 +205,21 @@ steps_plain Wait is = absurd cc
 steps_plain (Answer end) is = absurd cc
 steps_plain _ is = tt
 
+-- a turn that makes a step is at no answer
 pub steps_not_answer : (s : WorkStage) → turn_at s ≡ doings.Steps → (end : WorkEnd) → s ≡ Answer end → ⊥
 steps_not_answer s is end at = let k : turn_at (Answer end) ≡ doings.Steps = subst (λ (x : WorkStage). turn_at x ≡ doings.Steps) at is in cc
 
+-- behind a turn that makes a step the process is in the work's next stage
 pub steps_after : (e : PlainWorkCall) (s : WorkStage) (word : ℕ) → turn_at s ≡ doings.Steps → Working (next_at e s word) ≡ after e s word
 steps_after e (Answer end) word is = absurd cc
 steps_after e _ word is = refl
 
+-- the turn that reads the content is that of the stage `Read`
 pub reads_at : (s : WorkStage) → turn_at s ≡ doings.Reads → s ≡ Read
 reads_at Read is = refl
 reads_at _ is = absurd cc
 
+-- the turn that answers is that of the stage of that answer
 pub answers_at : (s : WorkStage) (end : WorkEnd) → turn_at s ≡ doings.Answers end → s ≡ Answer end
 answers_at (Answer end') end is = let same : end' ≡ end = cc in ap (λ x. Answer x) same
 answers_at _ end is = absurd cc

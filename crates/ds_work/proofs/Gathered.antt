@@ -110,6 +110,7 @@ is_content shape text content cells reads are = record {
     found : (d : Cell) → Contains cells d → (j : ℕ) × (j < length (map unseen cells)) × (cell_in (map unseen cells) j ≡ d)
     found d (j, l, is) = (j, (let size = length-map cells unseen in omega (arith, size, l)), cell_of cells j l ∙ get_or_default cells j no_cell d l ∙ is)
 
+-- the references of a text's content are cells of the sheet
 pub all_inside : (shape : Shape) (text : List ℕ) (content : PlainContent) (cells : List Cell) → Reads shape text content → AreRefs content cells → (c : Cell) → Contains cells c → IsInside shape c
 all_inside shape text content cells reads are c there = read_inside shape text content c reads.reads (are.only c there)
 
@@ -123,6 +124,7 @@ taken e content inputs s is = rw is (go (nat_lt 0 (length inputs)))
     go true = refl
     go false = refl
 
+-- a work of a sheet is one with the content read, where its inputs' cells are possible
 pub read_is : (e : PlainWorkCall) (content : PlainContent) (inputs : List Input) → IsWork e → ((j : ℕ) → j < length inputs → IsPossible (cell_in inputs j)) → IsWork (read_from e content inputs)
 read_is e content inputs h each = go (nat_lt 0 (length inputs)) refl
   where
@@ -147,6 +149,7 @@ read_is e content inputs h each = go (nat_lt 0 (length inputs)) refl
     go true some = with_stage (LoadValue 0) tt (ltb-true 0 (length inputs) some) tt
     go false none = with_stage LoadOwnValue tt tt tt
 
+-- each input made of a cell of the sheet is of a cell that some sheet has
 pub each_possible : (shape : Shape) (cells : List Cell) → ((c : Cell) → Contains cells c → IsInside shape c) → (j : ℕ) → j < length (map unseen cells) → IsPossible (cell_in (map unseen cells) j)
 each_possible shape cells inside j l =
     let size = length-map cells unseen in
@@ -171,5 +174,6 @@ module _ (shape : Shape) (inputs : List Input) (ascending : IsAscending inputs) 
       let below = index_below shape (cell_in inputs n) (inside n l) in
       omega (arith, least, below)
 
+-- a content has no more references as inputs than the sheet has cells
 pub content_few : (shape : Shape) (text : List ℕ) (content : PlainContent) (inputs : List Input) → IsContent shape text content inputs → length inputs ≤ count_of shape
 content_few shape text content inputs is = few_inputs shape inputs is.ascending (λ j l. (is.only j l).1) (length inputs) refl

@@ -19,9 +19,11 @@ noted_after : (e : PlainWorkCall) (s : WorkStage) (word : ℕ) → noted_in (aft
 noted_after e (Answer end) word = refl
 noted_after e s word = ap (λ (x : PlainWorkCall). Some x.edition) (next_noted e word s)
 
+-- a step of work goes on with the layout that the process noted
 pub work_goes : (e : PlainWorkCall) (s : WorkStage) (word : ℕ) (old new : PlainWorld) → e.process < old.layout.processes → old.situation e.process ≡ Working (at e s) → StepsAt e s word old new → Goes e.process old new
 work_goes e s word old new real was t = notes e.edition real (ap noted_in was) (ap noted_in t.situation ∙ noted_after e s word)
 
+-- a turn of work that touches no word goes on with the layout that the process noted
 pub turn_goes : (e f : PlainWorkCall) (s : WorkStage) (old new : PlainWorld) → e.process < old.layout.processes → old.situation e.process ≡ Working (at e s) → f.edition ≡ e.edition → Turns e f old new → Goes e.process old new
 turn_goes e f s old new real was same t = notes e.edition real (ap noted_in was) (ap noted_in t.situation ∙ ap (λ (d : Edition). Some d) same)
 

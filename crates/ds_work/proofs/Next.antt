@@ -367,28 +367,35 @@ noted_alone e word (Answer end) = next_noted e word (Answer end)
 taken_as : (e : PlainWorkCall) (word : ℕ) (n : Noting) → notes_at e.stage ≡ n → by_noting e word e.stage n ≡ next_at e e.stage word
 taken_as e word n is = ap (by_noting e word e.stage) (sym is) ∙ sym (noted_alone e word e.stage)
 
+-- behind a stage that notes nothing, the next work differs in its stage alone
 pub goes_on : (e v : PlainWorkCall) (word : ℕ) (stage : WorkStage) → v ≡ e → notes_at e.stage ≡ notes.Nothing → stage ≡ stage_at e e.stage word → at v stage ≡ next_at e e.stage word
 goes_on e v word stage same is a = rw (same, a) (taken_as e word notes.Nothing is)
 
+-- behind a stage that notes a mark, the next work differs in mark and stage alone
 pub takes_mark : (e v : PlainWorkCall) (word mark : ℕ) (stage : WorkStage) → v ≡ e → notes_at e.stage ≡ notes.Mark → stage ≡ stage_at e e.stage word → mark ≡ mark_at e e.stage word
     → record v { mark = mark; stage = stage } ≡ next_at e e.stage word
 takes_mark e v word mark stage same is a b = rw (same, a, b) (taken_as e word notes.Mark is)
 
+-- the same, of the head, the length and the text
 pub takes_text : (e v : PlainWorkCall) (word head count : ℕ) (text : List ℕ) (stage : WorkStage) → v ≡ e → notes_at e.stage ≡ notes.Text → stage ≡ stage_at e e.stage word → head ≡ head_at e e.stage word
     → count ≡ length_at e e.stage word → text ≡ text_after v.text v.length v.stage word → record v { head = head; length = count; text = text; stage = stage } ≡ next_at e e.stage word
 takes_text e v word head count text stage same is a b c d = rw (d, same, a, b, c) (taken_as e word notes.Text is)
 
+-- the same, of an input
 pub takes_input : (e v : PlainWorkCall) (word : ℕ) (inputs : List Input) (stage : WorkStage) → v ≡ e → notes_at e.stage ≡ notes.Input → stage ≡ stage_at e e.stage word
     → inputs ≡ inputs_after v.inputs v.cells v.stage word → record v { inputs = inputs; stage = stage } ≡ next_at e e.stage word
 takes_input e v word inputs stage same is a b = rw (b, same, a) (taken_as e word notes.Input is)
 
+-- the same, of the words of the work's own cell
 pub takes_own : (e v : PlainWorkCall) (word value kind : ℕ) (stage : WorkStage) → v ≡ e → notes_at e.stage ≡ notes.Own → stage ≡ stage_at e e.stage word
     → value ≡ value_after v.value v.stage word → kind ≡ kind_after v.kind v.stage word → record v { value = value; kind = kind; stage = stage } ≡ next_at e e.stage word
 takes_own e v word value kind stage same is a b c = rw (b, c, same, a) (taken_as e word notes.Own is)
 
+-- the same, of a part of the index row
 pub takes_row : (e v : PlainWorkCall) (word : ℕ) (row : List ℕ) (stage : WorkStage) → v ≡ e → notes_at e.stage ≡ notes.Row → stage ≡ stage_at v v.stage word
     → row ≡ row_after v.row v.stage word → record v { row = row; stage = stage } ≡ next_at e e.stage word
 takes_row e v word row stage same is a b = rw (b, a, same) (taken_as e word notes.Row is)
 
+-- a work of a sheet is one of the sheet behind its step, too, with room for its inputs
 pub next_within : (e : PlainWorkCall) (word room : ℕ) → IsWork e → e.cells ≤ room → IsWorkIn (next_at e e.stage word) room
 next_within e word room h fits = record { is = next_is e word e.stage h; room = subst (λ (n : ℕ). n ≤ room) (sym (ap (λ (x : PlainWorkCall). x.cells) (next_noted e word e.stage))) fits }

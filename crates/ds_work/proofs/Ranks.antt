@@ -95,6 +95,7 @@ module _ (r : ℕ) (e : PlainWorkCall) (word : ℕ) where
   falls (BackCleared end) h = omega arith
   falls (Answer end) h = tt
 
+-- each step of work but the answer's leaves fewer
 pub each_falls : (r word : ℕ) (e : PlainWorkCall) → IsWork e → Falls r e (next_at e e.stage word) e.stage
 each_falls r word e h = falls r e word e.stage h
 
@@ -103,9 +104,11 @@ pub reading_falls : (e : PlainWorkCall) (content : PlainContent) (inputs : List 
 reading_falls e content inputs = below (length inputs) (left (length inputs) e Read) (nat_lt 0 (length inputs)) (record e { content = content; inputs = inputs; stage = LoadValue 0 }) (record e { content = content; inputs = inputs; stage = LoadOwnValue })
     (λ b. omega arith) (λ b. omega arith)
 
+-- a reading that lacks memory leaves fewer steps
 pub lacking_falls : (r : ℕ) (e : PlainWorkCall) → left r e Give < left r e Read
 lacking_falls r e = omega arith
 
+-- an offer leaves fewer steps
 pub offer_falls : (r : ℕ) (e : PlainWorkCall) (entry : Entry) → steps_left r (offered e entry) < left r e Wait
 offer_falls r e entry = go ((e.value == value_for entry) && (e.kind == word_for entry))
   where
@@ -113,5 +116,6 @@ offer_falls r e entry = go ((e.value == value_for entry) && (e.kind == word_for 
     go true = omega arith
     go false = omega arith
 
+-- work on a sheet of at most 1,024 cells has at most 2r + 3 cells + 67 steps, with r references at most
 pub few : (r : ℕ) (e : PlainWorkCall) → e.cells ≤ 1024 → left r e LoadMark ≤ 2 * r + 3 * e.cells + 67
 few r e most = omega (arith, most)

@@ -21,10 +21,12 @@ use Rattle.ds_work.proofs.Gathered.{content_few}
 use Rattle.ds_work.proofs.Next.{next_noted}
 use Rattle.ds_work.proofs.Ranks.{each_falls}
 
+-- behind a step that is no answer the process is in the next work
 pub after_goes : (e : PlainWorkCall) (s : WorkStage) (word : ℕ) → ((end : WorkEnd) → s ≡ Answer end → ⊥) → after e s word ≡ Working (next_at e s word)
 after_goes e (Answer end) word na = absurd (na end refl)
 after_goes e _ word na = refl
 
+-- a step that ends by its access, and is no answer, leaves fewer
 pub falls_plain : (r : ℕ) (e f : PlainWorkCall) (s : WorkStage) → Falls r e f s → IsPlainStep s → ((end : WorkEnd) → s ≡ Answer end → ⊥) → steps_left r f < left r e s
 falls_plain r e f Read h plain na = absurd plain
 falls_plain r e f Wait h plain na = absurd plain
@@ -39,6 +41,7 @@ reading_less r e content inputs few = go (nat_lt 0 (length inputs))
     go true = omega (arith, few)
     go false = omega arith
 
+-- the reading of the content leaves the number of the sheet's cells
 pub read_cells : (e : PlainWorkCall) (content : PlainContent) (inputs : List Input) → (read_from e content inputs).cells ≡ e.cells
 read_cells e content inputs = go (nat_lt 0 (length inputs))
   where
@@ -77,5 +80,6 @@ module _ (p : ℕ) (old new : PlainWorld) (sound : IsSound old) (e : PlainWorkCa
   }
   go t (answers end stage k) same = absurd cc
 
+-- each turn of a work that goes on leaves it fewer steps
 pub turns_fall : (p : ℕ) (old new : PlainWorld) → IsSound old → (by : StepsBy old p does.GoesOn new) → GoesOn p by.work new
 turns_fall p old new sound by = go p old new sound by.work by.inside by.mine by.works by.is does.GoesOn by.turn refl

@@ -240,6 +240,7 @@ even_at w p e fits = by e.stage fits.knows
     by (works.Telling spread) knows = knows.hold.claim.even
     by _ knows = tt
 
+-- behind a step that is no answer the process is in the next work
 pub after_on : (e : PlainWorkCall) (s : WorkStage) (word : ℕ) → ((end : WorkEnd) → s ≡ works.Answer end → ⊥) → after e s word ≡ Working (next_at e s word)
 after_on e (works.Answer end) word not = absurd (not end refl)
 after_on e _ word not = refl

@@ -29,6 +29,7 @@ use Rattle.ds_work.proofs.WorkSteps.{on, mark_marks, claim_mine}
 use Rattle.ds_work.proofs.WorkFrame as frame
 use Rattle.ds_work.proofs.Keeping.{work_goes}
 
+-- a write-back is that of the buffer's first entry
 pub back_first : {p : ℕ} {old new : Memory Place} (x : BufferEntry Place) (xs : List (BufferEntry Place)) → old.buffer p ≡ x ∷ xs → BacksFirst p old new → WritesBack p x xs old new
 back_first {p} {old} {new} x xs holds (entry, rest, m) =
     let both : x ∷ xs ≡ entry ∷ rest = sym holds ∙ m.oldest in

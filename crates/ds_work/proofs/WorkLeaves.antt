@@ -24,19 +24,24 @@ no_report e s word f is = cc
 turn_leaves : (e g : PlainWorkCall) (old new : PlainWorld) → Keeps e.process old new → Turns e g old new → Leaves e.process old new
 turn_leaves e g old new k t = leaves_same e.process old new k t.counted (middles_left e.process old new k (λ f is. let both : Working g ≡ Reporting f = sym t.situation ∙ is in cc))
 
+-- what a step of work leaves is what a process's doing leaves
 pub work_leaves : (e : PlainWorkCall) (stage : WorkStage) (word : ℕ) (old new : PlainWorld) → IsSound old → e.process < old.layout.processes → old.situation e.process ≡ Working (at e stage) → StepsAt e stage word old new → Leaves e.process old new
 work_leaves e stage word old new sound real was t =
     let k = laws.work_steps_keep e stage word old new sound real was t in
     leaves_same e.process old new k t.counted (middles_left e.process old new k (λ f is. no_report e stage word f (sym t.situation ∙ is)))
 
+-- the same, of the reading of the content
 pub read_leaves : (e : PlainWorkCall) (content : PlainContent) (inputs : List Input) (old new : PlainWorld) → IsSound old → e.process < old.layout.processes → old.situation e.process ≡ Working (at e works.Read) → ReadsAt e content inputs old new → Leaves e.process old new
 read_leaves e content inputs old new sound real was t = turn_leaves e (read_from e content inputs) old new (laws.reads_keep e content inputs old new sound real was t) t.turn
 
+-- the same, of a reading that lacks memory
 pub lack_leaves : (e : PlainWorkCall) (old new : PlainWorld) → IsSound old → e.process < old.layout.processes → old.situation e.process ≡ Working (at e works.Read) → LacksAt e old new → Leaves e.process old new
 lack_leaves e old new sound real was t = turn_leaves e (lacks e) old new (laws.lacks_keep e old new sound real was t) t
 
+-- the same, of an offer
 pub offer_leaves : (e : PlainWorkCall) (entry : entries.Entry) (old new : PlainWorld) → IsSound old → e.process < old.layout.processes → old.situation e.process ≡ Working (at e works.Wait) → OffersAt e entry old new → Leaves e.process old new
 offer_leaves e entry old new sound real was t = turn_leaves e (offered e entry) old new (laws.offer_keep e entry old new sound real was t) t.turn
 
+-- what the begin of work leaves is what a process's doing leaves
 pub begin_leaves : (next : Rest) (e : PlainWorkCall) (old new : PlainWorld) → IsSound old → e.process < old.layout.processes → BeginsWork next e old new → Leaves e.process old new
 begin_leaves next e old new sound real b = turn_leaves e (at e works.LoadMark) old new (laws.begins_keep next e old new sound real b) b.turn

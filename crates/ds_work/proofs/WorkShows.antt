@@ -41,9 +41,11 @@ words_of v k = record { value = v; kind = k }
 both : (v k v' k' : ℕ) → v ≡ v' → k ≡ k' → words_of v k ≡ words_of v' k'
 both v k v' k' a b = ap (λ (x : ℕ). words_of x k) a ∙ ap (λ (x : ℕ). words_of v' x) b
 
+-- a cell shows the same where the cached sides of its value and its kind stay
 pub shown_same : (old new : PlainWorld) (cell : ℕ) → new.memory.cached (Value cell) ≡ old.memory.cached (Value cell) → new.memory.cached (Kind cell) ≡ old.memory.cached (Kind cell) → shown_in new cell ≡ shown_in old cell
 shown_same old new cell value kind = both _ _ _ _ value kind
 
+-- a cell shows the same where no word changes
 pub shown_kept : (old new : PlainWorld) (cell : ℕ) → SameMemory old.memory new.memory → shown_in new cell ≡ shown_in old cell
 shown_kept old new cell same = shown_same old new cell (same.cached (Value cell)) (same.cached (Kind cell))
 

@@ -33,6 +33,7 @@ use Rattle.ds_state.proofs.Frames.{Moves, clean_free}
 use Rattle.ds_state.proofs.Telling.{matters_most, odd_above}
 use Rattle.ds_state.proofs.Bearing.{Buffered, Mine, MyMarks, text_same, stored_marks, all_stand, cell_owes_lasts, excused_lasts}
 
+-- the work at this stage
 abbrev pub on : PlainWorkCall → WorkStage → PlainWorkCall
 on e s = record e { stage = s }
 
@@ -217,6 +218,7 @@ same_kind : (a c : ℕ) → (Kind a ≡ Value c) ⊎ (Kind a ≡ Kind c) → a �
 same_kind a c (inl e) = cc
 same_kind a c (inr e) = cc
 
+-- a work that holds its cell on both sides is its holder on both
 pub held_both : (w : PlainWorld) (e : PlainWorkCall) → HasHeld w e → IsHeld w.memory e.process e.cell
 held_both w e h = let a = h.claim.by in let b = h.claim.cached in let c = h.persisted in record { by = omega arith; same = omega arith }
 
@@ -261,6 +263,7 @@ pub store_value_mine : (p : ℕ) (e : PlainWorkCall) (v : ℕ) (old new : PlainW
     → IsHeld old.memory p e.cell → StoresAt (Value e.cell) v old.memory new.memory → (moves : Moves p (Value e.cell) old new) → Mine p (Value e.cell) old new moves
 store_value_mine p e v old new was is held store moves = store_mine p e works.StoreValue works.StoreKind (Value e.cell) v old new was is held (λ c at. same_value e.cell c at) (λ c at. cc) (λ c at. cc) (λ c x. tt) store moves
 
+-- behind the store of its kind the cell owes all that it owed
 pub store_kind_mine : (p : ℕ) (e : PlainWorkCall) (v : ℕ) (old new : PlainWorld) → old.situation p ≡ Working (on e works.StoreKind) → new.situation p ≡ Working (on e works.FlushValue)
     → IsHeld old.memory p e.cell → StoresAt (Kind e.cell) v old.memory new.memory → (moves : Moves p (Kind e.cell) old new) → Mine p (Kind e.cell) old new moves
 store_kind_mine p e v old new was is held store moves = store_mine p e works.StoreKind works.FlushValue (Kind e.cell) v old new was is held (λ c at. same_kind e.cell c at) (λ c at. cc) (λ c at. cc) (λ c x. tt) store moves
