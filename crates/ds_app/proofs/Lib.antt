@@ -1,4 +1,1 @@
-mod Matched
-mod Grown
-mod Refused
 mod Crossing

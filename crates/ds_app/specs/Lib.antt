@@ -1,5 +1,1 @@
 pub mod Statuses
-pub mod Servings
-pub mod CommandLines
-pub mod Explorings
-pub mod Connectings

@@ -1,6 +1,6 @@
 //! `dsheet connect`.
 
-use crate::connecting::Connecting;
+use ds_options::connecting::Connecting;
 use crate::status::{BAD_STORE, NO_MEMORY, STREAM_FAILED};
 use ds_connect::answer::answer_lines;
 use ds_connect::ask::{Ask, read_ask};

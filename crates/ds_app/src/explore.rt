@@ -1,6 +1,6 @@
 //! `dsheet explore`.
 
-use crate::exploring::Exploring;
+use ds_options::exploring::Exploring;
 use crate::faults::show_line;
 use crate::status::{NO_MEMORY, STREAM_FAILED, explore_status};
 use ds_explore::explore::{ExploreEnd, explore as explore_orders};

@@ -1,26 +1,22 @@
 //! `dsheet`: a shared spreadsheet that survives crashes.
 #![tactic(auto)]
 
-mod command_line;
 mod connect;
-mod connecting;
 mod control;
 mod copying;
 mod descriptors;
 mod explore;
-mod exploring;
 mod faults;
 mod progress;
 mod report;
 mod serve;
-mod serving;
 mod status;
 mod stores;
 mod trace;
 
-use crate::command_line::{Action, OptionsFault, options};
+use ds_options::command_line::{Action, OptionsFault, options};
 use crate::connect::connect;
-use crate::connecting::Stopping;
+use ds_options::connecting::Stopping;
 use crate::copying::Copying;
 use crate::descriptors::stand_ins;
 use crate::explore::explore;

@@ -1,9 +1,9 @@
 //! `dsheet serve`.
 
-ghost use Rattle.ds_app.specs.Servings.{IsWithinLimits};
+ghost use Rattle.ds_options.specs.Servings.{IsWithinLimits};
 
 use crate::control::{Control, Listening, listen};
-use crate::serving::Serving;
+use ds_options::serving::Serving;
 use crate::status::{NO_MEMORY, STREAM_FAILED};
 use crate::stores::{Disk, close, tell_fault};
 use ds_layout::layout::Layout;

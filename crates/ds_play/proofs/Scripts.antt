@@ -16,8 +16,8 @@ use Rattle.ds_streams.specs.ScriptLines.{AtFront, ALine, next_of}
 use Rattle.ds_streams.proofs.Known.{Appends-both}
 use Rattle.ds_play.specs.declared.order.Begun.{Begun}
 use Rattle.ds_play.specs.declared.order.Begun.TheVariants as begun
-use Rattle.ds_play.specs.declared.script.Stop.{Stop}
-use Rattle.ds_play.specs.declared.script.Stop.TheVariants as stops
+use Rattle.ds_play.specs.declared.script.Hindrance.{Hindrance}
+use Rattle.ds_play.specs.declared.script.Hindrance.TheVariants as hindrances
 use Rattle.ds_play.specs.declared.script.Break.{Break}
 use Rattle.ds_play.specs.declared.script.Break.TheVariants as breaks
 use Rattle.ds_play.specs.Orders.{Order, Make, Does}
@@ -100,20 +100,20 @@ line_more whole script lines first w out rest line behind before now then first'
     (subst (λ (b : Begun). Obeyed b led.progress.world line first' new now then) (sym led.begun_is) (subst (λ (v : WorldValue). Obeyed first v line first' new now then) (sym led.world_is) h))
 
 -- a line that stops the script
-stops_at : (whole : Bool) (script : List ℕ) (lines : ℕ) (p : Progress) (out rest line behind : List ℕ) (before now then : Option (List ℕ)) (failed : Bool) (stop : Stop)
+stops_at : (whole : Bool) (script : List ℕ) (lines : ℕ) (p : Progress) (out rest line behind : List ℕ) (before now then : Option (List ℕ)) (failed : Bool) (stop : Hindrance)
     → Carried whole script lines p out rest → Appends before now out → next_of whole rest ≡ ALine line behind → Stopped p.begun p.world line now then failed stop
     → RanLines whole script before then failed (Err (break_of (lines + 1) stop))
-stops_at whole script lines p out rest line behind before now then failed (stops.Fault kind) carried written next s = (
+stops_at whole script lines p out rest line behind before now then failed (hindrances.Fault kind) carried written next s = (
   out,
   subst (λ (o : Option (List ℕ)). Appends before o out) (sym s.1) written,
   record { lines = lines; progress = p; rest = rest; carried = carried; number = refl; fault = subst (λ (f : AtFront). FaultAt p f kind) (sym next) s.0 },
 )
-stops_at whole script lines p out rest line behind before now then failed stops.NoMemory carried written next s =
+stops_at whole script lines p out rest line behind before now then failed hindrances.NoMemory carried written next s =
     (out, subst (λ (o : Option (List ℕ)). Appends before o out) (sym s) written, inl (record { lines = lines; progress = p; rest = rest; carried = carried }))
-stops_at whole script lines p out rest line behind before now then failed stops.WriteFailed carried written next s = s
+stops_at whole script lines p out rest line behind before now then failed hindrances.WriteFailed carried written next s = s
 
 -- a line that stops a script breaks it off there
-pub line_stops : (whole : Bool) (script : List ℕ) (lines : ℕ) (first : Begun) (w : WorldValue) (out rest line behind : List ℕ) (before now then : Option (List ℕ)) (failed : Bool) (stop : Stop)
+pub line_stops : (whole : Bool) (script : List ℕ) (lines : ℕ) (first : Begun) (w : WorldValue) (out rest line behind : List ℕ) (before now then : Option (List ℕ)) (failed : Bool) (stop : Hindrance)
     → Led whole script lines first w out rest → Appends before now out → next_of whole rest ≡ ALine line behind → Stopped first w line now then failed stop
     → RanLines whole script before then failed (Err (break_of (lines + 1) stop))
 line_stops whole script lines first w out rest line behind before now then failed stop led written next h =
@@ -138,10 +138,10 @@ none_hidden (Err breaks.NoMemory) end before now h ne = h
 none_hidden (Err breaks.WriteFailed) end before now h ne = absurd (ne refl)
 
 -- a script that stops hides no failed write, where what has failed stays but for a write that does
-pub same_after : (stop : Stop) (line : ℕ) (before now : Bool) → (stop ≢ stops.WriteFailed → now ≡ before) → HidesNone (Err (break_of line stop)) before now
-same_after (stops.Fault kind) line before now h = h (λ e. cc)
-same_after stops.NoMemory line before now h = h (λ e. cc)
-same_after stops.WriteFailed line before now h = tt
+pub same_after : (stop : Hindrance) (line : ℕ) (before now : Bool) → (stop ≢ hindrances.WriteFailed → now ≡ before) → HidesNone (Err (break_of line stop)) before now
+same_after (hindrances.Fault kind) line before now h = h (λ e. cc)
+same_after hindrances.NoMemory line before now h = h (λ e. cc)
+same_after hindrances.WriteFailed line before now h = tt
 
 pub writes_fail : (whole : Bool) (script : List ℕ) (run : Result (Unit {0}) Break) (end : ScriptEnd) (before now : Option (List ℕ)) (failed : Bool)
     → end ≢ ends.WriteFailed → RanLines whole script before now failed run → ending_of run end ≡ ends.WriteFailed → failed ≡ true

@@ -6,8 +6,8 @@ use Rattle.ds_streams.specs.declared.ending.ScriptEnd.{ScriptEnd}
 use Rattle.ds_streams.specs.declared.ending.ScriptEnd.TheVariants as ends
 use Rattle.ds_play.specs.declared.order.Begun.{Begun}
 use Rattle.ds_play.specs.declared.order.Begun.TheVariants as begun
-use Rattle.ds_play.specs.declared.script.Stop.{Stop}
-use Rattle.ds_play.specs.declared.script.Stop.TheVariants as stops
+use Rattle.ds_play.specs.declared.script.Hindrance.{Hindrance}
+use Rattle.ds_play.specs.declared.script.Hindrance.TheVariants as hindrances
 use Rattle.ds_play.specs.declared.script.Break.{Break}
 use Rattle.ds_play.specs.declared.script.Break.TheVariants as breaks
 use Rattle.ds_play.specs.Orders.{Order, Make, Does, order_of}
@@ -46,16 +46,16 @@ abbrev pub Obeyed : Begun → WorldValue → List ℕ → Begun → WorldValue �
 Obeyed first old line now new before then = Skipped first old line now new before then ⊎ Answered first old line now new before then
 
 -- why a line stops a script: by its fault, for want of memory, or by a write that failed
-abbrev pub Stopped : Begun → WorldValue → List ℕ → Option (List ℕ) → Option (List ℕ) → Bool → Stop → Type 0
-Stopped first w line before then failed (stops.Fault kind) = (order_of first w line ≡ Err kind) × (then ≡ before)
-Stopped first w line before then failed stops.NoMemory = then ≡ before
-Stopped first w line before then failed stops.WriteFailed = failed ≡ true
+abbrev pub Stopped : Begun → WorldValue → List ℕ → Option (List ℕ) → Option (List ℕ) → Bool → Hindrance → Type 0
+Stopped first w line before then failed (hindrances.Fault kind) = (order_of first w line ≡ Err kind) × (then ≡ before)
+Stopped first w line before then failed hindrances.NoMemory = then ≡ before
+Stopped first w line before then failed hindrances.WriteFailed = failed ≡ true
 
 -- where and why a script breaks off, by what stops it at this line
-abbrev pub break_of : ℕ → Stop → Break
-break_of line (stops.Fault kind) = breaks.Fault line kind
-break_of line stops.NoMemory = breaks.NoMemory
-break_of line stops.WriteFailed = breaks.WriteFailed
+abbrev pub break_of : ℕ → Hindrance → Break
+break_of line (hindrances.Fault kind) = breaks.Fault line kind
+break_of line hindrances.NoMemory = breaks.NoMemory
+break_of line hindrances.WriteFailed = breaks.WriteFailed
 
 -- the lines of a script are carried out to its end, or to the first that stops it
 abbrev pub RanLines : Bool → List ℕ → Option (List ℕ) → Option (List ℕ) → Bool → Result (Unit {0}) Break → Type 0

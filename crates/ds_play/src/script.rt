@@ -13,7 +13,7 @@ ghost use Rattle.ds_core.specs.Headline.{HasHeadline};
 ghost use Rattle.ds_streams.specs.Streams.{reader_of, writer_of, bytes_given, has_ended, read_failed, write_failed};
 ghost use Rattle.ds_streams.specs.Input.{Within};
 ghost use Rattle.ds_streams.specs.declared.ending.ScriptEnd.TheVariants as ends;
-ghost use Rattle.ds_play.specs.declared.script.Stop.TheVariants as stops;
+ghost use Rattle.ds_play.specs.declared.script.Hindrance.TheVariants as hindrances;
 ghost use Rattle.ds_play.specs.Orders.{Settle, command_view};
 ghost use Rattle.ds_play.specs.Doing.{plan};
 ghost use Rattle.ds_play.specs.Plays.{Played};
@@ -37,25 +37,25 @@ use std::io::{Read, Write};
 
 // Why no further line is carried out.
 #[derive(Drop)]
-enum Stop {
+enum Hindrance {
     Fault(ScriptFault),
     NoMemory,
     WriteFailed,
 }
 
-impl From<ScriptFault> for Stop {
-    ghost from_gives = { λ f s. s ≡ stops.Fault f };
+impl From<ScriptFault> for Hindrance {
+    ghost from_gives = { λ f s. s ≡ hindrances.Fault f };
 
-    fn from(fault: ScriptFault) -> Stop {
-        Stop::Fault(fault)
+    fn from(fault: ScriptFault) -> Hindrance {
+        Hindrance::Fault(fault)
     }
 }
 
-impl From<AllocError> for Stop {
-    ghost from_gives = { λ _ s. s ≡ stops.NoMemory };
+impl From<AllocError> for Hindrance {
+    ghost from_gives = { λ _ s. s ≡ hindrances.NoMemory };
 
-    fn from(_error: AllocError) -> Stop {
-        Stop::NoMemory
+    fn from(_error: AllocError) -> Hindrance {
+        Hindrance::NoMemory
     }
 }
 
@@ -76,11 +76,11 @@ fn obey<W: Write>(
     begun: Begun,
     world: &mut World,
     writer: &mut Writing<W>,
-) -> Result<Begun, Stop>
+) -> Result<Begun, Hindrance>
     ensures obeyed { IfOk result (λ now. Obeyed begun world.old line.now now world.new (W.contents (writer_of writer.old)) (W.contents (writer_of writer.new))) }
     ensures stopped { IfErr result (λ stop. Stopped begun world.old line.now (W.contents (writer_of writer.old)) (W.contents (writer_of writer.new)) (write_failed writer.new) stop) }
     ensures no_failure { IfOk result (λ now. write_failed writer.new ≡ write_failed writer.old) }
-    ensures none_hidden { IfErr result (λ stop. stop ≢ stops.WriteFailed → write_failed writer.new ≡ write_failed writer.old) }
+    ensures none_hidden { IfErr result (λ stop. stop ≢ hindrances.WriteFailed → write_failed writer.new ≡ write_failed writer.old) }
 {
     let Some(command) = read_order(line, begun, world)? else {
         return Ok(begun);
@@ -89,7 +89,7 @@ fn obey<W: Write>(
     let text = carry_out(alloc, world, command)?;
     match writer.write_all(&text) {
         Ok(()) => Ok(now),
-        Err(_) => Err(Stop::WriteFailed),
+        Err(_) => Err(Hindrance::WriteFailed),
     }
 }
 
@@ -102,13 +102,13 @@ enum Break {
 }
 
 // The break at this line, counted from 1.
-fn break_at(line: usize, stop: Stop) -> Break
-    ensures { result ≡ break_of line stop }
+fn break_at(line: usize, hindrance: Hindrance) -> Break
+    ensures { result ≡ break_of line hindrance }
 {
-    match stop {
-        Stop::Fault(kind) => Break::Fault(line, kind),
-        Stop::NoMemory => Break::NoMemory,
-        Stop::WriteFailed => Break::WriteFailed,
+    match hindrance {
+        Hindrance::Fault(kind) => Break::Fault(line, kind),
+        Hindrance::NoMemory => Break::NoMemory,
+        Hindrance::WriteFailed => Break::WriteFailed,
     }
 }
 

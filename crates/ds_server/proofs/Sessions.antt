@@ -2,8 +2,8 @@
 use Rattle.std.proofs.Common.{◌≡◌, ◌≢◌, inr, ℕ, ◌+◌, ◌≤◌, Bool, true, false, List, [], ◌∷◌, ◌++◌, length, length-append, Option, Ok, Err, refl, sym, ap, subst, arith, ◌∙◌}
 use Rattle.std.specs.Io.KnownBytes.{Appends}
 use Rattle.ds_server.specs.declared.request.LineFault.TheVariants.{LineTooLong}
-use Rattle.ds_server.specs.declared.session.Stop.{Stop}
-use Rattle.ds_server.specs.declared.session.Stop.TheVariants as stops
+use Rattle.ds_server.specs.declared.session.Hindrance.{Hindrance}
+use Rattle.ds_server.specs.declared.session.Hindrance.TheVariants as hindrances
 use Rattle.ds_server.specs.declared.session.SessionEnd.TheVariants as ends
 use Rattle.ds_server.specs.SessionLines.{ReadsLine, ReadsLong, ReadsPart, ReadsOver}
 use Rattle.ds_server.specs.Replies.{Said, Faulted}
@@ -35,28 +35,28 @@ module _ {B : Type 0} (rules : Rules B) (most : ℕ) (first old new : B) (bytes 
     subst (λ (x : Option ℕ). Session rules most first (bytes ++ more) new x (out ++ said_text (rules.shape old) said)) (sym j) (turns bytes more out old new joined said s t),
   )
 
-  pub session_stops : (limit : ℕ) (stop : Stop) → Session rules most first bytes old joined out → Appends before now out → Turns rules most old joined more said new → after ≡ joined_after joined said
+  pub session_stops : (limit : ℕ) (stop : Hindrance) → Session rules most first bytes old joined out → Appends before now out → Turns rules most old joined more said new → after ≡ joined_after joined said
       → Writes (rules.shape old) said now then_ failed_before failed_now (Err stop)
       → (end_of stop ≢ ends.WriteFailed → Appends before then_ out) × Ran rules most limit first (bytes ++ more) out new after (end_of stop)
-  session_stops limit stops.NoMemory s w t j tells = (
+  session_stops limit hindrances.NoMemory s w t j tells = (
     (λ _. subst (λ (o : Option (List ℕ)). Appends before o out) (sym tells.0) w),
     inr (record { lines = bytes; more = more; board = old; before = joined; said = said; session = s; turn = t; joined_is = j; is = refl }),
   )
-  session_stops limit stops.WriteFailed s w t j tells = (
+  session_stops limit hindrances.WriteFailed s w t j tells = (
     (λ ne. absurd (ne refl)),
     record { lines = bytes; more = more; board = old; before = joined; said = said; session = s; turn = t; joined_is = j; is = refl },
   )
 
 -- a write that failed is told
-pub stop_told : {B : Type 0} (rules : Rules B) (old : B) (said : Said) (before now : Option (List ℕ)) (failed_before failed_now : Bool) (stop : Stop)
+pub stop_told : {B : Type 0} (rules : Rules B) (old : B) (said : Said) (before now : Option (List ℕ)) (failed_before failed_now : Bool) (stop : Hindrance)
     → Writes (rules.shape old) said before now failed_before failed_now (Err stop) → end_of stop ≡ ends.WriteFailed → failed_now ≡ true
-stop_told rules old said before now failed_before failed_now stops.NoMemory tells is = absurd (cc)
-stop_told rules old said before now failed_before failed_now stops.WriteFailed tells is = tells
+stop_told rules old said before now failed_before failed_now hindrances.NoMemory tells is = absurd (cc)
+stop_told rules old said before now failed_before failed_now hindrances.WriteFailed tells is = tells
 
-pub stop_hides : {B : Type 0} (rules : Rules B) (old : B) (said : Said) (before now : Option (List ℕ)) (failed_before failed_now : Bool) (stop : Stop)
+pub stop_hides : {B : Type 0} (rules : Rules B) (old : B) (said : Said) (before now : Option (List ℕ)) (failed_before failed_now : Bool) (stop : Hindrance)
     → Writes (rules.shape old) said before now failed_before failed_now (Err stop) → end_of stop ≢ ends.WriteFailed → failed_now ≡ failed_before
-stop_hides rules old said before now failed_before failed_now stops.NoMemory tells other = tells.1
-stop_hides rules old said before now failed_before failed_now stops.WriteFailed tells other = absurd (other refl)
+stop_hides rules old said before now failed_before failed_now hindrances.NoMemory tells other = tells.1
+stop_hides rules old said before now failed_before failed_now hindrances.WriteFailed tells other = absurd (other refl)
 
 -- ---- ends
 

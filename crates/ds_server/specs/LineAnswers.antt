@@ -5,8 +5,8 @@ use Rattle.ds_formula.specs.declared.cells.Shape.{Shape}
 use Rattle.ds_server.specs.declared.request.LineFault.TheVariants.{LineTooLong}
 use Rattle.ds_server.specs.declared.answer.Response.{Response}
 use Rattle.ds_server.specs.declared.answer.Response.TheVariants as response
-use Rattle.ds_server.specs.declared.session.Stop.{Stop}
-use Rattle.ds_server.specs.declared.session.Stop.TheVariants as stops
+use Rattle.ds_server.specs.declared.session.Hindrance.{Hindrance}
+use Rattle.ds_server.specs.declared.session.Hindrance.TheVariants as hindrances
 use Rattle.ds_server.specs.declared.session.SessionEnd.{SessionEnd}
 use Rattle.ds_server.specs.declared.session.SessionEnd.TheVariants as ends
 use Rattle.ds_server.specs.Replies.{Said, Joined, Done, Overtaken, Settled, Unsettled, Tells, Refused, Faulted}
@@ -26,10 +26,10 @@ response_view (response.Refused why) = Refused why
 response_view (response.Faulted fault) = Faulted fault
 
 -- what is said is written, or memory is wanted to make its text, or a write failed
-abbrev pub Writes : Shape → Said → Option (List ℕ) → Option (List ℕ) → Bool → Bool → Result (Unit {0}) Stop → Type 0
+abbrev pub Writes : Shape → Said → Option (List ℕ) → Option (List ℕ) → Bool → Bool → Result (Unit {0}) Hindrance → Type 0
 Writes shape said before now failed_before failed_now (Ok done) = Appends before now (said_text shape said) × (failed_now ≡ failed_before)
-Writes shape said before now failed_before failed_now (Err stops.NoMemory) = (now ≡ before) × (failed_now ≡ failed_before)
-Writes shape said before now failed_before failed_now (Err stops.WriteFailed) = failed_now ≡ true
+Writes shape said before now failed_before failed_now (Err hindrances.NoMemory) = (now ≡ before) × (failed_now ≡ failed_before)
+Writes shape said before now failed_before failed_now (Err hindrances.WriteFailed) = failed_now ≡ true
 
 -- what is said to a line that was read; to one that is too long, unread
 abbrev pub Says : {B : Type 0} → Rules B → Bool → B → Option ℕ → List ℕ → Said → B → Type 0
@@ -37,7 +37,7 @@ Says rules true old joined line said new = (said ≡ Faulted LineTooLong) × (ne
 Says rules false old joined line said new = Answers rules old joined line said new
 
 -- a line is answered, and the answer written, or not
-pub record Turned {B : Type 0} (rules : Rules B) (long : Bool) (old : B) (joined : Option ℕ) (line : List ℕ) (before now : Option (List ℕ)) (failed_before failed_now : Bool) (result : Result (Unit {0}) Stop) (new : B) (after : Option ℕ) : Type 0 where
+pub record Turned {B : Type 0} (rules : Rules B) (long : Bool) (old : B) (joined : Option ℕ) (line : List ℕ) (before now : Option (List ℕ)) (failed_before failed_now : Bool) (result : Result (Unit {0}) Hindrance) (new : B) (after : Option ℕ) : Type 0 where
   pub said : Said
   pub says : Says rules long old joined line said new
   pub joined_is : after ≡ joined_after joined said
@@ -45,6 +45,6 @@ pub record Turned {B : Type 0} (rules : Rules B) (long : Bool) (old : B) (joined
   pub writes : Writes (rules.shape old) said before now failed_before failed_now result
 
 -- how a session ends that a line stops
-abbrev pub end_of : Stop → SessionEnd
-end_of stops.NoMemory = ends.NoMemory
-end_of stops.WriteFailed = ends.WriteFailed
+abbrev pub end_of : Hindrance → SessionEnd
+end_of hindrances.NoMemory = ends.NoMemory
+end_of hindrances.WriteFailed = ends.WriteFailed

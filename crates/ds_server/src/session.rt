@@ -191,7 +191,7 @@ fn leave<B: Board>(board: &mut B, joined: Option<usize>)
 
 // Why a session goes no further behind a line.
 #[derive(Clone, Copy, Debug)]
-enum Stop {
+enum Hindrance {
     NoMemory,
     WriteFailed,
 }
@@ -202,29 +202,29 @@ fn tell<W: Write>(
     writer: &mut Writing<W>,
     shape: &Shape,
     response: &Response,
-) -> Result<(), Stop>
+) -> Result<(), Hindrance>
     ensures { Writes shape.now (response_view response.now) (W.contents (writer_of writer.old)) (W.contents (writer_of writer.new)) (write_failed writer.old) (write_failed writer.new) result }
 {
     let Ok(text) = response_line(alloc, shape, response) else {
-        return Err(Stop::NoMemory);
+        return Err(Hindrance::NoMemory);
     };
     match writer.write_all(&text) {
         Ok(()) => {}
-        Err(_) => return Err(Stop::WriteFailed),
+        Err(_) => return Err(Hindrance::WriteFailed),
     }
     match writer.flush() {
         Ok(()) => Ok(()),
-        Err(_) => Err(Stop::WriteFailed),
+        Err(_) => Err(Hindrance::WriteFailed),
     }
 }
 
 // How a session ends that a line stops.
-fn end_at(stop: Stop) -> SessionEnd
-    ensures { result ≡ end_of stop }
+fn end_at(hindrance: Hindrance) -> SessionEnd
+    ensures { result ≡ end_of hindrance }
 {
-    match stop {
-        Stop::NoMemory => SessionEnd::NoMemory,
-        Stop::WriteFailed => SessionEnd::WriteFailed,
+    match hindrance {
+        Hindrance::NoMemory => SessionEnd::NoMemory,
+        Hindrance::WriteFailed => SessionEnd::WriteFailed,
     }
 }
 
@@ -255,7 +255,7 @@ fn turn<W: Write, B: Board>(
     joined: &mut Option<usize>,
     line: &[u8],
     long: bool,
-) -> Result<(), Stop>
+) -> Result<(), Hindrance>
     requires { Seated B.rules joined.old board.old }
     ensures { Turned B.rules long board.old joined.old line.now (W.contents (writer_of writer.old)) (W.contents (writer_of writer.new)) (write_failed writer.old) (write_failed writer.new) result board.new joined.new }
 {

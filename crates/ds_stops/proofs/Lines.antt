@@ -17,8 +17,8 @@ use Rattle.ds_play.specs.Script.{Progress, IsMade, begins_at, goes_on, Carried, 
 use Rattle.ds_play.proofs.Scripts.{carried_runs}
 use Rattle.ds_stops.specs.declared.reach.Place.{Place}
 use Rattle.ds_stops.specs.declared.reach.Point.{Point}
-use Rattle.ds_stops.specs.declared.reach.Stop.{Stop}
-use Rattle.ds_stops.specs.declared.reach.Stop.TheVariants as stops
+use Rattle.ds_stops.specs.declared.reach.Hindrance.{Hindrance}
+use Rattle.ds_stops.specs.declared.reach.Hindrance.TheVariants as hindrances
 use Rattle.ds_stops.specs.StopBlocks.{EndsBefore, BreaksBefore}
 use Rattle.ds_stops.specs.declared.turn.Left.{Left}
 use Rattle.ds_stops.specs.ScriptTurns.{doing_of}
@@ -135,8 +135,8 @@ module _ (whole : Bool) (script : List ℕ) (lines : ℕ) (point : Point) (w : W
   )
 
   -- a line that stops the run
-  pub line_stops : (last : ℕ) (stop : Stop) → point.taken < last → StopsLine w point line stop → FallsShort whole script last (short_at (lines + 1) stop)
-  line_stops last (stops.Fault kind) below h = record {
+  pub line_stops : (last : ℕ) (stop : Hindrance) → point.taken < last → StopsLine w point line stop → FallsShort whole script last (short_at (lines + 1) stop)
+  line_stops last (hindrances.Fault kind) below h = record {
     out = led.out;
     breaks = record {
       lines = lines;
@@ -148,7 +148,7 @@ module _ (whole : Bool) (script : List ℕ) (lines : ℕ) (point : Point) (w : W
     };
     fewer = let count = led.count in omega (arith, count, below);
   }
-  line_stops last stops.NoMemory below h = tt
+  line_stops last hindrances.NoMemory below h = tt
 
 -- ---- in a command
 

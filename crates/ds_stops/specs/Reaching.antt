@@ -24,8 +24,8 @@ use Rattle.ds_stops.specs.declared.reach.Advance.{Advance}
 use Rattle.ds_stops.specs.declared.reach.Advance.TheVariants as advance
 use Rattle.ds_stops.specs.declared.reach.Place.{Place}
 use Rattle.ds_stops.specs.declared.reach.Point.{Point}
-use Rattle.ds_stops.specs.declared.reach.Stop.{Stop}
-use Rattle.ds_stops.specs.declared.reach.Stop.TheVariants as stops
+use Rattle.ds_stops.specs.declared.reach.Hindrance.{Hindrance}
+use Rattle.ds_stops.specs.declared.reach.Hindrance.TheVariants as hindrances
 use Rattle.ds_stops.specs.declared.reach.Short.{Short}
 use Rattle.ds_stops.specs.declared.reach.Short.TheVariants as shorts
 use Rattle.ds_stops.specs.declared.turn.Left.{Left}
@@ -139,9 +139,9 @@ Advances old point line last (advance.Passed now) new = PassesLine old point lin
 Advances old point line last (advance.Halted now left) new = HaltsLine old point line last now left new
 
 -- why the line is not carried out: it has a fault, or for want of memory
-abbrev pub StopsLine : WorldValue → Point → List ℕ → Stop → Type 0
-StopsLine old point line (stops.Fault kind) = order_of point.begun old line ≡ Err kind
-StopsLine old point line stops.NoMemory = Unit {0}
+abbrev pub StopsLine : WorldValue → Point → List ℕ → Hindrance → Type 0
+StopsLine old point line (hindrances.Fault kind) = order_of point.begun old line ≡ Err kind
+StopsLine old point line hindrances.NoMemory = Unit {0}
 
 -- ---- a script
 
@@ -190,9 +190,9 @@ Reaches whole script last w (Ok reached) = StandsAt whole script last w
 Reaches whole script last w (Err short) = FallsShort whole script last short
 
 -- why a run does not come to its step that is stopped at a line
-abbrev pub short_at : ℕ → Stop → Short
-short_at line (stops.Fault kind) = shorts.Fault line kind
-short_at line stops.NoMemory = shorts.NoMemory
+abbrev pub short_at : ℕ → Hindrance → Short
+short_at line (hindrances.Fault kind) = shorts.Fault line kind
+short_at line hindrances.NoMemory = shorts.NoMemory
 
 -- how a script ends that does not come to the next step
 abbrev pub end_of : Bool → Short → ScriptEnd

@@ -6,7 +6,7 @@ ghost use Rattle.ds_state.specs.Value.{WorldValue};
 ghost use Rattle.ds_play.specs.Script.{IsMade, StandsAt};
 ghost use Rattle.ds_stops.specs.ScriptTurns.{IsWithin};
 ghost use Rattle.ds_stops.specs.Reaching.{Advances, StopsLine, IsAt, FallsShort, Reaches, short_at};
-ghost use Rattle.ds_stops.specs.declared.reach.Stop.TheVariants as stops;
+ghost use Rattle.ds_stops.specs.declared.reach.Hindrance.TheVariants as hindrances;
 
 use crate::play::{Played, carry_up_to, play};
 use crate::turn::Left;
@@ -50,24 +50,24 @@ enum Advance {
 
 // Why a line is not carried out.
 #[derive(Clone, Copy, Debug, PartialEq, Eq, Drop)]
-enum Stop {
+enum Hindrance {
     Fault(ScriptFault),
     NoMemory,
 }
 
-impl From<ScriptFault> for Stop {
-    ghost from_gives = { λ f s. s ≡ stops.Fault f };
+impl From<ScriptFault> for Hindrance {
+    ghost from_gives = { λ f s. s ≡ hindrances.Fault f };
 
-    fn from(fault: ScriptFault) -> Stop {
-        Stop::Fault(fault)
+    fn from(fault: ScriptFault) -> Hindrance {
+        Hindrance::Fault(fault)
     }
 }
 
-impl From<AllocError> for Stop {
-    ghost from_gives = { λ _ s. s ≡ stops.NoMemory };
+impl From<AllocError> for Hindrance {
+    ghost from_gives = { λ _ s. s ≡ hindrances.NoMemory };
 
-    fn from(_error: AllocError) -> Stop {
-        Stop::NoMemory
+    fn from(_error: AllocError) -> Hindrance {
+        Hindrance::NoMemory
     }
 }
 
@@ -89,7 +89,7 @@ fn obey(
     point: Point,
     last: u64,
     world: &mut World,
-) -> Result<Advance, Stop>
+) -> Result<Advance, Hindrance>
     requires { point.taken < last }
     ensures advances { IfOk result (λ now. Advances world.old point line.now last now world.new) }
     ensures stops { IfErr result (λ stop. StopsLine world.old point line.now stop) }
@@ -105,12 +105,12 @@ fn obey(
 }
 
 // Why a run ends that is stopped at this line, counted from 1.
-fn stop_at(line: usize, stop: Stop) -> Short
-    ensures { result ≡ short_at line stop }
+fn stop_at(line: usize, hindrance: Hindrance) -> Short
+    ensures { result ≡ short_at line hindrance }
 {
-    match stop {
-        Stop::Fault(kind) => Short::Fault { line, kind },
-        Stop::NoMemory => Short::NoMemory,
+    match hindrance {
+        Hindrance::Fault(kind) => Short::Fault { line, kind },
+        Hindrance::NoMemory => Short::NoMemory,
     }
 }
 

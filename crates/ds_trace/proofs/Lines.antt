@@ -17,8 +17,8 @@ use Rattle.ds_play.specs.Orders.{Order, Make, Does, order_of}
 use Rattle.ds_play.specs.Running.{after}
 use Rattle.ds_play.specs.Script.{Progress, IsMade, begins_at, goes_on, Carried, begins, skips, makes, obeys, FaultAt}
 use Rattle.ds_trace.specs.declared.row.Row.{Row}
-use Rattle.ds_trace.specs.declared.record.Stop.{Stop}
-use Rattle.ds_trace.specs.declared.record.Stop.TheVariants as stops
+use Rattle.ds_trace.specs.declared.record.Hindrance.{Hindrance}
+use Rattle.ds_trace.specs.declared.record.Hindrance.TheVariants as hindrances
 use Rattle.ds_trace.specs.declared.turn.NoTrace.TheVariants.{TooManyEvents, NoMemory}
 use Rattle.ds_trace.specs.declared.record.Untraced.TheVariants as untraced
 use Rattle.ds_trace.specs.Trails.{AreRows, ObeysBy}
@@ -129,8 +129,8 @@ module _ (places : List Place) (whole : Bool) (script : List ℕ) (lines : ℕ) 
       (subst (λ (v : WorldValue). ObeysBy places v e.order new rows rows') (sym led.world_is) e.obeys) some
 
   -- a line that stops the script
-  pub line_stops : (line behind : List ℕ) → next_of whole rest ≡ ALine line behind → (stop : Stop) → StopsLine first w line stop → IsUntraced whole script (why_not (lines + 1) stop)
-  line_stops line behind next (stops.Fault kind) h = (
+  pub line_stops : (line behind : List ℕ) → next_of whole rest ≡ ALine line behind → (stop : Hindrance) → StopsLine first w line stop → IsUntraced whole script (why_not (lines + 1) stop)
+  line_stops line behind next (hindrances.Fault kind) h = (
     led.out,
     record {
       lines = lines;
@@ -141,8 +141,8 @@ module _ (places : List Place) (whole : Bool) (script : List ℕ) (lines : ℕ) 
       fault = subst (λ (f : AtFront). FaultAt led.progress f kind) (sym next) (asked line (Err kind) h);
     },
   )
-  line_stops line behind next (stops.NoTrace TooManyEvents) h = tt
-  line_stops line behind next (stops.NoTrace NoMemory) h = tt
+  line_stops line behind next (hindrances.NoTrace TooManyEvents) h = tt
+  line_stops line behind next (hindrances.NoTrace NoMemory) h = tt
 
   -- a line that is too long
   pub breaks_long : next_of whole rest ≡ LongLine → IsUntraced whole script (untraced.Fault (lines + 1) LineTooLong)

@@ -15,8 +15,8 @@ use Rattle.ds_trace.specs.declared.row.Trace.{Trace}
 use Rattle.ds_trace.specs.declared.row.Happening.{Happening}
 use Rattle.ds_trace.specs.declared.row.Happening.TheVariants.{Begins, Steps, TakesEntry, Evicts, Stops, Crashes}
 use Rattle.ds_trace.specs.declared.turn.NoTrace.TheVariants.{TooManyEvents, NoMemory}
-use Rattle.ds_trace.specs.declared.record.Stop.{Stop}
-use Rattle.ds_trace.specs.declared.record.Stop.TheVariants as stops
+use Rattle.ds_trace.specs.declared.record.Hindrance.{Hindrance}
+use Rattle.ds_trace.specs.declared.record.Hindrance.TheVariants as hindrances
 use Rattle.ds_trace.specs.declared.record.Untraced.{Untraced}
 use Rattle.ds_trace.specs.declared.record.Untraced.TheVariants as untraced
 use Rattle.ds_trace.specs.Rows.{sides_of}
@@ -68,15 +68,15 @@ abbrev pub PassesLine : List Place → Begun → WorldValue → List ℕ → Beg
 PassesLine places first old line now new before rows = SkipsLine first old line now new before rows ⊎ CarriesLine places first old line now new before rows
 
 -- why no further line is carried out: by its fault, or for want of room
-abbrev pub StopsLine : Begun → WorldValue → List ℕ → Stop → Type 0
-StopsLine first old line (stops.Fault kind) = order_of first old line ≡ Err kind
-StopsLine first old line (stops.NoTrace why) = Unit {0}
+abbrev pub StopsLine : Begun → WorldValue → List ℕ → Hindrance → Type 0
+StopsLine first old line (hindrances.Fault kind) = order_of first old line ≡ Err kind
+StopsLine first old line (hindrances.NoTrace why) = Unit {0}
 
 -- why a script has no recording that is stopped at this line
-abbrev pub why_not : ℕ → Stop → Untraced
-why_not line (stops.Fault kind) = untraced.Fault line kind
-why_not line (stops.NoTrace TooManyEvents) = untraced.TooManyEvents
-why_not line (stops.NoTrace NoMemory) = untraced.NoMemory
+abbrev pub why_not : ℕ → Hindrance → Untraced
+why_not line (hindrances.Fault kind) = untraced.Fault line kind
+why_not line (hindrances.NoTrace TooManyEvents) = untraced.TooManyEvents
+why_not line (hindrances.NoTrace NoMemory) = untraced.NoMemory
 
 -- ---- the words that are looked at
 

@@ -4,7 +4,7 @@ ghost use Rattle.std.specs.Prelude.{◌≡◌, ◌<◌, ◌↔◌, ◌^◌, [], 
 ghost use Rattle.ds_layout.specs.declared.place.Edition.TheVariants as editions;
 ghost use Rattle.ds_play.specs.Script.{IsMade};
 ghost use Rattle.ds_trace.specs.Traces.{IsRecord, IsTraceOf, IsUntraced, PassesLine, StopsLine, why_not};
-ghost use Rattle.ds_trace.specs.declared.record.Stop.TheVariants as stops;
+ghost use Rattle.ds_trace.specs.declared.record.Hindrance.TheVariants as hindrances;
 ghost use Rattle.ds_trace.specs.declared.record.Untraced.TheVariants as untraced;
 
 use crate::look::words;
@@ -49,35 +49,35 @@ impl From<AllocError> for Untraced {
 
 // Why no further line is carried out.
 #[derive(Clone, Copy, Debug, PartialEq, Eq, Drop)]
-enum Stop {
+enum Hindrance {
     Fault(ScriptFault),
     NoTrace(NoTrace),
 }
 
-impl From<ScriptFault> for Stop {
-    ghost from_gives = { λ f s. s ≡ stops.Fault f };
+impl From<ScriptFault> for Hindrance {
+    ghost from_gives = { λ f s. s ≡ hindrances.Fault f };
 
-    fn from(fault: ScriptFault) -> Stop {
-        Stop::Fault(fault)
+    fn from(fault: ScriptFault) -> Hindrance {
+        Hindrance::Fault(fault)
     }
 }
 
-impl From<NoTrace> for Stop {
-    ghost from_gives = { λ why s. s ≡ stops.NoTrace why };
+impl From<NoTrace> for Hindrance {
+    ghost from_gives = { λ why s. s ≡ hindrances.NoTrace why };
 
-    fn from(why: NoTrace) -> Stop {
-        Stop::NoTrace(why)
+    fn from(why: NoTrace) -> Hindrance {
+        Hindrance::NoTrace(why)
     }
 }
 
 // Why a script has no recording that is stopped at this line, counted from 1.
-fn why_not(line: usize, stop: Stop) -> Untraced
-    ensures { result ≡ why_not line stop }
+fn why_not(line: usize, hindrance: Hindrance) -> Untraced
+    ensures { result ≡ why_not line hindrance }
 {
-    match stop {
-        Stop::Fault(kind) => Untraced::Fault { line, kind },
-        Stop::NoTrace(NoTrace::TooManyEvents) => Untraced::TooManyEvents,
-        Stop::NoTrace(NoTrace::NoMemory) => Untraced::NoMemory,
+    match hindrance {
+        Hindrance::Fault(kind) => Untraced::Fault { line, kind },
+        Hindrance::NoTrace(NoTrace::TooManyEvents) => Untraced::TooManyEvents,
+        Hindrance::NoTrace(NoTrace::NoMemory) => Untraced::NoMemory,
     }
 }
 
@@ -89,7 +89,7 @@ fn obey(
     begun: Begun,
     world: &mut World,
     rows: &mut Vec<Row>,
-) -> Result<Begun, Stop>
+) -> Result<Begun, Hindrance>
     ensures passes { IfOk result (λ now. PassesLine places.now begun world.old line.now now world.new rows.old.items rows.new.items) }
     ensures stops { IfErr result (λ stop. StopsLine begun world.old line.now stop) }
 {

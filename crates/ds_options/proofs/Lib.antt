@@ -1,0 +1,3 @@
+mod Matched
+mod Grown
+mod Refused

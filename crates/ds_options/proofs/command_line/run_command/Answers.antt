@@ -1,0 +1,18 @@
+use Rattle.std.proofs.Common.{◌∙◌, ap, rules, codes}
+use Rattle.std.proofs.lemmas.Result.{IfOk-weaker}
+use Rattle.clap.specs.Simple.{app_of_fields}
+use Rattle.ds_options.specs.CommandLines.{IsCommand, stops}
+use Rattle.clap.specs.Words.{new_app, with_rule}
+use Rattle.ds_options.proofs.Grown.{grown, has_globals}
+use Rattle.ds_options.proofs.command_line.run_command.Goals as goal
+
+pub returns : goal.returns
+returns c =
+    let alone : IsCommand (new_app (codes "run")) c.after_help-command.result = search rules in
+    let one = grown _ _ _ _ _ c.in_ok-one.ensures alone c.flag-stops.ensures.rule c.flag-stops.ensures.local in
+    let two = grown _ _ _ _ _ c.in_ok-arg.ensures one c.number_option-from.ensures.rule c.number_option-from.ensures.local in
+    let three = grown _ _ _ _ _ c.in_ok-three.ensures two c.number_option-to.ensures.rule c.number_option-to.ensures.local in
+    IfOk-weaker c.bin_name.result _ _ (λ r h. record {
+      is = ap app_of_fields h.0 ∙ three.is;
+      local = ap has_globals h.0 ∙ three.local;
+    }) c.bin_name.ensures

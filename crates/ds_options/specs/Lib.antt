@@ -1,0 +1,4 @@
+pub mod Servings
+pub mod CommandLines
+pub mod Explorings
+pub mod Connectings
