@@ -6,7 +6,7 @@ cd "$(dirname "$0")/.."
 place=$(mktemp -d)
 trap 'rm -rf "$place"' EXIT
 mkdir -p "$place/bin" "$place/top/crates/ds_app/src" "$place/top/crates/low/src" "$place/temporary"
-cp dsheet "$place/top/"
+cp dsheet HANDLES "$place/top/"
 printf '# crates\nds_low:\nds_app may_wait=1: ds_low clap\nds_beside: ds_low\n' >"$place/top/crates.txt"
 echo "fn main" >"$place/top/crates/ds_app/src/main.rt"
 echo "fn low" >"$place/top/crates/low/src/lib.rt"
@@ -33,20 +33,20 @@ case $1 in
         echo "run=ended status=1 runners=1 races=unchecked proved=no" >&2
         exit 1
         ;;
-    run)
+    ci)
         mktemp >/dev/null
-        echo "rt: chose one job for ds_low"
-        echo "checked ds_app::main"
+        if [ ! -f crates.txt ] || [ -e crates/ds_beside ]; then exit 2; fi
+        echo "rt: ds_low proved"
         if [ -n "${FAILS-}" ]; then
             echo "error: not proved"
             exit 1
         fi
         if [ -n "${TAKES_LONG-}" ]; then sleep 60; fi
-        mkdir -p out
-        if [ ! -x out/ds_app ]; then
-            printf '#!/bin/sh\necho "proved $*"\nexit 3\n' >out/ds_app
-            chmod +x out/ds_app
-        fi
+        echo "rt: ds_low: its tests are proved"
+        echo "rt: ds_app proved"
+        mkdir -p crates/ds_app/out
+        printf '#!/bin/sh\necho "proved $*"\nexit 3\n' >crates/ds_app/out/ds_app
+        chmod +x crates/ds_app/out/ds_app
         ;;
 esac
 END
@@ -126,7 +126,7 @@ on build
 on build
 holds "newer sources: built once" calls 1
 on run
-holds "newer sources: the program stays as it is, and is good" writes "proved run"
+holds "newer sources: a program that was built of them" writes "proved run"
 holds "newer sources: rt is not called again" calls 1
 sleep 0.01
 touch "$place/top/crates/low/src/lib.rt"
@@ -138,7 +138,7 @@ status=0
 TAKES_LONG=1 setsid "$dsheet" build >"$place/out" 2>"$place/err" &
 group=$!
 for _ in $(seq 100); do
-    if grep -q "crate 2" "$place/err"; then break; fi
+    if grep -q "crate 1" "$place/err"; then break; fi
     sleep 0.05
 done
 kill -TERM -- "-$group"
