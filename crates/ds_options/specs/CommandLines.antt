@@ -57,13 +57,15 @@ trace_command = new_app (codes "trace")
 abbrev pub report_command : App
 report_command = new_app (codes "report")
 
--- `dsheet serve --listen ADDRESS [--columns N] [--rows N] [--processes N] [--workers N] [--sessions N]`
+-- `dsheet serve --listen ADDRESS [--columns N] [--rows N]`
 abbrev pub sheet_command : App
-sheet_command = with_rule
-    (with_rule (with_rule (with_rule (with_rule (with_rule (new_app (codes "serve")) listen)
-    (number_option (codes "columns") (codes "2"))) (number_option (codes "rows") (codes "2")))
-    (number_option (codes "processes") (codes "2"))) (number_option (codes "workers") (codes "0")))
-    (number_option (codes "sessions") (codes "0"))
+sheet_command = with_rule (with_rule (with_rule (new_app (codes "serve")) listen)
+    (number_option (codes "columns") (codes "2"))) (number_option (codes "rows") (codes "2"))
+
+-- the same with [--processes N] [--workers N] [--sessions N]
+abbrev pub shared_command : App
+shared_command = with_rule (with_rule (with_rule sheet_command (number_option (codes "processes") (codes "2")))
+    (number_option (codes "workers") (codes "0"))) (number_option (codes "sessions") (codes "0"))
 
 -- the option `--store` with one value
 abbrev pub store : Rule
@@ -75,7 +77,7 @@ log_option = record (new_rule (codes "log")) { long = Some (codes "log"); value_
 
 -- the same with [--at-once N] [--idle SECONDS] [--store FILE] [--log LEVEL]
 abbrev pub serve_command : App
-serve_command = with_rule (with_rule (with_rule (with_rule sheet_command (number_option (codes "at-once") (codes "64")))
+serve_command = with_rule (with_rule (with_rule (with_rule shared_command (number_option (codes "at-once") (codes "64")))
     (number_option (codes "idle") (codes "300"))) store) log_option
 
 -- an argument of this name, which has to be there

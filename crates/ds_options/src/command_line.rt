@@ -2,9 +2,9 @@
 
 ghost use Rattle.std.specs.Prelude.{◌≡◌, ◌↔◌, IfErr, IfOk, IsTrue, None, Some, [], codes, false, map};
 ghost use Rattle.std.specs.String.{string_bytes};
-ghost use Rattle.clap.specs.Words.{App, app_of, fault_of, first_of, found_of, one_of, rows_of, rule_of};
+ghost use Rattle.clap.specs.Words.{App, app_of, fault_of, new_app, first_of, found_of, one_of, rows_of, rule_of, with_subcommand};
 ghost use Rattle.ds_options.specs.declared.command_line.OptionsFault.TheVariants.{CommandLine, NoFile};
-ghost use Rattle.ds_options.specs.CommandLines.{Asks, AsksNothing, AsksOfStore, IsAskedBy, IsCommand, IsRefusedFor, IsWanting, Names, compact_command as compact_app, connect_command as connect_app, dsheet, dsheet_alone, explore_command as explore_app, file as file_rule, flag as flag_rule, file_command as file_app, listen as listen_rule, log_option as log_rule, number_option as number_rule, report_command as report_app, run_command as run_app, serve_command as serve_app, sheet_command as sheet_app, store as store_rule, trace_command as trace_app, with_stores};
+ghost use Rattle.ds_options.specs.CommandLines.{Asks, AsksNothing, AsksOfStore, IsAskedBy, IsCommand, IsRefusedFor, IsWanting, Names, compact_command as compact_app, connect_command as connect_app, dsheet, dsheet_alone, explore_command as explore_app, file as file_rule, flag as flag_rule, file_command as file_app, listen as listen_rule, log_option as log_rule, number_option as number_rule, report_command as report_app, run_command as run_app, serve_command as serve_app, shared_command as shared_app, sheet_command as sheet_app, store as store_rule, trace_command as trace_app, with_stores};
 
 use crate::connecting::{Connecting, Stopping, read_connecting, read_stopping};
 use crate::exploring::{Exploring, is_set, read_exploring};
@@ -59,6 +59,25 @@ const STOPS: &str = "stops";
 
 // The program's version.
 const VERSION: &str = "0.1.0";
+
+const ABOUT: &str = "The calculator of a shared spreadsheet that survives crashes";
+
+const RUN_ABOUT: &str =
+    "Runs a script from standard input and writes its answers to standard output";
+
+const REPORT_ABOUT: &str =
+    "Reads a grid of texts from standard input and writes its values to standard output";
+
+const EXPLORE_ABOUT: &str = "Goes through all orders of the steps of a script's calls";
+
+const TRACE_ABOUT: &str =
+    "Draws the run of a script from standard input, as one SVG on standard output";
+
+const SERVE_ABOUT: &str =
+    "Serves a sheet to clients, each a session of JSON lines over a connection";
+
+const CONNECT_ABOUT: &str =
+    "Speaks to a server: lines as set A1 =1+2, report and last in, answers as of run out";
 
 const RUN_HELP: &str = "\
 Commands, one a line. P is a process, from 0; C is a cell, as A1.
@@ -257,24 +276,48 @@ Examples:
   printf '1,=[.A1]*20\\n' | dsheet report
   dsheet serve --listen 127.0.0.1:8080";
 
+// A command of this name, with the texts of its help.
+fn described<'a>(alloc: Global, name: &'a str, about: &'a str, after: &'a str) -> Command<'a>
+    ensures { IsCommand (new_app name.now) result }
+{
+    Command::new(alloc, name).about(about).after_help(after)
+}
+
+// The commands without their options: a text of help is dear to prove beside errors.
+fn run_alone<'a>(alloc: Global) -> Command<'a>
+    ensures { IsCommand (new_app (codes "run")) result }
+{
+    described(alloc, "run", RUN_ABOUT, RUN_HELP)
+}
+
+fn explore_alone<'a>(alloc: Global) -> Command<'a>
+    ensures { IsCommand (new_app (codes "explore")) result }
+{
+    described(alloc, "explore", EXPLORE_ABOUT, EXPLORE_HELP)
+}
+
+fn serve_alone<'a>(alloc: Global) -> Command<'a>
+    ensures { IsCommand (new_app (codes "serve")) result }
+{
+    described(alloc, "serve", SERVE_ABOUT, SERVE_HELP)
+}
+
+fn connect_alone<'a>(alloc: Global) -> Command<'a>
+    ensures { IsCommand (new_app (codes "connect")) result }
+{
+    described(alloc, "connect", CONNECT_ABOUT, CONNECT_HELP)
+}
+
 fn run_command<'a>(alloc: Global) -> Result<Command<'a>, AllocError>
     ensures { IfOk result (IsCommand run_app) }
 {
+    let command = run_alone(alloc);
     let stops_help = "Crashes the sheet behind each step, and writes what is told then";
-    let stops = flag(alloc, STOPS, stops_help);
+    let one = command.arg(flag(alloc, STOPS, stops_help))?;
     let from_help = "With --stops: the first step behind which it is crashed";
-    let from = number_option(alloc, "from", "1", from_help);
-    let to = number_option(
-        alloc,
-        "to",
-        "0",
-        "With --stops: the last one; 0: to the end",
-    );
-    let command = Command::new(alloc, "run")
-        .about("Runs a script from standard input and writes its answers to standard output")
-        .after_help(RUN_HELP);
-    let one = command.arg(stops)?;
-    let three = one.arg(from)?.arg(to)?;
+    let two = one.arg(number_option(alloc, "from", "1", from_help))?;
+    let to_help = "With --stops: the last one; 0: to the end";
+    let three = two.arg(number_option(alloc, "to", "0", to_help))?;
     three.bin_name("dsheet run")
 }
 
@@ -292,46 +335,28 @@ fn flag<'a>(alloc: Global, name: &'a str, help: &'a str) -> Arg<'a>
 fn explore_command<'a>(alloc: Global) -> Result<Command<'a>, AllocError>
     ensures { IfOk result (IsCommand explore_app) }
 {
-    let crashes = flag(
-        alloc,
-        "crashes",
-        "A crash at each state, which ends the order",
-    );
-    let stops = flag(
-        alloc,
-        STOPS,
-        "A stop of each process that is in a call, at each state",
-    );
-    let evictions = flag(
-        alloc,
-        "evictions",
-        "An eviction of each word whose sides differ",
-    );
+    let command = explore_alone(alloc);
+    let crashes_help = "A crash at each state, which ends the order";
+    let one = command.arg(flag(alloc, "crashes", crashes_help))?;
+    let stops_help = "A stop of each process that is in a call, at each state";
+    let two = one.arg(flag(alloc, STOPS, stops_help))?;
+    let evictions_help = "An eviction of each word whose sides differ";
+    let three = two.arg(flag(alloc, "evictions", evictions_help))?;
     let most_help = "Thousands of states that are gone through at most";
-    let most = number_option(alloc, "most", "1000", most_help);
-    let command = Command::new(alloc, "explore")
-        .about("Goes through all orders of the steps of a script's calls")
-        .after_help(EXPLORE_HELP);
-    let two = command.arg(crashes)?.arg(stops)?;
-    let four = two.arg(evictions)?.arg(most)?;
+    let four = three.arg(number_option(alloc, "most", "1000", most_help))?;
     Ok(four)
 }
 
 fn trace_command<'a>(alloc: Global) -> Command<'a>
     ensures { IsCommand trace_app result }
 {
-    Command::new(alloc, "trace")
-        .about("Draws the run of a script from standard input, as one SVG on standard output")
-        .after_help(TRACE_HELP)
+    described(alloc, "trace", TRACE_ABOUT, TRACE_HELP)
 }
 
 fn report_command<'a>(alloc: Global) -> Result<Command<'a>, AllocError>
     ensures { IfOk result (IsCommand report_app) }
 {
-    Command::new(alloc, "report")
-        .about("Reads a grid of texts from standard input and writes its values to standard output")
-        .after_help(REPORT_HELP)
-        .bin_name("dsheet report")
+    described(alloc, "report", REPORT_ABOUT, REPORT_HELP).bin_name("dsheet report")
 }
 
 // An option with a number from 0 to 65,535.
@@ -405,10 +430,7 @@ fn file_command<'a>(
     ensures { IfOk result (IsCommand (file_app name.now)) }
 {
     let file = file_argument(alloc, "file", "FILE", "The file of the store");
-    Command::new(alloc, name)
-        .about(about)
-        .after_help(after)
-        .arg(file)
+    described(alloc, name, about, after).arg(file)
 }
 
 // `dsheet compact`.
@@ -420,47 +442,67 @@ fn compact_command<'a>(alloc: Global) -> Result<Command<'a>, AllocError>
     command.arg(new)
 }
 
+// A command with one on a store below it. That is made here: what an error has to drop is dear to prove.
+fn with_store<'a>(
+    alloc: Global,
+    command: Command<'a>,
+    name: &'a str,
+    about: &'a str,
+    after: &'a str,
+) -> Result<Command<'a>, AllocError>
+    ensures { (app : App) → IsCommand app command.entry → IfOk result (IsCommand (with_subcommand app (file_app name.now).top)) }
+{
+    let store = file_command(alloc, name, about, after)?;
+    command.subcommand(store)
+}
+
 // A command with those on stores below it.
 fn with_stores<'a>(alloc: Global, command: Command<'a>) -> Result<Command<'a>, AllocError>
     ensures { (app : App) → IsCommand app command.entry → IfOk result (IsCommand (with_stores app)) }
 {
-    let check = file_command(alloc, "check", CHECK_ABOUT, CHECK_HELP)?;
-    let export = file_command(alloc, "export", EXPORT_ABOUT, EXPORT_HELP)?;
-    let import = file_command(alloc, "import", IMPORT_ABOUT, IMPORT_HELP)?;
+    let one = with_store(alloc, command, "check", CHECK_ABOUT, CHECK_HELP)?;
+    let two = with_store(alloc, one, "export", EXPORT_ABOUT, EXPORT_HELP)?;
+    let three = with_store(alloc, two, "import", IMPORT_ABOUT, IMPORT_HELP)?;
     let compact = compact_command(alloc)?;
-    let two = command.subcommand(check)?.subcommand(export)?;
-    two.subcommand(import)?.subcommand(compact)
+    three.subcommand(compact)
 }
 
-// `dsheet serve` with its sheet, its processes and its sessions.
+// `dsheet serve` with its sheet.
 fn sheet_command<'a>(alloc: Global) -> Result<Command<'a>, AllocError>
     ensures { IfOk result (IsCommand sheet_app) }
 {
-    let columns = number_option(alloc, "columns", "2", "Columns of the sheet, 1 to 26");
-    let rows = number_option(alloc, "rows", "2", "Rows of the sheet, 1 to 64");
-    let processes = number_option(alloc, "processes", "2", "Processes, 1 to 8");
-    let workers = number_option(alloc, "workers", "0", "Workers, fewer than the processes");
+    let command = serve_alone(alloc);
+    let one = command.arg(listen_option(alloc))?;
+    let columns_help = "Columns of the sheet, 1 to 26";
+    let two = one.arg(number_option(alloc, "columns", "2", columns_help))?;
+    let rows_help = "Rows of the sheet, 1 to 64";
+    let three = two.arg(number_option(alloc, "rows", "2", rows_help))?;
+    Ok(three)
+}
+
+// The same with its processes and its sessions.
+fn shared_command<'a>(alloc: Global) -> Result<Command<'a>, AllocError>
+    ensures { IfOk result (IsCommand shared_app) }
+{
+    let command = sheet_command(alloc)?;
+    let processes_help = "Processes, 1 to 8";
+    let one = command.arg(number_option(alloc, "processes", "2", processes_help))?;
+    let workers_help = "Workers, fewer than the processes";
+    let two = one.arg(number_option(alloc, "workers", "0", workers_help))?;
     let sessions_help =
         "Sessions that join a process before the server ends; 0: until it is told to stop";
-    let sessions = number_option(alloc, "sessions", "0", sessions_help);
-    let command = Command::new(alloc, "serve")
-        .about("Serves a sheet to clients, each a session of JSON lines over a connection")
-        .after_help(SERVE_HELP);
-    let sheet = command.arg(listen_option(alloc))?.arg(columns)?.arg(rows)?;
-    let server = sheet.arg(processes)?.arg(workers)?.arg(sessions)?;
-    Ok(server)
+    let three = two.arg(number_option(alloc, "sessions", "0", sessions_help))?;
+    Ok(three)
 }
 
 fn serve_command<'a>(alloc: Global) -> Result<Command<'a>, AllocError>
     ensures { IfOk result (IsCommand serve_app) }
 {
-    let command = sheet_command(alloc)?;
+    let command = shared_command(alloc)?;
     let at_once_help = "Sessions at once, at least 1; a connection beyond them is refused";
-    let at_once = number_option(alloc, "at-once", "64", at_once_help);
+    let one = command.arg(number_option(alloc, "at-once", "64", at_once_help))?;
     let idle_help = "Seconds for which a client may say or take nothing; 0: for ever";
-    let idle = number_option(alloc, "idle", "300", idle_help);
-    let one = command.arg(at_once)?;
-    let two = one.arg(idle)?;
+    let two = one.arg(number_option(alloc, "idle", "300", idle_help))?;
     let three = two.arg(store_option(alloc))?;
     let four = three.arg(log_option(alloc))?;
     four.bin_name("dsheet serve")
@@ -469,28 +511,29 @@ fn serve_command<'a>(alloc: Global) -> Result<Command<'a>, AllocError>
 fn connect_command<'a>(alloc: Global) -> Result<Command<'a>, AllocError>
     ensures { IfOk result (IsCommand connect_app) }
 {
+    let command = connect_alone(alloc);
     let server_help = "The address and the port of the server, as 127.0.0.1:8080";
-    let server = file_argument(alloc, "server", "SERVER", server_help);
-    let process = number_option(alloc, "process", "0", "The process that is joined, 0 to 7");
-    let command = Command::new(alloc, "connect")
-        .about(
-            "Speaks to a server: lines as set A1 =1+2, report and last in, answers as of run out",
-        )
-        .after_help(CONNECT_HELP);
-    let two = command.arg(server)?.arg(process)?;
+    let one = command.arg(file_argument(alloc, "server", "SERVER", server_help))?;
+    let process_help = "The process that is joined, 0 to 7";
+    let two = one.arg(number_option(alloc, "process", "0", process_help))?;
     Ok(two)
+}
+
+// The program wants one of its subcommands, and tells its version.
+fn wanting<'a>(command: Command<'a>) -> Command<'a>
+    ensures { IsCommand (new_app (codes "dsheet")) command.entry → IsCommand dsheet_alone result }
+{
+    command
+        .version(VERSION)
+        .subcommand_required(true)
+        .arg_required_else_help(true)
 }
 
 // The program without its subcommands.
 fn program_alone<'a>(alloc: Global) -> Command<'a>
     ensures { IsCommand dsheet_alone result }
 {
-    Command::new(alloc, "dsheet")
-        .version(VERSION)
-        .about("The calculator of a shared spreadsheet that survives crashes")
-        .after_help(HELP)
-        .subcommand_required(true)
-        .arg_required_else_help(true)
+    wanting(described(alloc, "dsheet", ABOUT, HELP))
 }
 
 fn program<'a>(alloc: Global) -> Result<Command<'a>, AllocError>

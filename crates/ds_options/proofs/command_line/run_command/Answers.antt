@@ -8,10 +8,9 @@ use Rattle.ds_options.proofs.command_line.run_command.Goals as goal
 
 pub returns : goal.returns
 returns c =
-    let alone : IsCommand (new_app (codes "run")) c.after_help-command.result = search rules in
-    let one = grown _ _ _ _ _ c.in_ok-one.ensures alone c.flag-stops.ensures.rule c.flag-stops.ensures.local in
-    let two = grown _ _ _ _ _ c.in_ok-arg.ensures one c.number_option-from.ensures.rule c.number_option-from.ensures.local in
-    let three = grown _ _ _ _ _ c.in_ok-three.ensures two c.number_option-to.ensures.rule c.number_option-to.ensures.local in
+    let one = grown _ _ _ _ _ c.in_ok-one.ensures c.run_alone-command.ensures c.flag.ensures.rule c.flag.ensures.local in
+    let two = grown _ _ _ _ _ c.in_ok-two.ensures one c.number_option.ensures.rule c.number_option.ensures.local in
+    let three = grown _ _ _ _ _ c.in_ok-three.ensures two c.number_option-2.ensures.rule c.number_option-2.ensures.local in
     IfOk-weaker c.bin_name.result _ _ (λ r h. record {
       is = ap app_of_fields h.0 ∙ three.is;
       local = ap has_globals h.0 ∙ three.local;
