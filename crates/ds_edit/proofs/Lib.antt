@@ -14,3 +14,4 @@ pub mod Truth
 pub mod Possible
 pub mod Alone
 pub mod EditLeaves
+pub mod Early

@@ -25,3 +25,4 @@ pub mod RecoveryBegins
 pub mod RecoveryLaws
 pub mod RecoveryGood
 pub mod RecoveryLeaves
+pub mod Unmarked
