@@ -1,7 +1,7 @@
 -- The headline of every run.
 use Rattle.std.proofs.Common.{ℕ, ◌≡◌, ◌≤◌, ◌+◌, List, [], ◌∷◌, refl, ap, sym, ◌∙◌, arith, zero, suc, length, None, true, false, Some}
 use Rattle.ds_layout.specs.declared.layout.Layout.{Layout}
-use Rattle.ds_state.specs.Value.{first_rest, WorldValue, world_of, IsGood}
+use Rattle.ds_state.specs.Value.{WorldValue, world_of, IsGood}
 use Rattle.ds_state.specs.Fresh.{IsNew}
 use Rattle.ds_core.specs.Takes.{WorldRun, world_at}
 use Rattle.ds_core.specs.Moments.{Ledger, empty_ledger}
@@ -15,6 +15,8 @@ use Rattle.ds_core.proofs.Told.{Tells}
 use Rattle.ds_state.specs.declared.situation.Situation.TheVariants.{Idle, Recovering}
 use Rattle.ds_core.proofs.EachEvent.{Next, next}
 use Rattle.ds_core.proofs.Reported.{reports_fit}
+use Rattle.ds_core.proofs.Worked.{works_fit}
+use Rattle.ds_core.proofs.Forgotten.{forgotten_fit}
 use Rattle.ds_core.proofs.Carry.{RunOn, nothing_on, event_on, fits_all}
 
 -- a run from a ledger and a place on, whose moments are those of the worlds
@@ -77,4 +79,4 @@ pub runs_have_headline : (old : WorldValue) (events : List Event) (replies : Lis
 unfolding headline fits_all
 runs_have_headline old events replies new fresh good run =
     let f = follows old.sheet.layout 0 empty_ledger old events replies new (first_ledger old good fresh) (first_tells old good fresh) run in
-    record { is = headline old events replies new (fits_all old events replies new f.on (reports_fit old events replies new f.on f.good fresh)); worlds = f.worlds }
+    record { is = headline old events replies new (fits_all old events replies new f.on (reports_fit old events replies new f.on f.good fresh) (works_fit old events replies new f.on f.good fresh) (forgotten_fit old events replies new f.on f.good)); worlds = f.worlds }

@@ -39,4 +39,6 @@ pub mod Resolved
 pub mod NotDone
 pub mod EachEvent
 pub mod Reported
+pub mod Worked
+pub mod Forgotten
 pub mod EachRun

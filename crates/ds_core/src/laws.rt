@@ -13,14 +13,17 @@ ghost use Rattle.ds_core.specs.declared.event.Event.TheVariants.{Step, BeginRepo
 ghost use Rattle.ds_state.specs.declared.answer.Other.{Other};
 ghost use Rattle.ds_state.specs.declared.recovery.Told.{Told};
 ghost use Rattle.ds_state.specs.declared.answer.Answer.{Answer};
-ghost use Rattle.ds_state.specs.declared.answer.Answer.TheVariants.{Edit, Recovery, Report};
+ghost use Rattle.ds_state.specs.declared.answer.Answer.TheVariants.{Edit, Work, Recovery, Report};
 ghost use Rattle.ds_state.specs.declared.answer.EditEnd.TheVariants.{Done, Overtaken};
+ghost use Rattle.ds_state.specs.declared.recovery.RecoveryEnd.{RecoveryEnd};
 ghost use Rattle.ds_state.specs.declared.recovery.RecoveryEnd.TheVariants.{Last};
 ghost use Rattle.ds_state.specs.declared.report.ReportEnd.TheVariants.{Settled};
+ghost use Rattle.ds_state.specs.declared.work.WorkEnd.{WorkEnd};
 ghost use Rattle.ds_core.specs.declared.reply.Reply.TheVariants.{Answered, Entered};
 ghost use Rattle.ds_core.specs.declared.reply.Reply.{Reply};
 ghost use Rattle.ds_core.specs.Takes.{Takes, WorldRun};
-ghost use Rattle.ds_core.specs.Headline.{Happens, RunFits, Headline, HasHeadline, IsAcknowledged, IsToldDone};
+ghost use Rattle.ds_core.specs.LedgerSteps.{Forgets};
+ghost use Rattle.ds_core.specs.Headline.{Happens, RunFits, Headline, HasHeadline, IsAcknowledged, IsToldDone, HasCause, IsForgotten};
 ghost use Rattle.ds_core.specs.Own.{own_steps, steps_left, AreUnanswered, AreUnhalted, IsInCall, WorkGoesOn};
 ghost use Rattle.ds_core.specs.Kinds.{AnswersTo};
 ghost use Rattle.ds_state.specs.Spent.{IsSpent};
@@ -114,7 +117,9 @@ pub fn solo_edits_are_done()
 /// sheet from scratch. A recovery's answer closes the edit in doubt as done just where it stands in
 /// the list. An edit, once closed, stays in the list or stays out, through stops and crashes, and
 /// stands before each edit that is begun later. Each report that is answered fits a moment of its
-/// call. Detectable execution (Friedman, Herlihy, Marathe, Petrank, PPoPP 2018).
+/// call, and so does each work that is answered NotDirty, Missed or Worn. No edit that a recovery's
+/// answer forgets was ever announced on a persisted side. Detectable execution (Friedman, Herlihy,
+/// Marathe, Petrank, PPoPP 2018).
 pub fn runs_have_the_headline()
     ensures { (old : WorldValue) (events : List Event) (replies : List Reply) (new : WorldValue)
         → IsNew (world_of old) → IsGood old → (run : WorldRun old events replies new)
@@ -157,6 +162,30 @@ pub fn edits_told_as_not_done_stay_out()
         → Takes old (Step p) (Answered (Recovery (Last told))) mid → told.counts ≡ false
         → WorldRun mid events replies new
         → IsSpent (world_of new) p told.number × IsOut (world_of new) p told.number }
+{}
+
+/// What a recovery's answer forgets is an edit that its process was asked for at an earlier place. At
+/// no moment of the run up to that answer, or behind it, did the persisted side of the process's
+/// announcement have its number, in any phase, or a later one, so that no crash could leave word of
+/// it; nor does the cached side at that answer. Its number is given to the next edit that the process
+/// begins.
+pub fn forgotten_edits_were_never_announced()
+    ensures { (old : WorldValue) (events : List Event) (replies : List Reply) (new : WorldValue)
+        (h : Headline old events replies new) (k p : ℕ) (end : RecoveryEnd)
+        → Happens events replies k (Step p) (Answered (Recovery end))
+        → (f : Forgets (h.run.moment k).ledger p end (h.run.moment (k + 1)).ledger)
+        → IsForgotten h.run.moment events replies k p f.open_edit.it }
+{}
+
+/// A work's answer is of the cell of the process's last begin of work, and tells of a moment of that
+/// call. NotDirty: the cell was clean then. Missed: another process held it then, or its mark was
+/// another one than at an earlier moment of the call, at which the cell was marked. Worn: it was
+/// marked then, with a generation above 2^58.
+pub fn works_tell_of_their_calls()
+    ensures { (old : WorldValue) (events : List Event) (replies : List Reply) (new : WorldValue)
+        (h : Headline old events replies new) (k p : ℕ) (end : WorkEnd)
+        → Happens events replies k (Step p) (Answered (Work end))
+        → HasCause h.run.moment events replies k p end }
 {}
 
 /// An edit that is alone from its beginning on, but for evictions, and makes as many steps as an edit
