@@ -24,6 +24,8 @@ use Rattle.ds_state.specs.declared.situation.Situation.{Situation}
 use Rattle.ds_state.specs.declared.situation.Situation.TheVariants.{Recovering}
 use Rattle.ds_state.proofs.Found.{gave_counts}
 use Rattle.ds_state.proofs.Stable.{standing_stable, word_stable, written_stable}
+use Rattle.ds_state.specs.Headers.{SayNumber, HasCell}
+use Rattle.ds_state.proofs.Saying.{announced_number}
 use Rattle.ds_state.proofs.Frames.{MovesWord, Moves, grows_own, moves_sound, kept_stable}
 use Rattle.ds_state.proofs.Bearing.{Mine, MyMarks, bears, all_stand, text_same, stored_marks}
 use Rattle.ds_state.proofs.Buffers.{buffered}
@@ -101,8 +103,19 @@ module _ (e : PlainRecoverCall) (how : Bool) (word : ℕ) (old new : PlainWorld)
   more true = let n = number_is in omega arith
   more false = let n = number_is in omega arith
 
-  moved : MovesWord old.memory p (Announce p) (old.memory.cached (Announce p)) (old.memory.persisted (Announce p)) said_word (old.memory.persisted (Announce p))
-  moved = ((let c = h.it.cached in let w = h.it.is in let m = more how in omega arith), omega arith, inl refl)
+  moved : MovesWord old p (Announce p) (old.memory.cached (Announce p)) (old.memory.persisted (Announce p)) said_word (old.memory.persisted (Announce p))
+  moved = ((let c = h.it.cached in let w = h.it.is in let m = more how in omega arith), omega arith, inl (refl, says))
+    where
+      -- it announces the number that is announced as pending
+      says : (n : ℕ) → SayNumber said_word (old.memory.persisted (Announce p)) n → HasCell old p n
+      says n (inl now) =
+          let number = announced_number (number_of e) (phase_for how) in
+          let pending = announced_number f.number phase.Pending in
+          let same = number_is in
+          let c = h.it.cached in
+          let w = h.it.is in
+          sound.headers p n (inl (omega (arith, now, number, pending, same, c, w)))
+      says n (inr now) = sound.headers p n (inr now)
 
   moves : Moves p (Announce p) old new
   moves = store_moves p old new tn (Announce p) said_word (λ x. cc) moved store
