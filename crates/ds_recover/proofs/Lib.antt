@@ -26,3 +26,4 @@ pub mod RecoveryLaws
 pub mod RecoveryGood
 pub mod RecoveryLeaves
 pub mod Unmarked
+pub mod RecoveryNames

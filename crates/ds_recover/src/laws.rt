@@ -19,7 +19,7 @@ ghost use Rattle.ds_state.specs.Works.{PlainRecoverCall, PlainMigrateCall, IsCop
 ghost use Rattle.ds_state.specs.RecoverStages.{IsRecovery};
 ghost use Rattle.ds_state.specs.declared.recovery.RecoverStage.TheVariants.{Answer};
 ghost use Rattle.ds_state.specs.declared.situation.Situation.TheVariants.{Recovering, Migrating};
-ghost use Rattle.ds_recover.specs.RecoverySteps.{Steps, access_at, next_at, rank, Falls, end_of, ResolvesAs, RepeatsAs, TellsFound};
+ghost use Rattle.ds_recover.specs.RecoverySteps.{Steps, access_at, next_at, rank, Falls, end_of, ResolvesAs, RepeatsAs, NamesCell, TellsFound};
 ghost use Rattle.ds_recover.specs.RecoverBegun.{IsBegun};
 ghost use Rattle.ds_recover.specs.Unmarked.{ReliesOn, AnswersUnmarked};
 ghost use Rattle.ds_recover.specs.MigrationSteps.{BeginsMigration};
@@ -121,6 +121,14 @@ pub fn answers_repeat()
     ensures { (e : PlainRecoverCall) (how : Option Bool) (w : PlainWorld) → IsSound w
         → e.process < w.layout.processes → w.situation e.process ≡ Recovering e → e.stage ≡ Answer how
         → RepeatsAs w e.process (end_of e how) }
+{}
+
+/// The cell that a recovery's answer tells, also of an edit that does not count, is a cell of the
+/// sheet, and the one that both sides of the header of that record say: a crash keeps it.
+pub fn answers_name_their_cell()
+    ensures { (e : PlainRecoverCall) (how : Option Bool) (w : PlainWorld) → IsSound w
+        → e.process < w.layout.processes → w.situation e.process ≡ Recovering e → e.stage ≡ Answer how
+        → NamesCell w e.process (end_of e how) }
 {}
 
 /// A recovery marks only cells whose bits it found in the row of a cell that it gives back, and the
