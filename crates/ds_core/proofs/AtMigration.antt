@@ -23,7 +23,7 @@ use Rattle.ds_core.specs.declared.reply.Reply.{Reply}
 use Rattle.ds_core.proofs.Headers.{SidesStay, Spares, FirstSpares, sides_same, sides_performed}
 use Rattle.ds_core.proofs.Ledgers.{IsOf, SaysSame, says_same, doubts, numbered}
 use Rattle.ds_core.proofs.Turns.{migration_turn, migration_begins_turn}
-use Rattle.ds_core.proofs.Told.{Tells, SeesCell, told_on, tells_turn}
+use Rattle.ds_core.proofs.Told.{Tells, told_on, tells_turn}
 
 -- ---- its accesses
 
@@ -58,10 +58,6 @@ after_says e _ word = record { number = refl; doubt = refl }
 after_shows_not : (e : PlainMigrateCall) (s : MigrateStage) (word : ℕ) (g : PlainReportCall) → steps.after e s word ≡ Reporting g → ⊥
 after_shows_not e (stages.Answer how) word g is = (cc)
 after_shows_not e _ word g is = (cc)
-
-after_recovers_not : (e : PlainMigrateCall) (s : MigrateStage) (word : ℕ) (g : PlainRecoverCall) → steps.after e s word ≡ Recovering g → ⊥
-after_recovers_not e (stages.Answer how) word g is = (cc)
-after_recovers_not e _ word g is = (cc)
 
 module _ (v v' : WorldValue) (p : ℕ) (reply : Reply) (s : MigrationStepsBy v p reply v') where
   pub migration_access : OneAccess p (world_of v).memory (world_of v').memory
@@ -104,7 +100,6 @@ module _ (layout : Layout) (l : Ledger) (v v' : WorldValue) (p : ℕ) (reply : R
     opens = λ issue is. t.opens p issue (sym (s.steps.steps.open_edits p) ∙ is);
     announced = λ doubt none. (let before = sym (s.steps.steps.open_edits p) ∙ none in
         ap (λ x. x / 4) (announce_stays s.steps.migration.process p s.steps.migration s.steps.migration.stage (world_of v).memory (world_of v').memory s.steps.word s.steps.steps.memory) ∙ t.announced p s.steps.there (ap doubts s.steps.at) before);
-    sees = λ f is. absurd (after_recovers_not s.steps.migration s.steps.migration.stage s.steps.word f (sym (now v v' p reply s) ∙ is));
   }) (λ q ne. refl) (λ q c ne is. (t.told q c is).counted)
 
 -- ---- its begin
@@ -125,5 +120,4 @@ module _ (layout : Layout) (l : Ledger) (v v' : WorldValue) (p : ℕ) (h : IsOf 
     told = λ c is. (let k = t.told p c is in told_on l.counted l.counted (world_of v) (world_of v') p c k b.begun.layout (sides_same (world_of v).memory (world_of v').memory (Header p c.it.edit.number) b.begun.memory) k.counted);
     opens = λ issue is. t.opens p issue (sym (b.begun.open_edits p) ∙ is);
     announced = λ doubt none. ap (λ x. x / 4) (b.begun.memory.cached (Announce p)) ∙ t.announced p b.there (ap doubts b.begun.stopped) (sym (b.begun.open_edits p) ∙ none);
-    sees = λ f is. absurd (let bad : Migrating _ ≡ Recovering f = sym b.begun.situation ∙ is in cc);
   }) (λ q ne. refl) (λ q c ne is. (t.told q c is).counted)

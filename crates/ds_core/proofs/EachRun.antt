@@ -71,7 +71,6 @@ first_tells v good new = record {
   told = λ p c is. absurd (no_some None c refl is);
   opens = λ p issue is. absurd (no_some ((world_of v).open_edits p) issue (new.open_edits p) is);
   announced = λ p lt doubt none. absurd (let bad : false ≡ true = sym (ap doubts (new.situation p lt)) ∙ doubt in cc);
-  sees = λ p e is. absurd (let f = new_idle v good new p in let bad : Idle f.rest ≡ Recovering e = sym f.is ∙ is in cc);
 }
 
 -- every run from a new world has the headline, with its own worlds
