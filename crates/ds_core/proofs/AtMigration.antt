@@ -1,5 +1,5 @@
 -- A migration, from its begin to its answer: what its process says of its edits, and what the words tell of them.
-use Rattle.std.proofs.Common.{ℕ, ◌≡◌, ◌/◌, ◌∷◌, [], List, refl, ap, sym, ◌∙◌, subst, inl, inr, Some, None}
+use Rattle.std.proofs.Common.{ℕ, ◌≡◌, ◌/◌, List, refl, ap, sym, ◌∙◌, subst, inl, inr}
 use Rattle.std.proofs.lemmas.Bool.{cases_eq}
 use Rattle.ds_words.specs.Memory.{Memory}
 use Rattle.ds_words.specs.declared.access.BufferEntry.{BufferEntry}
@@ -8,11 +8,11 @@ use Rattle.ds_layout.specs.declared.place.Place.TheVariants.{Header, Announce}
 use Rattle.ds_layout.specs.SheetMemory.{PerformsAt}
 use Rattle.ds_layout.specs.declared.layout.Layout.{Layout}
 use Rattle.ds_state.specs.World.{PlainWorld}
-use Rattle.ds_state.specs.Works.{PlainMigrateCall, PlainReportCall, PlainRecoverCall}
+use Rattle.ds_state.specs.Works.{PlainMigrateCall, PlainReportCall}
 use Rattle.ds_state.specs.CallsFit.{CallFits, MigrationHolds, MigrationFits}
 use Rattle.ds_state.specs.Value.{WorldValue, world_of}
 use Rattle.ds_state.specs.declared.situation.Situation.{Situation}
-use Rattle.ds_state.specs.declared.situation.Situation.TheVariants.{Stopped, Recovering, Reporting, Migrating}
+use Rattle.ds_state.specs.declared.situation.Situation.TheVariants.{Reporting, Migrating}
 use Rattle.ds_state.specs.declared.migration.MigrateStage.{MigrateStage}
 use Rattle.ds_state.specs.declared.migration.MigrateStage.TheVariants as stages
 use Rattle.ds_recover.specs.MigrationSteps as steps

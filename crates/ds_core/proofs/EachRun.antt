@@ -12,7 +12,6 @@ use Rattle.ds_core.proofs.Closing.{headline}
 use Rattle.ds_core.proofs.NewIdle.{new_idle}
 use Rattle.ds_core.proofs.Ledgers.{IsOf, fits_of, doubts, numbered, no_some, one_some}
 use Rattle.ds_core.proofs.Told.{Tells}
-use Rattle.ds_state.specs.declared.situation.Situation.TheVariants.{Idle, Recovering}
 use Rattle.ds_core.proofs.EachEvent.{Next, next}
 use Rattle.ds_core.proofs.Reported.{reports_fit}
 use Rattle.ds_core.proofs.Worked.{works_fit}

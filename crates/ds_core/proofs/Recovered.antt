@@ -1,25 +1,18 @@
 -- What a recovery's begin and steps leave of what the words tell of closed edits.
-use Rattle.std.proofs.Common.{ℕ, ◌≡◌, ◌≢◌, ◌+◌, ◌-◌, ◌/◌, ◌%◌, ◌==◌, ◌⊎◌, List, [], refl, ap, sym, ◌∙◌, subst, arith, inl, inr, Bool, true, false, Some, None}
-use Rattle.std.specs.Prelude.{Option, nat_lt, if◌then◌else◌}
+use Rattle.std.proofs.Common.{ℕ, ◌≡◌, ◌≢◌, ◌/◌, ◌⊎◌, refl, ap, sym, ◌∙◌, subst, inl, inr, Bool, Some, None}
 use Rattle.ds_words.specs.Memory.{Memory}
 use Rattle.ds_words.specs.declared.access.Access.{Access}
 use Rattle.ds_words.specs.declared.access.Access.TheVariants as acts
 use Rattle.ds_layout.specs.declared.place.Place.{Place}
 use Rattle.ds_layout.specs.declared.place.Place.TheVariants as place
 use Rattle.ds_layout.specs.declared.place.Place.TheVariants.{Header, Announce}
-use Rattle.ds_layout.specs.declared.announcement.Announcement.{Announcement}
 use Rattle.ds_layout.specs.declared.layout.Layout.{Layout}
-use Rattle.ds_layout.specs.Announcement.{announcement_of}
-use Rattle.ds_layout.specs.Header.{header_of}
-use Rattle.ds_layout.specs.Head.{head_of}
-use Rattle.ds_layout.specs.Places.{cells_of}
 use Rattle.ds_layout.specs.SheetMemory.{PerformsAt}
-use Rattle.ds_state.specs.World.{PlainWorld, announcement}
+use Rattle.ds_state.specs.World.{PlainWorld}
 use Rattle.ds_state.specs.Works.{PlainRecoverCall}
 use Rattle.ds_state.specs.Value.{WorldValue, world_of}
 use Rattle.ds_state.specs.CallsFit.{CallFits, RecoveryFits}
-use Rattle.ds_state.specs.KnownRecovery.{recovery_held, phase_for, ResolvedFits, resolved_at}
-use Rattle.std.specs.Int.{bit_at}
+use Rattle.ds_state.specs.KnownRecovery.{recovery_held, ResolvedFits, resolved_at}
 use Rattle.ds_state.specs.declared.situation.Situation.{Situation}
 use Rattle.ds_state.specs.declared.spread.Spread.{Spread}
 use Rattle.ds_state.specs.declared.spread.Spread.TheVariants as spreads
@@ -31,7 +24,7 @@ use Rattle.ds_recover.specs.RecoverySteps.{number_of, cell_from}
 use Rattle.ds_core.specs.RecoveryEvents.{RecoveryStepsBy, RecoveryBegins}
 use Rattle.ds_core.specs.Moments.{Ledger}
 use Rattle.ds_core.specs.declared.reply.Reply.{Reply}
-use Rattle.ds_core.proofs.AtRecovery.{recovery_now, recovery_pending}
+use Rattle.ds_core.proofs.AtRecovery.{recovery_pending}
 use Rattle.ds_core.proofs.Headers.{SidesStay, Spares, sides_same, sides_performed, recovery_first}
 use Rattle.ds_core.proofs.Ledgers.{IsOf, doubts}
 use Rattle.ds_core.proofs.Turns.{recovery_turn, recovery_begins_turn}

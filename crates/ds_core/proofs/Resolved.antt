@@ -10,7 +10,7 @@ use Rattle.ds_layout.specs.declared.announcement.Phase.TheVariants as phase
 use Rattle.ds_layout.specs.declared.place.Place.TheVariants.{Header, Announce}
 use Rattle.ds_layout.specs.declared.layout.Layout.{Layout}
 use Rattle.ds_layout.specs.SheetMemory.{PerformsAt}
-use Rattle.ds_state.specs.World.{PlainEdit, PlainIssue, PlainWorld, announcement, last_announcement, phase_among, record_size, is_edit_of}
+use Rattle.ds_state.specs.World.{PlainEdit, PlainIssue, PlainWorld, announcement, last_announcement, phase_among, is_edit_of}
 use Rattle.ds_state.specs.Works.{PlainRecoverCall}
 use Rattle.ds_state.specs.Known.{Standing, outside, inside, safe, Announced, last, pending, ended, word_of, phase_of, AreBelow, StandsAs, IsRecorded}
 use Rattle.ds_state.specs.CallsFit.{CallFits, MaySay, DoubtFits, IsInDoubt, IsWritten, RecoveryFits}
@@ -39,7 +39,7 @@ use Rattle.ds_core.proofs.Closing.{contains_none}
 use Rattle.ds_core.proofs.Headers.{sides_same}
 use Rattle.ds_core.proofs.Ledgers.{IsOf, IsOpenAs, doubts, numbered, no_some, one_some, put_other, contains_edit, from_edits}
 use Rattle.ds_core.proofs.Turns.{recovery_turn}
-use Rattle.ds_core.proofs.Told.{cell_told, IsCounted, IsTold, Tells, turn_leaves}
+use Rattle.ds_core.proofs.Told.{cell_told, IsCounted, Tells, turn_leaves}
 use Rattle.ds_core.proofs.Telling.{announced_number, tells_on, tells_closed, recorded_tells, told_by, below_out}
 
 -- ---- how an edit ended, by the list

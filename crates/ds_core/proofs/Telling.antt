@@ -1,8 +1,7 @@
 -- What each event leaves of what the words tell of closed edits.
 use Rattle.std.proofs.Common.{ℕ, ◌≡◌, ◌≢◌, ◌<◌, ◌≤◌, ◌/◌, ◌⊎◌, List, refl, ap, sym, ◌∙◌, subst, arith, inl, inr, zero, suc, length, Bool, true, false, Some, None}
 use Rattle.std.specs.Prelude.{Option, Contains, filter}
-use Rattle.std.proofs.lemmas.Bool.{cases_eq, cases_lt}
-use Rattle.std.proofs.lemmas.List.{get_or_past}
+use Rattle.std.proofs.lemmas.Bool.{cases_eq}
 use Rattle.std.proofs.lemmas.List.Elements.{All-contains}
 use Rattle.ds_layout.specs.declared.place.Edition.{Edition}
 use Rattle.ds_layout.specs.declared.place.Place.{Place}
@@ -10,8 +9,7 @@ use Rattle.ds_layout.specs.declared.place.Place.TheVariants.{Header, Announce}
 use Rattle.ds_layout.specs.declared.layout.Layout.{Layout}
 use Rattle.ds_layout.specs.Places.{cells_of}
 use Rattle.ds_state.specs.World.{PlainEdit, PlainIssue, PlainWorld, edit_of}
-use Rattle.ds_state.specs.Works.{PlainRecoverCall}
-use Rattle.ds_state.specs.Value.{first_rest, WorldValue, world_of, IsGood}
+use Rattle.ds_state.specs.Value.{WorldValue, world_of, IsGood}
 use Rattle.ds_state.specs.Sound.{IsSound}
 use Rattle.ds_state.specs.CallsFit.{CallFits, DoubtFits}
 use Rattle.ds_state.specs.KnownWork.{IsAtRest}
@@ -22,7 +20,7 @@ use Rattle.ds_state.specs.declared.situation.Situation.TheVariants.{Idle, Stoppe
 use Rattle.ds_state.specs.World.{announcement, phase_among}
 use Rattle.ds_layout.specs.declared.announcement.Phase.{Phase}
 use Rattle.ds_layout.specs.declared.announcement.Phase.TheVariants as phase
-use Rattle.ds_recover.specs.RecoverySteps.{cell_from, number_of}
+use Rattle.ds_recover.specs.RecoverySteps.{cell_from}
 use Rattle.ds_layout.proofs.Packed.{header_of-header_word}
 use Rattle.ds_formula.specs.Limits.{TEXT_MOST}
 use Rattle.ds_state.specs.Known.{AreBelow, IsRecorded}

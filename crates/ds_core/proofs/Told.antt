@@ -7,12 +7,8 @@ use Rattle.ds_layout.specs.declared.layout.Layout.{Layout}
 use Rattle.ds_layout.specs.Header.{header_of}
 use Rattle.ds_layout.specs.Places.{cells_of}
 use Rattle.ds_state.specs.World.{PlainIssue, PlainWorld}
-use Rattle.ds_state.specs.Works.{PlainRecoverCall}
 use Rattle.ds_state.specs.Value.{WorldValue, world_of}
-use Rattle.ds_state.specs.declared.situation.Situation.TheVariants.{Recovering}
-use Rattle.ds_state.specs.declared.recovery.RecoverStage.{RecoverStage}
-use Rattle.ds_state.specs.declared.recovery.RecoverStage.TheVariants as stages
-use Rattle.ds_recover.specs.RecoverySteps.{cell_from, number_of}
+use Rattle.ds_recover.specs.RecoverySteps.{cell_from}
 use Rattle.ds_core.specs.Moments.{Placed, Closed, Ledger}
 use Rattle.ds_core.specs.LedgerSteps.{next_number}
 use Rattle.ds_core.proofs.Headers.{SidesStay, sides_relied}

@@ -34,7 +34,6 @@ use Rattle.ds_state.proofs.Accesses.{Turn, same_moves, store_moves, flush_moves,
 use Rattle.ds_edit.specs.EditSteps.{next_at}
 use Rattle.ds_edit.specs.EditTakes.{StepsAt}
 use Rattle.ds_edit.proofs.Turns.{is_within, noted_of, on, Known_on, Holds_on, IsPlainStep, turn, goes, stays_open, fits_next, back_first}
-use Rattle.ds_layout.specs.declared.place.Edition.{Edition}
 use Rattle.ds_state.specs.Editions.{seen_edition}
 
 module _ (e : PlainEditCall) (s : Stage) (word : ℕ) (old new : PlainWorld) (sound : IsSound old)

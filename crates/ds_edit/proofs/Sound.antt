@@ -26,7 +26,7 @@ use Rattle.ds_state.specs.declared.situation.Situation.TheVariants.{Editing}
 use Rattle.ds_state.proofs.Frames.{word_bears}
 use Rattle.ds_state.proofs.Sides.{row_or_fits}
 use Rattle.ds_edit.specs.EditTakes.{StepsAt, Steps}
-use Rattle.ds_edit.proofs.Turns.{is_within, noted_of, turn, on, back_first}
+use Rattle.ds_edit.proofs.Turns.{is_within, turn, on, back_first}
 use Rattle.ds_edit.proofs.Sorts.{flushes, backs, ors}
 use Rattle.ds_edit.proofs.Recording as recording
 use Rattle.ds_edit.proofs.Announcing.{last_less, ended_more, announces, on_both, pending_tells, ended_tells, index_next, index_holds}

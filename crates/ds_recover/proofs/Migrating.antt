@@ -1,5 +1,5 @@
 -- Each step of a migration keeps a world sound, and what the others count on.
-use Rattle.std.proofs.Common.{ℕ, ◌≡◌, ◌≢◌, ◌<◌, ◌≤◌, ◌+◌, ◌-◌, ◌*◌, ◌/◌, ◌%◌, ◌⊎◌, ◌==◌, nat_lt, Bool, true, false, List, [], ◌∷◌, ◌++◌, refl, ap, sym, ◌∙◌, subst, arith, inl, inr, Some, length, suc, zero, max}
+use Rattle.std.proofs.Common.{ℕ, ◌≡◌, ◌≢◌, ◌<◌, ◌≤◌, ◌+◌, ◌-◌, ◌*◌, ◌==◌, nat_lt, Bool, true, false, List, [], ◌∷◌, ◌++◌, refl, ap, sym, ◌∙◌, subst, arith, inl, inr, suc, max}
 use Rattle.std.specs.Prelude.{Contains, Option, if◌then◌else◌}
 use Rattle.std.proofs.lemmas.Bool.{cases_eq, ltb-true, ltb-false}
 use Rattle.std.proofs.lemmas.Bool.Decides.{eqb_tells}
@@ -7,25 +7,23 @@ use Rattle.std.proofs.lemmas.List.Elements.{All-contains}
 use Rattle.ds_words.specs.declared.access.BufferEntry.{BufferEntry}
 use Rattle.ds_words.specs.Memory.{Memory, SameMemory, StoresAt, FlushesAt, WritesBack}
 use Rattle.ds_layout.specs.declared.place.TheConstants.{RECORDS, FIRST_PARTS}
-use Rattle.ds_layout.specs.declared.place.Edition.{Edition}
 use Rattle.ds_layout.specs.declared.place.Edition.TheVariants.{First, Second}
 use Rattle.ds_layout.specs.declared.place.Place.{Place}
-use Rattle.ds_layout.specs.declared.place.Place.TheVariants.{Version, Head, Mark, Value, Kind, Index, Announce, Header, Text, Done}
+use Rattle.ds_layout.specs.declared.place.Place.TheVariants.{Version, Head, Mark, Value, Kind, Announce, Header, Text}
 use Rattle.ds_layout.specs.declared.layout.Layout.{Layout}
 use Rattle.ds_layout.specs.Places.{class_of, edition_of, first_text}
-use Rattle.ds_layout.proofs.PlaceCases.{place_cases}
 use Rattle.ds_layout.proofs.Places.{first_text_at}
-use Rattle.ds_state.specs.Editions.{seen_edition, Shows, Agrees}
-use Rattle.ds_state.specs.World.{PlainEdit, PlainIssue, PlainWorld, of_cell, head_after_all, record_word, record_size}
-use Rattle.ds_state.specs.Works.{PlainMigrateCall, IsMigration, IsCopied, old_words, new_text}
+use Rattle.ds_state.specs.Editions.{Shows, Agrees}
+use Rattle.ds_state.specs.World.{PlainEdit, PlainIssue, PlainWorld, of_cell, head_after_all, record_word}
+use Rattle.ds_state.specs.Works.{PlainMigrateCall, IsCopied, old_words, new_text}
 use Rattle.ds_state.specs.Owing.{entry, IsHeld, Owes, Parts, IsPending, Excuses, Splits, RecoveryOwes, RecoveryParts, RecoveryExcuses, RecoverySplits}
 use Rattle.ds_state.specs.declared.recovery.RecoverStage.{RecoverStage}
 use Rattle.ds_state.specs.declared.recovery.RecoverStage.TheVariants as recoveries
 use Rattle.ds_state.specs.CallsFit.{CallFits, DoubtFits, MigrationHolds, MigrationFits}
 use Rattle.ds_state.specs.WordsFit.{VersionFits, WordFits, RecordFits}
-use Rattle.ds_state.specs.LayoutsFit.{Copies, AreCopied, Copying, MovesAt, OthersStopped, MovesFit, LayoutFits, IsMoving, NoneMoves}
-use Rattle.ds_recover.specs.MigrationSteps.{at, rank, copy_from, next_at, after, StepsAt, BeginsMigration, fresh}
-use Rattle.ds_state.specs.Rely.{Grows, Keeps}
+use Rattle.ds_state.specs.LayoutsFit.{Copies, Copying, MovesAt, OthersStopped, MovesFit, LayoutFits, IsMoving, NoneMoves}
+use Rattle.ds_recover.specs.MigrationSteps.{at, rank, copy_from, next_at, StepsAt, BeginsMigration, fresh}
+use Rattle.ds_state.specs.Rely.{Keeps}
 use Rattle.ds_state.specs.Sound.{IsSound, IsOfSheet}
 use Rattle.ds_state.specs.declared.migration.MigrateEnd.TheVariants.{Migrated, Already}
 use Rattle.ds_state.specs.declared.migration.MigrateStage.{MigrateStage}

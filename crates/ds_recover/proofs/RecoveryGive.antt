@@ -20,7 +20,7 @@ use Rattle.ds_state.specs.declared.situation.Situation.TheVariants.{Recovering}
 use Rattle.ds_state.proofs.Stable.{doubt_grows}
 use Rattle.ds_state.proofs.Frames.{MovesWord, Moves, grows_own, moves_sound}
 use Rattle.ds_state.proofs.Bearing.{Mine, MyMarks, bears, all_stand, text_same, stored_marks}
-use Rattle.ds_state.proofs.Buffers.{buffered, record_no_mark}
+use Rattle.ds_state.proofs.Buffers.{buffered}
 use Rattle.ds_state.proofs.Accesses.{Turn, store_moves}
 use Rattle.ds_recover.proofs.RecoveryFrame.{Passes, recovery_mine, recovery_apart, recovery_keeps, recovery_fits}
 

@@ -1,5 +1,5 @@
 -- The cell that a recovery's answer tells stands on both sides of its record's header.
-use Rattle.std.proofs.Common.{ℕ, ◌≡◌, ◌<◌, ap, sym, ◌∙◌, subst, arith, inl, Some, None}
+use Rattle.std.proofs.Common.{◌≡◌, ◌<◌, ap, sym, ◌∙◌, subst, arith, inl, Some, None}
 use Rattle.std.specs.Prelude.{Bool, Option}
 use Rattle.ds_layout.specs.declared.header.Header.{Header}
 use Rattle.ds_layout.specs.declared.place.Place.TheVariants as place

@@ -34,7 +34,7 @@ use Rattle.ds_state.specs.declared.situation.Situation.TheVariants.{Recovering}
 use Rattle.ds_state.proofs.Frames.{Moves}
 use Rattle.ds_state.proofs.Accesses.{Turn, same_moves}
 use Rattle.ds_recover.proofs.RecoveryFrame.{on, turn_of, held_on, pends_on, simple_passes, loads}
-use Rattle.ds_recover.proofs.RecoveryDoubt.{ended_reads, IsDoubted, unannounced, pending_open, header_reads, shown_in, not_shown, shows_last, shown_own, bit_tells, no_bit_tells}
+use Rattle.ds_recover.proofs.RecoveryDoubt.{IsDoubted, unannounced, pending_open, header_reads, shown_in, not_shown, shows_last, shown_own, bit_tells, no_bit_tells}
 
 same_issue : {o : Option PlainIssue} {a b : PlainIssue} → o ≡ Some a → o ≡ Some b → a ≡ b
 same_issue x y = let both : Some _ ≡ Some _ = sym x ∙ y in cc

@@ -1,5 +1,5 @@
 -- A recovery says how its edit in doubt ended.
-use Rattle.std.proofs.Common.{ℕ, ◌≡◌, ◌≢◌, ◌<◌, ◌≤◌, ◌-◌, ◌⊎◌, refl, ap, sym, ◌∙◌, subst, arith, inl, inr, Some, true, false, zero, suc}
+use Rattle.std.proofs.Common.{ℕ, ◌≡◌, ◌<◌, ◌≤◌, ◌-◌, ◌⊎◌, refl, ap, sym, ◌∙◌, subst, arith, inl, inr, Some, true, false}
 use Rattle.std.specs.Prelude.{Option, Bool}
 use Rattle.ds_words.specs.Memory.{StoresAt}
 use Rattle.ds_layout.specs.declared.place.TheConstants.{RECORDS}
@@ -10,7 +10,7 @@ use Rattle.ds_layout.specs.declared.announcement.Phase.TheVariants as phase
 use Rattle.ds_layout.proofs.Packed.{announcement_of-announcement_word}
 use Rattle.ds_state.specs.Works.{PlainRecoverCall}
 use Rattle.ds_state.specs.RecoverStages.{IsAnnounced}
-use Rattle.ds_state.specs.World.{PlainEdit, PlainIssue, PlainWorld, record_size, record_place, record_word, announcement}
+use Rattle.ds_state.specs.World.{PlainEdit, PlainIssue, PlainWorld, record_word, announcement}
 use Rattle.ds_state.specs.Known.{Standing, outside, inside, safe, Announced, last, pending, ended, word_of, StandsAs, IsRecorded}
 use Rattle.ds_state.specs.declared.stage.Outcome.{Outcome}
 use Rattle.ds_state.specs.declared.stage.Outcome.TheVariants as outcome

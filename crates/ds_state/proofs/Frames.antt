@@ -9,7 +9,6 @@ use Rattle.ds_layout.specs.Bits.{IsSubset}
 use Rattle.ds_layout.proofs.OrBits.{IsSubset-same}
 use Rattle.ds_layout.proofs.PlaceCases.{place_cases}
 use Rattle.ds_state.specs.World.{PlainEdit, PlainIssue, PlainWorld, of_cell, head_after_all}
-use Rattle.ds_words.specs.Memory.{Memory}
 use Rattle.ds_state.specs.Owing.{IsApart, Splits}
 use Rattle.ds_layout.specs.Mark.{IsClean, IsHeldBy}
 use Rattle.ds_state.specs.Standing.{AllStand}
