@@ -61,7 +61,7 @@ just_one p n (x ∷ es) e once there process number = elim (its p n x) [
     later differs (zero, lt, is) = absurd (differs (ap (λ (f : Placed). f.edit.process) is ∙ process) (ap (λ (f : Placed). f.edit.number) is ∙ number))
     later differs (suc k, lt, is) = (k, omega arith, is)
 
-within : {A : Type 0} (xs : List A) (k : ℕ) (x : A) → slice_get xs k ≡ Some x → k < length xs
+pub within : {A : Type 0} (xs : List A) (k : ℕ) (x : A) → slice_get xs k ≡ Some x → k < length xs
 within [] k x is = absurd (cc)
 within (y ∷ xs) zero x is = omega arith
 within (y ∷ xs) (suc k) x is = let l = within xs k x is in omega arith
@@ -73,7 +73,7 @@ pub record WasBegun (events : List Event) (replies : List Reply) (shape : Shape)
   pub is : e.edit ≡ record { process = e.edit.process; number = e.edit.number; cell = index_of shape request.cell; text = request.text }
 
 -- only the begin of an edit issues one
-was_begun : (events : List Event) (replies : List Reply) (shape : Shape) (e : Placed) (event : Event) (reply : Reply) → Happens events replies e.place event reply → IsIssueOf shape event reply e.edit → WasBegun events replies shape e
+pub was_begun : (events : List Event) (replies : List Reply) (shape : Shape) (e : Placed) (event : Event) (reply : Reply) → Happens events replies e.place event reply → IsIssueOf shape event reply e.edit → WasBegun events replies shape e
 was_begun events replies shape e (BeginEdit r) (Begun number) happens is =
     let process : r.process ≡ e.edit.process = sym (ap (λ (x : PlainEdit). x.process) is) in
     let n : number ≡ e.edit.number = sym (ap (λ (x : PlainEdit). x.number) is) in

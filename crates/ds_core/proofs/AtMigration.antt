@@ -8,11 +8,11 @@ use Rattle.ds_layout.specs.declared.place.Place.TheVariants.{Header, Announce}
 use Rattle.ds_layout.specs.SheetMemory.{PerformsAt}
 use Rattle.ds_layout.specs.declared.layout.Layout.{Layout}
 use Rattle.ds_state.specs.World.{PlainWorld}
-use Rattle.ds_state.specs.Works.{PlainMigrateCall, PlainReportCall, PlainRecoverCall}
+use Rattle.ds_state.specs.Works.{PlainMigrateCall, PlainReportCall}
 use Rattle.ds_state.specs.CallsFit.{CallFits, MigrationHolds, MigrationFits}
 use Rattle.ds_state.specs.Value.{WorldValue, world_of}
 use Rattle.ds_state.specs.declared.situation.Situation.{Situation}
-use Rattle.ds_state.specs.declared.situation.Situation.TheVariants.{Recovering, Reporting, Migrating}
+use Rattle.ds_state.specs.declared.situation.Situation.TheVariants.{Reporting, Migrating}
 use Rattle.ds_state.specs.declared.migration.MigrateStage.{MigrateStage}
 use Rattle.ds_state.specs.declared.migration.MigrateStage.TheVariants as stages
 use Rattle.ds_recover.specs.MigrationSteps as steps
@@ -59,10 +59,6 @@ after_shows_not : (e : PlainMigrateCall) (s : MigrateStage) (word : ℕ) (g : Pl
 after_shows_not e (stages.Answer how) word g is = (cc)
 after_shows_not e _ word g is = (cc)
 
-after_recovers_not : (e : PlainMigrateCall) (s : MigrateStage) (word : ℕ) (g : PlainRecoverCall) → steps.after e s word ≡ Recovering g → ⊥
-after_recovers_not e (stages.Answer how) word g is = (cc)
-after_recovers_not e _ word g is = (cc)
-
 module _ (v v' : WorldValue) (p : ℕ) (reply : Reply) (s : MigrationStepsBy v p reply v') where
   pub migration_access : OneAccess p (world_of v).memory (world_of v').memory
   migration_access =
@@ -104,7 +100,6 @@ module _ (layout : Layout) (l : Ledger) (v v' : WorldValue) (p : ℕ) (reply : R
     opens = λ issue is. t.opens p issue (sym (s.steps.steps.open_edits p) ∙ is);
     announced = λ doubt none. (let before = sym (s.steps.steps.open_edits p) ∙ none in
         ap (λ x. x / 4) (announce_stays s.steps.migration.process p s.steps.migration s.steps.migration.stage (world_of v).memory (world_of v').memory s.steps.word s.steps.steps.memory) ∙ t.announced p s.steps.there (ap doubts s.steps.at) before);
-    sees = λ f is. absurd (after_recovers_not s.steps.migration s.steps.migration.stage s.steps.word f (sym (now v v' p reply s) ∙ is));
   }) (λ q ne. refl) (λ q c ne is. (t.told q c is).counted)
 
 -- ---- its begin
@@ -125,5 +120,4 @@ module _ (layout : Layout) (l : Ledger) (v v' : WorldValue) (p : ℕ) (h : IsOf 
     told = λ c is. (let k = t.told p c is in told_on l.counted l.counted (world_of v) (world_of v') p c k b.begun.layout (sides_same (world_of v).memory (world_of v').memory (Header p c.it.edit.number) b.begun.memory) k.counted);
     opens = λ issue is. t.opens p issue (sym (b.begun.open_edits p) ∙ is);
     announced = λ doubt none. ap (λ x. x / 4) (b.begun.memory.cached (Announce p)) ∙ t.announced p b.there (ap doubts b.begun.stopped) (sym (b.begun.open_edits p) ∙ none);
-    sees = λ f is. absurd (let bad : Migrating _ ≡ Recovering f = sym b.begun.situation ∙ is in cc);
   }) (λ q ne. refl) (λ q c ne is. (t.told q c is).counted)

@@ -5,7 +5,7 @@ use Rattle.ds_state.specs.Value.{WorldValue, world_of}
 use Rattle.ds_core.specs.Takes.{Takes}
 use Rattle.ds_core.specs.Moments.{Ledger, Moment, MomentFits, empty_ledger}
 use Rattle.ds_core.specs.LedgerSteps.{WordsMove, LedgerMoves}
-use Rattle.ds_core.specs.Headline.{Happens, ReportsFit, RunFits}
+use Rattle.ds_core.specs.Headline.{Happens, ReportsFit, WorksFit, ForgottenFit, RunFits}
 use Rattle.ds_core.specs.declared.event.Event.{Event}
 use Rattle.ds_core.specs.declared.reply.Reply.{Reply}
 
@@ -94,9 +94,9 @@ module _ (old : WorldValue) (events : List Event) (replies : List Reply) (new : 
   pub at_place : (k : ℕ) (event : Event) (reply : Reply) → Happens events replies k event reply → StepFits k old.sheet.layout.shape (run.moment k) event reply (run.moment (k + 1))
   at_place k event reply happens = let same : 0 + k ≡ k = omega arith in subst (λ n. StepFits n old.sheet.layout.shape (run.moment k) event reply (run.moment (k + 1))) same (run.steps k event reply happens)
 
-  -- from the empty ledger on, a run whose reports fit does
-  unfoldable pub fits_all : ReportsFit run.moment events replies → RunFits old events replies new
-  fits_all reports = record {
+  -- from the empty ledger on, a run fits whose reports and works do, and whose forgotten edits were not announced
+  unfoldable pub fits_all : ReportsFit run.moment events replies → WorksFit run.moment events replies → ForgottenFit run.moment events replies → RunFits old events replies new
+  fits_all reports works forgotten = record {
     moment = run.moment;
     first = run.first;
     last = run.last;
@@ -107,4 +107,6 @@ module _ (old : WorldValue) (events : List Event) (replies : List Reply) (new : 
     ledger = λ k event reply happens. (at_place k event reply happens).ledger;
     fits = run.fits;
     reports = reports;
+    works = works;
+    forgotten = forgotten;
   }

@@ -12,9 +12,10 @@ use Rattle.ds_core.proofs.Closing.{headline}
 use Rattle.ds_core.proofs.NewIdle.{new_idle}
 use Rattle.ds_core.proofs.Ledgers.{IsOf, fits_of, doubts, numbered, no_some, one_some}
 use Rattle.ds_core.proofs.Told.{Tells}
-use Rattle.ds_state.specs.declared.situation.Situation.TheVariants.{Idle, Recovering}
 use Rattle.ds_core.proofs.EachEvent.{Next, next}
 use Rattle.ds_core.proofs.Reported.{reports_fit}
+use Rattle.ds_core.proofs.Worked.{works_fit}
+use Rattle.ds_core.proofs.Forgotten.{forgotten_fit}
 use Rattle.ds_core.proofs.Carry.{RunOn, nothing_on, event_on, fits_all}
 
 -- a run from a ledger and a place on, whose moments are those of the worlds
@@ -69,7 +70,6 @@ first_tells v good new = record {
   told = λ p c is. absurd (no_some None c refl is);
   opens = λ p issue is. absurd (no_some ((world_of v).open_edits p) issue (new.open_edits p) is);
   announced = λ p lt doubt none. absurd (let bad : false ≡ true = sym (ap doubts (new.situation p lt)) ∙ doubt in cc);
-  sees = λ p e is. absurd (let f = new_idle v good new p in let bad : Idle f.rest ≡ Recovering e = sym f.is ∙ is in cc);
 }
 
 -- every run from a new world has the headline, with its own worlds
@@ -77,4 +77,4 @@ pub runs_have_headline : (old : WorldValue) (events : List Event) (replies : Lis
 unfolding headline fits_all
 runs_have_headline old events replies new fresh good run =
     let f = follows old.sheet.layout 0 empty_ledger old events replies new (first_ledger old good fresh) (first_tells old good fresh) run in
-    record { is = headline old events replies new (fits_all old events replies new f.on (reports_fit old events replies new f.on f.good fresh)); worlds = f.worlds }
+    record { is = headline old events replies new (fits_all old events replies new f.on (reports_fit old events replies new f.on f.good fresh) (works_fit old events replies new f.on f.good fresh) (forgotten_fit old events replies new f.on f.good)); worlds = f.worlds }

@@ -38,6 +38,10 @@ pub mod ToldCalls
 pub mod Recovered
 pub mod Resolved
 pub mod NotDone
+pub mod Refused
+pub mod BitFirst
 pub mod EachEvent
 pub mod Reported
+pub mod Worked
+pub mod Forgotten
 pub mod EachRun

@@ -14,7 +14,7 @@ use Rattle.ds_state.specs.World.{PlainEdit, PlainIssue, PlainWorld, announcement
 use Rattle.ds_state.specs.Works.{PlainRecoverCall}
 use Rattle.ds_state.specs.Known.{Standing, outside, inside, safe, Announced, last, pending, ended, word_of, phase_of, AreBelow, StandsAs, IsRecorded}
 use Rattle.ds_state.specs.CallsFit.{CallFits, MaySay, DoubtFits, IsInDoubt, IsWritten, RecoveryFits}
-use Rattle.ds_state.specs.KnownRecovery.{Tells as Announced_as, ResolvedFits, resolved_at, over, phase_for}
+use Rattle.ds_state.specs.KnownRecovery.{Tells as Announced_as, IsHeadersCell, ResolvedFits, resolved_at, over, phase_for}
 use Rattle.ds_state.specs.Value.{WorldValue, world_of, IsGood}
 use Rattle.ds_state.specs.declared.situation.Rest.{Rest}
 use Rattle.ds_state.specs.declared.situation.Situation.{Situation}
@@ -39,8 +39,8 @@ use Rattle.ds_core.proofs.Closing.{contains_none}
 use Rattle.ds_core.proofs.Headers.{sides_same}
 use Rattle.ds_core.proofs.Ledgers.{IsOf, IsOpenAs, doubts, numbered, no_some, one_some, put_other, contains_edit, from_edits}
 use Rattle.ds_core.proofs.Turns.{recovery_turn}
-use Rattle.ds_core.proofs.Told.{cell_told, IsCounted, IsTold, Tells, turn_leaves}
-use Rattle.ds_core.proofs.Telling.{announced_number, tells_on, tells_closed, told_by, below_out}
+use Rattle.ds_core.proofs.Told.{cell_told, IsCounted, Tells, turn_leaves}
+use Rattle.ds_core.proofs.Telling.{announced_number, tells_on, tells_closed, recorded_tells, told_by, below_out}
 
 -- ---- how an edit ended, by the list
 
@@ -232,8 +232,9 @@ module _ (layout : Layout) (l : Ledger) (v v' : WorldValue) (h : IsOf layout l v
   -- ---- it repeats what it told before
 
   sees_cell : (b : Bool) → found.how ≡ Some b → s.steps.recovery.cell ≡ cell_told v.sheet.layout ((world_of v).memory.cached (Header p (number_of s.steps.recovery)))
-  sees_cell b is = subst (λ (x : RecoverStage). Rattle.ds_core.proofs.Told.HasSeen x (s.steps.recovery.cell ≡ cell_told v.sheet.layout ((world_of v).memory.cached (Header p (number_of s.steps.recovery)))))
-      (found.at ∙ ap (λ x. stages.Answer x) is) (t.sees p s.steps.recovery s.steps.at)
+  sees_cell b is =
+      let read : IsHeadersCell (world_of v) p s.steps.recovery.announcement s.steps.recovery.cell = (subst (λ (o : Option Bool). ResolvedFits (world_of v) p s.steps.recovery.announcement s.steps.recovery.cell (over o)) is resolved).3 in
+      sym (ap steps.cell_from read.is ∙ read.of_cell)
 
   told_cell : (b : Bool) (c : Closed) → found.how ≡ Some b → l.told p ≡ Some c → c.it.edit.number ≡ number_of s.steps.recovery → s.steps.recovery.cell ≡ c.it.edit.cell
   told_cell b c is told same = sees_cell b is ∙ ap (λ n. cell_told v.sheet.layout ((world_of v).memory.cached (Header p n))) (sym same) ∙ (t.told p c told).cached
@@ -336,7 +337,11 @@ module _ (layout : Layout) (l : Ledger) (v v' : WorldValue) (h : IsOf layout l v
       number_is = ap (λ (x : PlainEdit). x.number) own.edit ∙ (let n = word_number in let same : issue.edit.number ≡ s.steps.recovery.announcement / 4 - 1 = omega arith in same)
 
       own_cell : issue.edit.cell ≡ s.steps.recovery.cell
-      own_cell = (subst (λ (o : Option Bool). ResolvedFits (world_of v) p s.steps.recovery.announcement s.steps.recovery.cell (over o)) how resolved).3 issue is (sym word_number)
+      own_cell =
+          let there = recorded_tells (world_of v) First issue.edit 1 (omega arith) written doubt.cell doubt.text in
+          let same : issue.edit.number ≡ number_of s.steps.recovery = (let n = word_number in omega arith) in
+          sym there.0 ∙ ap (λ q. cell_told v.sheet.layout ((world_of v).memory.cached (Header q issue.edit.number))) doubt.mine
+          ∙ ap (λ n. cell_told v.sheet.layout ((world_of v).memory.cached (Header p n))) same ∙ sym (sees_cell b how)
 
       closes : Closes l p (number_of s.steps.recovery) true b (λ o. o.it.edit.cell ≡ s.steps.recovery.cell) ended_in
       closes = record {

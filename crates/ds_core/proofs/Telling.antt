@@ -1,8 +1,7 @@
 -- What each event leaves of what the words tell of closed edits.
 use Rattle.std.proofs.Common.{ℕ, ◌≡◌, ◌≢◌, ◌<◌, ◌≤◌, ◌/◌, ◌⊎◌, List, refl, ap, sym, ◌∙◌, subst, arith, inl, inr, zero, suc, length, Bool, true, false, Some, None}
 use Rattle.std.specs.Prelude.{Option, Contains, filter}
-use Rattle.std.proofs.lemmas.Bool.{cases_eq, cases_lt}
-use Rattle.std.proofs.lemmas.List.{get_or_past}
+use Rattle.std.proofs.lemmas.Bool.{cases_eq}
 use Rattle.std.proofs.lemmas.List.Elements.{All-contains}
 use Rattle.ds_layout.specs.declared.place.Edition.{Edition}
 use Rattle.ds_layout.specs.declared.place.Place.{Place}
@@ -10,8 +9,7 @@ use Rattle.ds_layout.specs.declared.place.Place.TheVariants.{Header, Announce}
 use Rattle.ds_layout.specs.declared.layout.Layout.{Layout}
 use Rattle.ds_layout.specs.Places.{cells_of}
 use Rattle.ds_state.specs.World.{PlainEdit, PlainIssue, PlainWorld, edit_of}
-use Rattle.ds_state.specs.Works.{PlainRecoverCall}
-use Rattle.ds_state.specs.Value.{first_rest, WorldValue, world_of, IsGood}
+use Rattle.ds_state.specs.Value.{WorldValue, world_of, IsGood}
 use Rattle.ds_state.specs.Sound.{IsSound}
 use Rattle.ds_state.specs.CallsFit.{CallFits, DoubtFits}
 use Rattle.ds_state.specs.KnownWork.{IsAtRest}
@@ -22,7 +20,7 @@ use Rattle.ds_state.specs.declared.situation.Situation.TheVariants.{Idle, Stoppe
 use Rattle.ds_state.specs.World.{announcement, phase_among}
 use Rattle.ds_layout.specs.declared.announcement.Phase.{Phase}
 use Rattle.ds_layout.specs.declared.announcement.Phase.TheVariants as phase
-use Rattle.ds_recover.specs.RecoverySteps.{cell_from, number_of}
+use Rattle.ds_recover.specs.RecoverySteps.{cell_from}
 use Rattle.ds_layout.proofs.Packed.{header_of-header_word}
 use Rattle.ds_formula.specs.Limits.{TEXT_MOST}
 use Rattle.ds_state.specs.Known.{AreBelow, IsRecorded}
@@ -33,7 +31,7 @@ use Rattle.ds_core.proofs.Closing.{of_filter, to_filter}
 use Rattle.ds_core.proofs.Headers.{SidesStay, sides_evicted, sides_crashed, sides_stopped}
 use Rattle.ds_core.proofs.Ledgers.{IsOf, doubts, numbered, no_some, one_some, contains_edit}
 use Rattle.ds_core.proofs.Turns.{IsTurn, stop_turn}
-use Rattle.ds_core.proofs.Told.{cell_told, IsCounted, IsTold, Announces, Tells, LeavesOthers, has_seen, told_on, turn_leaves, tells_left, tells_turn}
+use Rattle.ds_core.proofs.Told.{cell_told, IsCounted, IsTold, Announces, Tells, LeavesOthers, told_on, turn_leaves, tells_left, tells_turn}
 
 -- the number behind the one that a word announces, in any phase, is read off it
 pub announced_number : (n : ℕ) (f : Phase) → announcement n f / 4 ≡ suc n
@@ -94,16 +92,12 @@ tells_evicted l v v' r t e = record {
   told = λ p c is. (let k = t.told p c is in told_on l.counted l.counted (world_of v) (world_of v') p c k e.layout (sides_evicted r (world_of v).memory (world_of v').memory (Header p c.it.edit.number) e.memory (header_is p c.it.edit.number r)) k.counted);
   opens = λ p issue is. t.opens p issue (sym (e.open_edits p) ∙ is);
   announced = λ p lt doubt none. ap (λ x. x / 4) (e.memory.cached (Announce p)) ∙ t.announced p (rw (sym e.layout) lt) (ap doubts (sym (e.situation p)) ∙ doubt) (sym (e.open_edits p) ∙ none);
-  sees = λ p f is. has_seen f.stage _ _ (λ was. was ∙ ap (λ (x : Layout). cell_told x ((world_of v).memory.cached (Header p (number_of f)))) (sym e.layout) ∙ ap (λ x. cell_told v'.sheet.layout x) (sym (e.memory.cached (Header p (number_of f))))) (t.sees p f (sym (e.situation p) ∙ is));
 }
 
 -- ---- a stop
 
 not_doubted : (s : Situation) (P : Type 0) → doubts s ≡ false → doubts s ≡ true → P
 not_doubted s P a b = let bad : false ≡ true = sym a ∙ b in absurd (cc)
-
-not_recovering : (s : Situation) (e : PlainRecoverCall) (P : Type 0) → doubts s ≡ false → s ≡ Recovering e → P
-not_recovering s e P a is = let bad : false ≡ true = sym a ∙ ap doubts is in absurd (cc)
 
 -- a stop leaves what the words tell of closed edits
 pub tells_stopped : (layout : Layout) (l : Ledger) (v v' : WorldValue) → IsOf layout l v → (t : Tells l v) (p : ℕ) → (h : StopsProcess v p v') → (l' : Ledger) → l'.counted ≡ l.counted → l'.told ≡ l.told → Tells l' v'
@@ -116,7 +110,6 @@ tells_stopped layout l v v' h t p s l' counted told =
       opens = λ issue is. t.opens p issue (sym (s.stops.open_edits p) ∙ is) ∙ ap next_number (sym (same p));
       announced = λ doubt none. ap (λ x. x / 4) (s.stops.memory.cached (Announce p))
           ∙ announces_now (world_of v) h.good.sound p s.there (sym (s.stops.open_edits p) ∙ none) (l.told p) (λ n is. h.numbers p n is) (λ d. t.announced p s.there d (sym (s.stops.open_edits p) ∙ none)) ∙ ap next_number (sym (same p));
-      sees = λ e is. absurd (let bad : Stopped ≡ Recovering e = sym s.stops.situation ∙ is in cc);
     }) (λ q ne. same q) (λ q c ne is. subst (λ (es : List Placed). IsCounted es c.it c.counts) (sym counted) (t.told q c is).counted)
 
 -- ---- a crash
@@ -160,10 +153,6 @@ module _ (layout : Layout) (l : Ledger) (v v' : WorldValue) (h : IsOf layout l v
         let none_before = sym (c.open_edits p) ∙ none in
         ap (λ x. x / 4) (c.memory.cached (Announce p) ∙ sides_agree (world_of v) h.good.sound p low none_before)
         ∙ announces_now (world_of v) h.good.sound p low none_before (l.told p) (λ n is. h.numbers p n is) (λ d. t.announced p low d none_before) ∙ ap next_number (sym (told_same p)));
-    sees = λ p e is. elim (cases_lt p v.sheet.layout.processes) [
-      | inl lt ↦ absurd (let bad : Stopped ≡ Recovering e = sym (c.situation p lt) ∙ is in cc)
-      | inr ge ↦ absurd (let bad : Idle first_rest ≡ Recovering e = sym (get_or_past v'.situations p (Idle first_rest) (let n = good.situations in let lay = ap (λ (x : Layout). x.processes) c.layout in omega arith)) ∙ is in cc)
-    ];
   }
 
 -- ---- a process's doing behind which it is in no doubt
@@ -179,7 +168,6 @@ module _ (q : ℕ) (l l' : Ledger) (v v' : WorldValue) (t : Tells l v) (leaves :
     told = λ c is. (let was = sym (told q) ∙ is in told_on l.counted l'.counted (world_of v) (world_of v') q c (t.told q c was) layout (sides c was) (counted q c was));
     opens = λ issue is. opens issue is ∙ ap next_number (sym (told q));
     announced = λ doubt none. not_doubted ((world_of v').situation q) _ sure doubt;
-    sees = λ e is. not_recovering ((world_of v').situation q) e _ sure is;
   }) (λ p ne. told p) (λ p c ne is. counted p c is)
 
 -- which leaves the ledger
@@ -203,7 +191,6 @@ module _ (q : ℕ) (l l' : Ledger) (v v' : WorldValue) (t : Tells l v) (turn : I
         subst (λ (x : Closed). IsTold l'.counted (world_of v') q x) same (told_on l.counted l'.counted (world_of v) (world_of v') q c is_told layout sides (on_list c is_told.counted)));
     opens = λ issue is. absurd (no_some ((world_of v').open_edits q) issue none is);
     announced = λ doubt open_none. not_doubted ((world_of v').situation q) _ sure doubt;
-    sees = λ e is. not_recovering ((world_of v').situation q) e _ sure is;
   }) others (λ p d ne is. on_list d (t.told p d is).counted)
 
 -- ---- what a record that stands tells

@@ -7,12 +7,8 @@ use Rattle.ds_layout.specs.declared.layout.Layout.{Layout}
 use Rattle.ds_layout.specs.Header.{header_of}
 use Rattle.ds_layout.specs.Places.{cells_of}
 use Rattle.ds_state.specs.World.{PlainIssue, PlainWorld}
-use Rattle.ds_state.specs.Works.{PlainRecoverCall}
 use Rattle.ds_state.specs.Value.{WorldValue, world_of}
-use Rattle.ds_state.specs.declared.situation.Situation.TheVariants.{Recovering}
-use Rattle.ds_state.specs.declared.recovery.RecoverStage.{RecoverStage}
-use Rattle.ds_state.specs.declared.recovery.RecoverStage.TheVariants as stages
-use Rattle.ds_recover.specs.RecoverySteps.{cell_from, number_of}
+use Rattle.ds_recover.specs.RecoverySteps.{cell_from}
 use Rattle.ds_core.specs.Moments.{Placed, Closed, Ledger}
 use Rattle.ds_core.specs.LedgerSteps.{next_number}
 use Rattle.ds_core.proofs.Headers.{SidesStay, sides_relied}
@@ -35,55 +31,6 @@ pub record IsTold (es : List Placed) (w : PlainWorld) (p : ℕ) (c : Closed) : T
   pub cached : cell_told w.layout (w.memory.cached (Header p c.it.edit.number)) ≡ c.it.edit.cell
   pub persisted : cell_told w.layout (w.memory.persisted (Header p c.it.edit.number)) ≡ c.it.edit.cell
 
--- a recovery that has loaded a header has its cell
-abbrev pub HasSeen : RecoverStage → Type 0 → Type 0
-HasSeen stages.LoadHead P = P
-HasSeen stages.FlushHead P = P
-HasSeen stages.BackHead P = P
-HasSeen stages.LoadDone P = P
-HasSeen (stages.OrMark how) P = P
-HasSeen (stages.FlushMark how) P = P
-HasSeen (stages.BackMark how) P = P
-HasSeen (stages.StoreOutcome how) P = P
-HasSeen (stages.FlushOutcome how) P = P
-HasSeen (stages.BackOutcome how) P = P
-HasSeen (stages.Answer (Some how)) P = P
-HasSeen _ P = Unit {0}
-
--- a recovery that has loaded a header has the cell that it tells
-abbrev pub SeesCell : PlainWorld → ℕ → PlainRecoverCall → Type 0
-SeesCell w p e = HasSeen e.stage (e.cell ≡ cell_told w.layout (w.memory.cached (Header p (number_of e))))
-
--- what follows from what a recovery has seen, it has seen
-pub has_seen : (s : RecoverStage) (P Q : Type 0) → (P → Q) → HasSeen s P → HasSeen s Q
-has_seen stages.LoadHead P Q f h = f h
-has_seen stages.FlushHead P Q f h = f h
-has_seen stages.BackHead P Q f h = f h
-has_seen stages.LoadDone P Q f h = f h
-has_seen (stages.OrMark how) P Q f h = f h
-has_seen (stages.FlushMark how) P Q f h = f h
-has_seen (stages.BackMark how) P Q f h = f h
-has_seen (stages.StoreOutcome how) P Q f h = f h
-has_seen (stages.FlushOutcome how) P Q f h = f h
-has_seen (stages.BackOutcome how) P Q f h = f h
-has_seen (stages.Answer (Some how)) P Q f h = f h
-has_seen (stages.Answer None) P Q f h = tt
-has_seen stages.LoadVersion P Q f h = tt
-has_seen stages.FlushVersion P Q f h = tt
-has_seen stages.BackVersion P Q f h = tt
-has_seen (stages.LoadMark cell) P Q f h = tt
-has_seen (stages.FlushValue cell) P Q f h = tt
-has_seen (stages.FlushKind cell) P Q f h = tt
-has_seen (stages.BackValue cell) P Q f h = tt
-has_seen (stages.BackKind cell) P Q f h = tt
-has_seen (stages.Telling cell spread) P Q f h = tt
-has_seen (stages.Give cell) P Q f h = tt
-has_seen (stages.GiveDirty cell) P Q f h = tt
-has_seen (stages.FlushGiven cell) P Q f h = tt
-has_seen (stages.BackGiven cell) P Q f h = tt
-has_seen stages.LoadAnnounce P Q f h = tt
-has_seen stages.LoadHeader P Q f h = tt
-
 -- the number that the word announces is the one behind the last closed edit's, where no edit is open
 abbrev pub Announces : PlainWorld → ℕ → Option Closed → Type 0
 Announces w p told = w.memory.cached (Announce p) / 4 ≡ next_number told
@@ -93,7 +40,6 @@ pub record Tells (l : Ledger) (v : WorldValue) : Type 0 where
   pub told : (p : ℕ) (c : Closed) → l.told p ≡ Some c → IsTold l.counted (world_of v) p c
   pub opens : (p : ℕ) (issue : PlainIssue) → (world_of v).open_edits p ≡ Some issue → issue.edit.number ≡ next_number (l.told p)
   pub announced : (p : ℕ) → p < v.sheet.layout.processes → doubts ((world_of v).situation p) ≡ true → (world_of v).open_edits p ≡ None → Announces (world_of v) p (l.told p)
-  pub sees : (p : ℕ) (e : PlainRecoverCall) → (world_of v).situation p ≡ Recovering e → SeesCell (world_of v) p e
 
 -- ---- how it lasts
 
@@ -120,14 +66,12 @@ pub record OwnTold (q : ℕ) (l' : Ledger) (v v' : WorldValue) : Type 0 where
   pub told : (c : Closed) → l'.told q ≡ Some c → IsTold l'.counted (world_of v') q c
   pub opens : (issue : PlainIssue) → (world_of v').open_edits q ≡ Some issue → issue.edit.number ≡ next_number (l'.told q)
   pub announced : doubts ((world_of v').situation q) ≡ true → (world_of v').open_edits q ≡ None → Announces (world_of v') q (l'.told q)
-  pub sees : (e : PlainRecoverCall) → (world_of v').situation q ≡ Recovering e → SeesCell (world_of v') q e
 
 -- what it leaves of the others' words and of their edits
 pub record LeavesOthers (q : ℕ) (v v' : WorldValue) : Type 0 where
   pub situation : (p : ℕ) → p ≢ q → (world_of v').situation p ≡ (world_of v).situation p
   pub open_edits : (p : ℕ) → p ≢ q → (world_of v').open_edits p ≡ (world_of v).open_edits p
   pub announced : (p : ℕ) → p ≢ q → (world_of v').memory.cached (Announce p) ≡ (world_of v).memory.cached (Announce p)
-  pub header : (p n : ℕ) → p ≢ q → (world_of v').memory.cached (Header p n) ≡ (world_of v).memory.cached (Header p n)
   pub sides : (p n : ℕ) → p ≢ q → SidesStay (world_of v).memory (world_of v').memory (Header p n)
 
 -- a turn leaves the others' situations, open edits, announcements and headers
@@ -136,7 +80,6 @@ turn_leaves q v v' turn = record {
   situation = λ p ne. turn.others p ne;
   open_edits = λ p ne. (turn.keeps.others p ne).open_edits;
   announced = λ p ne. ((turn.keeps.others p ne).grows Version).owned_cached (Announce p) refl (λ x. cc);
-  header = λ p n ne. ((turn.keeps.others p ne).grows Version).owned_cached (Header p n) refl (λ x. cc);
   sides = λ p n ne. sides_relied p n (world_of v) (world_of v') (turn.keeps.others p ne);
 }
 
@@ -159,11 +102,6 @@ module _ (q : ℕ) (l l' : Ledger) (v v' : WorldValue) (t : Tells l v) (leaves :
       | inr other ↦ (
           let before = t.announced p (rw (sym own.layout) lt) (ap doubts (sym (leaves.situation p other)) ∙ doubt) (sym (leaves.open_edits p other) ∙ none) in
           ap (λ x. x / 4) (leaves.announced p other) ∙ before ∙ ap next_number (sym (same p other)))
-    ];
-    sees = λ p e is. elim (cases_eq p q) [
-      | inl here ↦ subst (λ x. SeesCell (world_of v') x e) (sym here) (own.sees e (ap (λ x. (world_of v').situation x) (sym here) ∙ is))
-      | inr other ↦ has_seen e.stage _ _ (λ was. was ∙ ap (λ (x : Layout). cell_told x ((world_of v).memory.cached (Header p (number_of e)))) (sym own.layout)
-          ∙ ap (λ x. cell_told v'.sheet.layout x) (sym (leaves.header p (number_of e) other))) (t.sees p e (sym (leaves.situation p other) ∙ is))
     ];
   }
 

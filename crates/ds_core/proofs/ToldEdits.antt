@@ -39,7 +39,6 @@ tells_begun l l' v v' edit t s layout memory others sure next counted told =
       situation = others;
       open_edits = s.others;
       announced = λ p ne. memory.cached _;
-      header = λ p n ne. memory.cached _;
       sides = λ p n ne. sides_same (world_of v).memory (world_of v').memory (Header p n) memory;
     }) layout told (λ p c is. subst (λ (es : List Placed). IsCounted es c.it c.counts) (sym counted) (t.told p c is).counted)
     (λ c is. sides_same (world_of v).memory (world_of v').memory (Header edit.process c.it.edit.number) memory)

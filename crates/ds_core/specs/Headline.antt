@@ -1,5 +1,6 @@
 -- The headline, over every run.
 use Rattle.std.specs.Prelude.{ℕ, ◌≡◌, ◌≢◌, ◌<◌, ◌≤◌, ◌+◌, ◌⊎◌, ◌↔◌, ◌++◌, List, [], ◌∷◌, length, slice_get, slice_index_or, Some, None, Contains, filter}
+use Rattle.ds_formula.specs.declared.cells.Cell.{Cell}
 use Rattle.ds_formula.specs.declared.cells.Shape.{Shape}
 use Rattle.ds_formula.specs.Cells.{index_of}
 use Rattle.ds_eval.specs.declared.value.Value.{Value}
@@ -7,17 +8,24 @@ use Rattle.ds_layout.specs.declared.place.Place.{Place}
 use Rattle.ds_layout.specs.declared.place.Place.TheVariants as place
 use Rattle.ds_layout.specs.Places.{cells_of}
 use Rattle.ds_state.specs.World.{PlainEdit, PlainWorld, is_edit_of}
-use Rattle.ds_layout.specs.Mark.{IsClean}
+use Rattle.ds_layout.specs.declared.mark.State.{State}
+use Rattle.ds_layout.specs.declared.mark.State.TheVariants.{Clean, Marked, Held}
+use Rattle.ds_layout.specs.Announcement.{number_after}
+use Rattle.ds_layout.specs.Mark.{IsClean, generation_of, mark_of, state_of}
+use Rattle.ds_state.specs.Works.{SEEN_MOST}
 use Rattle.ds_state.specs.KnownReport.{IsStill, IsPendingWord, AreScratch, moment_of}
 use Rattle.ds_state.specs.Value.{WorldValue, world_of}
 use Rattle.ds_core.specs.Takes.{Takes, WorldRun, world_at}
 use Rattle.ds_core.specs.Moments.{Placed, Open, empty_ledger, edits_in, Moment, MomentFits}
 use Rattle.ds_core.specs.Requests.{PlainRequest}
-use Rattle.ds_core.specs.LedgerSteps.{WordsMove, LedgerMoves}
+use Rattle.ds_core.specs.LedgerSteps.{WordsMove, LedgerMoves, Forgets}
 use Rattle.ds_core.specs.declared.event.Event.{Event}
-use Rattle.ds_core.specs.declared.event.Event.TheVariants.{BeginEdit, BeginReport, Step}
+use Rattle.ds_core.specs.declared.event.Event.TheVariants.{BeginEdit, BeginWork, BeginReport, Step}
+use Rattle.ds_state.specs.declared.recovery.RecoveryEnd.{RecoveryEnd}
 use Rattle.ds_state.specs.declared.recovery.Told.{Told}
-use Rattle.ds_state.specs.declared.answer.Answer.TheVariants.{Report}
+use Rattle.ds_state.specs.declared.answer.Answer.TheVariants.{Work, Recovery, Report}
+use Rattle.ds_state.specs.declared.work.WorkEnd.{WorkEnd}
+use Rattle.ds_state.specs.declared.work.WorkEnd.TheVariants.{NotDirty, Missed, Worn, Published, Again, NoMemory}
 use Rattle.ds_state.specs.declared.report.ReportEnd.TheVariants.{Settled, Unsettled}
 use Rattle.ds_core.specs.declared.reply.Reply.{Reply}
 use Rattle.ds_core.specs.declared.reply.Reply.TheVariants.{Begun, Entered, Answered}
@@ -84,10 +92,83 @@ pub record ReportsFit (moment : ℕ → Moment) (events : List Event) (replies :
   pub unsettled : (k p : ℕ) (r : Place) (word : ℕ) → Happens events replies k (Step p) (Answered (Report (Unsettled r word)))
       → (start : ℕ) × IsCall events replies p start k × UnsettledFits moment start k r word
 
+-- ---- works
+
+-- the process's last work before this place began at `start`, on this cell: a moment of its call is behind that begin
+-- and not behind the place
+pub record IsCallOn (events : List Event) (replies : List Reply) (p : ℕ) (cell : Cell) (start k : ℕ) : Type 0 where
+  pub begins : Happens events replies start (BeginWork p cell) Entered
+  pub earlier : start < k
+  pub last : (j : ℕ) (other : Cell) → start < j → j < k → Happens events replies j (BeginWork p other) Entered → ⊥
+
+-- the mark of the cell at a moment, as processes see it
+abbrev pub mark_then : Moment → Cell → ℕ
+mark_then m cell = (world_of m.world).memory.cached (place.Mark (index_of m.world.sheet.layout.shape cell))
+
+-- what that mark says: clean, held or marked
+abbrev pub state_then : Moment → Cell → State
+state_then m cell = state_of (mark_of m.world.sheet.layout.processes (mark_then m cell))
+
+-- at a moment of the call this was so
+pub record WasSo (moment : ℕ → Moment) (start k : ℕ) (So : Moment → Type 0) : Type 0 where
+  pub at : ℕ
+  pub later : start < at
+  pub until : at ≤ k
+  pub so : So (moment at)
+
+-- at a moment of the call the cell was marked, and at a later one it had another mark: the claim came too late
+pub record WasForestalled (moment : ℕ → Moment) (start k : ℕ) (cell : Cell) : Type 0 where
+  pub seen : ℕ
+  pub later : start < seen
+  pub at : ℕ
+  pub order : seen < at
+  pub until : at ≤ k
+  pub marked : state_then (moment seen) cell ≡ Marked
+  pub other : mark_then (moment at) cell ≢ mark_then (moment seen) cell
+
+-- what work of the process says that leaves its cell as it found it, of a moment of its call: the cell was clean;
+-- another process held it, or forestalled the claim; it was marked, with a generation that is not claimed any more
+abbrev pub CauseFits : (ℕ → Moment) → ℕ → ℕ → ℕ → Cell → WorkEnd → Type 0
+CauseFits moment p start k cell NotDirty = WasSo moment start k (λ m. state_then m cell ≡ Clean)
+CauseFits moment p start k cell Missed = WasSo moment start k (λ m. (q : ℕ) × (q ≢ p) × (state_then m cell ≡ Held q)) ⊎ WasForestalled moment start k cell
+CauseFits moment p start k cell Worn = WasSo moment start k (λ m. (state_then m cell ≡ Marked) × (SEEN_MOST < generation_of (mark_then m cell)))
+CauseFits moment p start k cell (Published changed) = Unit {0}
+CauseFits moment p start k cell Again = Unit {0}
+CauseFits moment p start k cell NoMemory = Unit {0}
+
+-- the work that is answered began on this cell, and its answer fits a moment of its call
+pub record HasCause (moment : ℕ → Moment) (events : List Event) (replies : List Reply) (k p : ℕ) (end : WorkEnd) : Type 0 where
+  pub cell : Cell
+  pub start : ℕ
+  pub work : IsCallOn events replies p cell start k
+  pub fits : CauseFits moment p start k cell end
+
+-- each work that is answered fits
+abbrev pub WorksFit : (ℕ → Moment) → List Event → List Reply → Type 0
+WorksFit moment events replies = (k p : ℕ) (end : WorkEnd) → Happens events replies k (Step p) (Answered (Work end)) → HasCause moment events replies k p end
+
+-- ---- edits that are forgotten
+
+-- a word of the process's announcement that says no edit of this number, and none of a later one, in any phase
+abbrev pub SaysNone : ℕ → ℕ → Type 0
+SaysNone number word = number_after word ≤ number
+
+-- the process's edit of this number was never announced: at no moment from the run's first to the one behind this place
+-- does the persisted side, which a crash keeps, say its number or a later one, and at this place the cached side does not
+pub record WasUnannounced (moment : ℕ → Moment) (k p number : ℕ) : Type 0 where
+  pub persisted : (j : ℕ) → j ≤ k + 1 → SaysNone number ((world_of (moment j).world).memory.persisted (place.Announce p))
+  pub cached : SaysNone number ((world_of (moment k).world).memory.cached (place.Announce p))
+
+-- each edit that a recovery's answer forgets was never announced
+abbrev pub ForgottenFit : (ℕ → Moment) → List Event → List Reply → Type 0
+ForgottenFit moment events replies = (k p : ℕ) (end : RecoveryEnd) → Happens events replies k (Step p) (Answered (Recovery end))
+    → (f : Forgets (moment k).ledger p end (moment (k + 1)).ledger) → WasUnannounced moment k p f.open_edit.it.edit.number
+
 -- ---- the run
 
 -- the worlds are those that the processes' steps lead through, from the new world to the last one; at each moment
--- there is a ledger such that each event moves words and ledger as it may, and moments and reports fit
+-- there is a ledger such that each event moves words and ledger as it may; moments, reports and works fit, and no edit
+-- that is forgotten was announced
 pub record RunFits (old : WorldValue) (events : List Event) (replies : List Reply) (new : WorldValue) : Type 0 where
   pub moment : ℕ → Moment
   pub first : moment 0 ≡ record { world = old; ledger = empty_ledger }
@@ -102,6 +183,8 @@ pub record RunFits (old : WorldValue) (events : List Event) (replies : List Repl
       → LedgerMoves k old.sheet.layout.shape (moment k).ledger event reply (moment (k + 1)).ledger
   pub fits : (k : ℕ) → k ≤ length events → MomentFits (moment k)
   pub reports : ReportsFit moment events replies
+  pub works : WorksFit moment events replies
+  pub forgotten : ForgottenFit moment events replies
 
 -- the first edit stands before the second one in the list
 pub record Precedes (es : List Placed) (e f : Placed) : Type 0 where
@@ -151,3 +234,19 @@ pub record IsAcknowledged (old : WorldValue) (events : List Event) (replies : Li
 pub record IsToldDone (old : WorldValue) (events : List Event) (replies : List Reply) (k p : ℕ) (told : Told) (edits : List PlainEdit) : Type 0 where
   pub it : IsAcknowledged old events replies k p told.number edits
   pub cell : told.cell ≡ index_of old.sheet.layout.shape it.request.cell
+
+-- the next edit of the process that begins behind this place is given this number
+abbrev pub IsGivenAgain : List Event → List Reply → ℕ → ℕ → ℕ → Type 0
+IsGivenAgain events replies k p number = (j next : ℕ) (request : PlainRequest) → k < j → Happens events replies j (BeginEdit request) (Begun next) → request.process ≡ p
+    → ((i n : ℕ) (other : PlainRequest) → k < i → i < j → other.process ≡ p → Happens events replies i (BeginEdit other) (Begun n) → ⊥)
+    → next ≡ number
+
+-- the edit that is forgotten at this place was begun at an earlier one and was never announced, and its number is given
+-- out again
+pub record IsForgotten (moment : ℕ → Moment) (events : List Event) (replies : List Reply) (k p : ℕ) (it : Placed) : Type 0 where
+  pub request : PlainRequest
+  pub begun : Happens events replies it.place (BeginEdit request) (Begun it.edit.number)
+  pub mine : request.process ≡ p
+  pub earlier : it.place < k
+  pub unannounced : WasUnannounced moment k p it.edit.number
+  pub again : IsGivenAgain events replies k p it.edit.number

@@ -17,3 +17,4 @@ pub mod SpentNumbers
 pub mod Moments
 pub mod LedgerSteps
 pub mod Headline
+pub mod BitFirst

@@ -1,6 +1,6 @@
 //! What is true of each run, as functions that do nothing. `run` gives the run that they speak of.
 
-ghost use Rattle.std.specs.Prelude.{◌≡◌, ◌<◌, ◌≤◌, ◌+◌, ◌*◌, ◌/◌, ℕ, List, length, Contains, true, false};
+ghost use Rattle.std.specs.Prelude.{◌≡◌, ◌≢◌, ◌<◌, ◌≤◌, ◌+◌, ◌*◌, ◌/◌, ℕ, List, length, Contains, true, false};
 ghost use Rattle.ds_state.specs.Edits.{PlainEditCall};
 ghost use Rattle.ds_state.specs.World.{PlainEdit, PlainWorld};
 ghost use Rattle.ds_state.specs.Fresh.{IsNew};
@@ -13,22 +13,28 @@ ghost use Rattle.ds_core.specs.declared.event.Event.TheVariants.{Step, BeginRepo
 ghost use Rattle.ds_state.specs.declared.answer.Other.{Other};
 ghost use Rattle.ds_state.specs.declared.recovery.Told.{Told};
 ghost use Rattle.ds_state.specs.declared.answer.Answer.{Answer};
-ghost use Rattle.ds_state.specs.declared.answer.Answer.TheVariants.{Edit, Recovery, Report};
+ghost use Rattle.ds_state.specs.declared.answer.Answer.TheVariants.{Edit, Work, Recovery, Report};
 ghost use Rattle.ds_state.specs.declared.answer.EditEnd.TheVariants.{Done, Overtaken};
-ghost use Rattle.ds_state.specs.declared.recovery.RecoveryEnd.TheVariants.{Last};
+ghost use Rattle.ds_state.specs.declared.recovery.RecoveryEnd.{RecoveryEnd};
+ghost use Rattle.ds_state.specs.declared.recovery.RecoveryEnd.TheVariants.{Last, Nothing};
 ghost use Rattle.ds_state.specs.declared.report.ReportEnd.TheVariants.{Settled};
+ghost use Rattle.ds_state.specs.declared.work.WorkEnd.{WorkEnd};
 ghost use Rattle.ds_core.specs.declared.reply.Reply.TheVariants.{Answered, Entered};
 ghost use Rattle.ds_core.specs.declared.reply.Reply.{Reply};
 ghost use Rattle.ds_core.specs.Takes.{Takes, WorldRun};
-ghost use Rattle.ds_core.specs.Headline.{Happens, RunFits, Headline, HasHeadline, IsAcknowledged, IsToldDone};
+ghost use Rattle.ds_core.specs.Moments.{Open, Closed, Ledger};
+ghost use Rattle.ds_core.specs.LedgerSteps.{Forgets, Resolves};
+ghost use Rattle.ds_core.specs.Headline.{Happens, RunFits, Headline, HasHeadline, IsAcknowledged, IsToldDone, HasCause, IsForgotten};
 ghost use Rattle.ds_core.specs.Own.{own_steps, steps_left, AreUnanswered, AreUnhalted, IsInCall, WorkGoesOn};
 ghost use Rattle.ds_core.specs.Kinds.{AnswersTo};
 ghost use Rattle.ds_state.specs.Spent.{IsSpent};
 ghost use Rattle.ds_core.specs.SpentNumbers.{IsOut};
+ghost use Rattle.ds_core.specs.BitFirst.{HasNoBit, TakesOver, IsRecoveryOf, FindsNeither};
 ghost use Rattle.ds_core.specs.Solo.{IsSolo, AreDoneOnly, IsLone, IsLoneAnswer, AreLoneReplies};
 ghost use Rattle.ds_state.specs.Works.{PlainWorkCall, PlainReportCall, PlainRecoverCall, PlainMigrateCall};
 ghost use Rattle.ds_state.specs.declared.work.WorkStage.TheVariants.{LoadMark};
 ghost use Rattle.ds_layout.specs.Bits.{parts_for};
+ghost use Rattle.ds_layout.specs.declared.head.Head.{Head};
 ghost use Rattle.ds_layout.specs.Places.{cells_of};
 ghost use Rattle.ds_state.specs.Shown.{IsQuiet};
 ghost use Rattle.ds_work.specs.WorkAlone.{IsMarkedAt};
@@ -114,7 +120,9 @@ pub fn solo_edits_are_done()
 /// sheet from scratch. A recovery's answer closes the edit in doubt as done just where it stands in
 /// the list. An edit, once closed, stays in the list or stays out, through stops and crashes, and
 /// stands before each edit that is begun later. Each report that is answered fits a moment of its
-/// call. Detectable execution (Friedman, Herlihy, Marathe, Petrank, PPoPP 2018).
+/// call, and so does each work that is answered NotDirty, Missed or Worn. No edit that a recovery's
+/// answer forgets was ever announced on a persisted side. Detectable execution (Friedman, Herlihy,
+/// Marathe, Petrank, PPoPP 2018).
 pub fn runs_have_the_headline()
     ensures { (old : WorldValue) (events : List Event) (replies : List Reply) (new : WorldValue)
         → IsNew (world_of old) → IsGood old → (run : WorldRun old events replies new)
@@ -157,6 +165,55 @@ pub fn edits_told_as_not_done_stay_out()
         → Takes old (Step p) (Answered (Recovery (Last told))) mid → told.counts ≡ false
         → WorldRun mid events replies new
         → IsSpent (world_of new) p told.number × IsOut (world_of new) p told.number }
+{}
+
+/// What a recovery's answer forgets is an edit that its process was asked for at an earlier place. At
+/// no moment of the run up to that answer, or behind it, did the persisted side of the process's
+/// announcement have its number, in any phase, or a later one, so that no crash could leave word of
+/// it; nor does the cached side at that answer. Its number is given to the next edit that the process
+/// begins.
+pub fn forgotten_edits_were_never_announced()
+    ensures { (old : WorldValue) (events : List Event) (replies : List Reply) (new : WorldValue)
+        (h : Headline old events replies new) (k p : ℕ) (end : RecoveryEnd)
+        → Happens events replies k (Step p) (Answered (Recovery end))
+        → (f : Forgets (h.run.moment k).ledger p end (h.run.moment (k + 1)).ledger)
+        → IsForgotten h.run.moment events replies k p f.open_edit.it }
+{}
+
+/// A work's answer is of the cell of the process's last begin of work, and tells of a moment of that
+/// call. NotDirty: the cell was clean then. Missed: another process held it then, or its mark was
+/// another one than at an earlier moment of the call, at which the cell was marked. Worn: it was
+/// marked then, with a generation above 2^58.
+pub fn works_tell_of_their_calls()
+    ensures { (old : WorldValue) (events : List Event) (replies : List Reply) (new : WorldValue)
+        (h : Headline old events replies new) (k p : ℕ) (end : WorkEnd)
+        → Happens events replies k (Step p) (Answered (Work end))
+        → HasCause h.run.moment events replies k p end }
+{}
+
+/// A recovery that answered Nothing always would not move the ledger as it may: not where the open
+/// edit of its process counts, as in a script `begin 0 set A1 5`, `run 0 to swung`, `stop 0`,
+/// `recover 0`; and not where an edit of the process was closed before, as in `set 0 A1 5`,
+/// `recover 0`.
+#[tactic(auto, using(crate::proofs::Refused::nothing_of_counted, crate::proofs::Refused::nothing_of_closed))]
+pub fn nothing_is_no_answer()
+    ensures counted { (old new : Ledger) (p : ℕ) (o : Open) → old.opens p ≡ Some o
+        → Contains old.counted o.it → Resolves old p Nothing new → ⊥ }
+    ensures closed { (old new : Ledger) (p : ℕ) (c : Closed) → old.told p ≡ Some c
+        → Resolves old p Nothing new → ⊥ }
+{}
+
+/// A recovery that looked at the done bit of its edit before the head could tell an edit that counts
+/// as not done. Between the two loads an edit of another process may take over, by four lawful steps:
+/// before them the bit is not set, behind them the head is another one, and the edit counts all the
+/// while. Behind `begin 0 set A1 5`, `run 0 to swung`, `stop 0`, `begin 1 set A1 7`,
+/// `run 1 to indexed` and three times `step 1` the bit of the first edit is not set; behind
+/// `run 1 to swung` the head is the second one's, and `recover 0` tells done.
+pub fn bits_before_heads_tell_nothing()
+    ensures { (e : PlainEditCall) (head : Head) (f : PlainEdit) (r : PlainRecoverCall)
+        (first last : PlainWorld) → IsSound first → IsRecoveryOf r f → e.process ≢ f.process
+        → e.cell ≡ f.cell → Contains first.counted f → HasNoBit first f
+        → TakesOver e head first last → FindsNeither r f first last }
 {}
 
 /// An edit that is alone from its beginning on, but for evictions, and makes as many steps as an edit

@@ -1,5 +1,5 @@
 -- The steps by which an edit announces itself, or how it ended.
-use Rattle.std.proofs.Common.{List, ℕ, ◌≡◌, ◌≢◌, ◌<◌, ◌≤◌, ◌^◌, nat_lt, [], refl, ap, sym, ◌∙◌, subst, arith, le_refl, inl, inr, zero, suc, length, None}
+use Rattle.std.proofs.Common.{List, ℕ, ◌≡◌, ◌≢◌, ◌<◌, ◌≤◌, ◌+◌, ◌^◌, nat_lt, [], refl, ap, sym, ◌∙◌, subst, arith, le_refl, inl, inr, zero, suc, length, None}
 use Rattle.std.proofs.lemmas.Bool.{ltb-false}
 use Rattle.ds_words.specs.Memory.{StoresAt}
 use Rattle.ds_layout.specs.declared.place.Place.{Place}
@@ -25,6 +25,9 @@ use Rattle.ds_state.specs.declared.stage.Stage.{Stage}
 use Rattle.ds_state.specs.declared.stage.Stage.TheVariants.{OrIndex, LoadHead}
 use Rattle.ds_state.specs.declared.situation.Situation.TheVariants.{Editing}
 use Rattle.ds_state.proofs.Stable.{standing_stable, recorded_stable, word_stable, indexed_stable, ored_stable, head_stable}
+use Rattle.ds_layout.specs.Announcement.{number_after}
+use Rattle.ds_state.specs.Headers.{SayNumber, HasCell}
+use Rattle.ds_state.proofs.Saying.{recorded_cell}
 use Rattle.ds_state.proofs.Frames.{Moves, KeepsOwing, grows_own, word_bears, moves_sound}
 use Rattle.ds_state.proofs.Accesses.{Turn, store_moves}
 use Rattle.ds_edit.specs.EditSteps.{next_at, index_from}
@@ -96,17 +99,22 @@ module _ (e : PlainEditCall) (s : Stage) (word : ℕ) (old new : PlainWorld) (so
   unheld same r by = fits.holds_none r (subst (λ (x : ℕ). IsHeldBy e.process x) (same r) by)
 
   -- an announcement is stored, where both sides agreed
-  pub announces : (k : Known) (value : ℕ) (a : Announced) → Knowing old e.edition (edit_of e) e.refs fits.since k → k.before ≡ k.now
+  pub announces : (k : Known) (value : ℕ) (a : Announced) → Knowing old e.edition (edit_of e) e.refs fits.since k → k.before ≡ k.now → 0 < k.back → number_after value ≡ e.number + 1
       → (Knowing new e.edition (edit_of e) e.refs fits.since (record k { now = a }) → Known_on new e fits.since (next_at e s word))
       → value ≡ word_of new (edit_of e) a
       → (StandsAs new (edit_of e) k.standing → (n : ℕ) → value ≡ announcement n phase.Done → IsKept new e.process n)
       → old.memory.cached (Announce e.process) ≤ value → StoresAt (Announce e.process) value old.memory new.memory
       → (new.memory.buffer e.process ≡ old.memory.buffer e.process → Holds_on new e (next_at e s word)) → Keeps e.process old new
-  announces k value a knows both advance is tells more m held =
+  announces k value a knows both written number advance is tells more m held =
       let place : Place = Announce e.process in
       let E : PlainEdit = edit_of e in
       let tn : Turn e.process old new = turn e s word old new t at (is_within e s old fits) plain.counts in
-      let moves : Moves e.process place old new = store_moves e.process old new tn place value (λ x. cc) (more, le_refl _, inl refl) m in
+      let cell : HasCell old e.process e.number = (let cells = fits.sheet.cells in let low = fits.is.cell in recorded_cell old e.edition E k.stored k.back written knows.recorded (omega (arith, cells, low)) fits.is.text.short) in
+      let says : (n : ℕ) → SayNumber value (old.memory.persisted place) n → HasCell old e.process n = λ n said. elim said [
+        | inl now ↦ (let same : e.number ≡ n = omega (arith, number, now) in subst (λ x. HasCell old e.process x) same cell)
+        | inr now ↦ sound.headers e.process n (inr now)
+      ] in
+      let moves : Moves e.process place old new = store_moves e.process old new tn place value (λ x. cc) (more, le_refl _, inl (refl, says)) m in
       let g : Grows e.process place old new = grows_own e.process place old new moves tn.counted in
       let stands : StandsAs new E k.standing = standing_stable place old new E g k.standing knows.standing in
       let before : old.memory.persisted place ≡ word_of old E k.before = elim knows.announced.persisted [ inl b ↦ b | inr n ↦ n ∙ ap (λ (x : Announced). word_of old E x) (sym both) ] in

@@ -15,3 +15,4 @@ pub mod Possible
 pub mod Alone
 pub mod EditLeaves
 pub mod Driving
+pub mod Early

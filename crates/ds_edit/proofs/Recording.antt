@@ -4,13 +4,16 @@ use Rattle.std.specs.List.{range_with_len}
 use Rattle.std.proofs.lemmas.Bool.{cases_eq, ltb-false, eqb-true, eqb-false}
 use Rattle.std.proofs.lemmas.List.Elements.{All-contains}
 use Rattle.std.proofs.lemmas.List.FromFn.{map-range_with_len_more}
-use Rattle.ds_words.specs.Memory.{Memory, StoresAt, FlushesAt, WritesBack, newer}
+use Rattle.ds_words.specs.Memory.{StoresAt, FlushesAt, WritesBack, newer}
 use Rattle.ds_layout.specs.Places.{class_of}
 use Rattle.ds_layout.specs.declared.place.Place.{Place}
 use Rattle.ds_layout.specs.declared.place.Place.TheVariants.{Version, Head, Mark, Announce}
 use Rattle.ds_state.specs.Edits.{PlainEditCall, text_parts}
-use Rattle.ds_state.specs.World.{PlainEdit, edit_of, PlainWorld, record_place, record_word}
-use Rattle.ds_state.specs.Known.{writing, outside, last, AreBelow, Knowing}
+use Rattle.ds_state.specs.World.{PlainEdit, edit_of, PlainWorld, record_place, record_word, last_announcement}
+use Rattle.ds_layout.specs.Announcement.{number_after}
+use Rattle.ds_state.specs.Headers.{IsSaid}
+use Rattle.ds_state.specs.Known.{writing, outside, last, AreBelow, IsAnnounced, Knowing}
+use Rattle.ds_state.proofs.Saying.{last_number}
 use Rattle.ds_state.specs.CallsFit.{record_words, record_entry, Holds, EditFits}
 use Rattle.std.specs.Prelude.{Contains}
 use Rattle.ds_words.specs.declared.access.BufferEntry.{BufferEntry}
@@ -48,9 +51,19 @@ announce_apart : (edition : Edition) (p n k : ℕ) → Announce p ≢ record_pla
 announce_apart edition p n zero = λ same. cc
 announce_apart edition p n (suc k) = λ same. cc
 
-owned_moves : (m : Memory Place) (edition : Edition) (p n k c v c' v' : ℕ) → MovesWord m p (record_place edition p n k) c v c' v'
-owned_moves m edition p n zero c v c' v' = inl refl
-owned_moves m edition p n (suc k) c v c' v' = inl refl
+owned_moves : (w : PlainWorld) (edition : Edition) (p n k c v c' v' : ℕ) → (IsSaid w.memory p n → ⊥) → MovesWord w p (record_place edition p n k) c v c' v'
+owned_moves w edition p n zero c v c' v' unsaid = inl (refl, unsaid)
+owned_moves w edition p n (suc k) c v c' v' unsaid = inl refl
+
+-- an edit that has not announced itself: both sides say the number before
+unannounced : (w : PlainWorld) (e : PlainEdit) → IsAnnounced w e last last → IsSaid w.memory e.process e.number → ⊥
+unannounced w e h said =
+    let before = last_number w.counted e.process e.number in
+    let on : (word : ℕ) → word ≡ last_announcement w.counted e.process e.number → number_after word ≡ e.number + 1 → ⊥ = λ word is now. (let same = sym (ap number_after is) ∙ now in omega (arith, before, same)) in
+    elim said [
+      | inl now ↦ on _ h.cached now
+      | inr now ↦ elim h.persisted [ inl is ↦ on _ is now | inr is ↦ on _ is now ]
+    ]
 
 no_mark : (edition : Edition) (p n k cell : ℕ) → record_place edition p n k ≢ Mark cell
 no_mark edition p n zero cell = λ same. cc
@@ -105,7 +118,7 @@ module _ (e : PlainEditCall) (s : Stage) (word : ℕ) (old new : PlainWorld) (so
   stores k k' same most next knows holds m =
       let place : Place = record_place e.edition e.process e.number k in
       let tn : Turn e.process old new = turn e s word old new t at (is_within e s old fits) plain.counts in
-      let moves : Moves e.process place old new = store_moves e.process old new tn place (record_word (edit_of e) k) (λ x. record_no_version e.edition e.process e.number k (sym x)) (owned_moves old.memory e.edition e.process e.number k _ _ _ _) m in
+      let moves : Moves e.process place old new = store_moves e.process old new tn place (record_word (edit_of e) k) (λ x. record_no_version e.edition e.process e.number k (sym x)) (owned_moves old e.edition e.process e.number k _ _ _ _ (unannounced old (edit_of e) knows.announced)) m in
       let g : Grows e.process place old new = grows_own e.process place old new moves tn.counted in
       let after : Knowing new e.edition (edit_of e) e.refs fits.since (writing (suc k) 0) = record {
         standing = standing_stable place old new (edit_of e) g outside knows.standing;

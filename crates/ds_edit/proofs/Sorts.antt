@@ -122,7 +122,7 @@ module _ (e : PlainEditCall) (s : Stage) (word : ℕ) (old new : PlainWorld) (so
 
   -- bits are added to a word that is nobody's own
   pub ors : (place : Place) (bits : ℕ) → ((k : ℕ) → record_place e.edition e.process e.number k ≢ place) → Announce e.process ≢ place → Version ≢ place
-      → MovesWord old.memory e.process place (old.memory.cached place) (old.memory.persisted place) (bit_or (old.memory.cached place) bits) (old.memory.persisted place)
+      → MovesWord old e.process place (old.memory.cached place) (old.memory.persisted place) (bit_or (old.memory.cached place) bits) (old.memory.persisted place)
       → (Moves e.process place old new → WordFits new place (bit_or (old.memory.cached place) bits) (old.memory.persisted place))
       → ((c : ℕ) → place ≡ Head c → ⊥) → ((c : ℕ) → place ≡ Mark c → IsClean (bit_or (old.memory.cached place) bits) → ⊥)
       → ((c : ℕ) → place ≡ Mark c → IsHeldBy e.process (bit_or (old.memory.cached place) bits) → ⊥)

@@ -11,7 +11,9 @@ use Rattle.ds_layout.specs.Bits.{IsSubset, bit_of}
 use Rattle.ds_layout.proofs.OrBits.{HasBit-or_bit, HasBit-subset, IsSubset-same, IsSubset-or_left, IsSubset-or_right}
 use Rattle.ds_state.specs.Edits.{PlainEditCall, text_parts}
 use Rattle.ds_state.specs.World.{PlainEdit, edit_of, PlainWorld, record_place, index_place}
-use Rattle.ds_state.specs.Known.{ended, pending, word_of, known_at}
+use Rattle.ds_layout.specs.declared.announcement.Phase.TheVariants as phase
+use Rattle.ds_state.proofs.Saying.{announced_number}
+use Rattle.ds_state.specs.Known.{ended, pending, word_of, phase_of, known_at}
 use Rattle.ds_state.specs.Owing.{entry}
 use Rattle.ds_state.specs.CallsFit.{record_entry, HasOne, IsBits, EditFits, CallFits}
 use Rattle.ds_state.specs.Rely.{Keeps}
@@ -78,7 +80,7 @@ module _ (e : PlainEditCall) (word : ℕ) (old new : PlainWorld) (sound : IsSoun
   store_pending : AtStage StorePending
   store_pending at fits t =
       announces e StorePending word old new sound at fits t (record { goes_on = refl; counts = refl; pends = λ i. refl }) (rw t.memory.0 (omega arith)) (λ h o. o) (λ x o. o)
-      (known_at (text_parts e.text) (length e.refs) StorePending) (word_of new E pending) pending fits.knows refl (λ known. known) refl
+      (known_at (text_parts e.text) (length e.refs) StorePending) (word_of new E pending) pending fits.knows refl (omega arith) (announced_number e.number phase.Pending) (λ known. known) refl
       (λ stands n is. pending_tells new e.process e.number n is) (last_less old e fits.knows.announced.cached) t.memory.1 (λ same. same ∙ fits.buffer)
 
   flush_pending : AtStage FlushPending
@@ -169,7 +171,7 @@ module _ (e : PlainEditCall) (word : ℕ) (old new : PlainWorld) (sound : IsSoun
   store_outcome : (how : Outcome) → AtStage (StoreOutcome how)
   store_outcome how at fits t =
       announces e (StoreOutcome how) word old new sound at fits t (record { goes_on = refl; counts = refl; pends = λ i. refl }) (rw t.memory.0 (omega arith)) (λ h o. o) (λ x o. o)
-      (known_at (text_parts e.text) (length e.refs) (StoreOutcome how)) (word_of new E (ended how)) (ended how) fits.knows refl (λ known. known) refl
+      (known_at (text_parts e.text) (length e.refs) (StoreOutcome how)) (word_of new E (ended how)) (ended how) fits.knows refl (omega arith) (announced_number e.number (phase_of how)) (λ known. known) refl
       (λ stands n is. ended_tells new E how n stands is) (ended_more old E how fits.knows.announced.cached) t.memory.1 (λ same. same ∙ fits.buffer)
 
   flush_outcome : (how : Outcome) → AtStage (FlushOutcome how)

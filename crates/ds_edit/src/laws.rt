@@ -2,7 +2,7 @@
 
 ghost use Rattle.std.specs.Prelude.{◌≡◌, ◌<◌, ℕ};
 ghost use Rattle.ds_state.specs.Edits.{PlainEditCall, IsEdit};
-ghost use Rattle.ds_state.specs.World.{PlainWorld, edit_of};
+ghost use Rattle.ds_state.specs.World.{PlainEdit, PlainWorld, edit_of};
 ghost use Rattle.ds_state.specs.Sound.{IsSound};
 ghost use Rattle.ds_state.specs.Rely.{Keeps};
 ghost use Rattle.ds_state.specs.Leaves.{Leaves};
@@ -13,6 +13,7 @@ ghost use Rattle.ds_state.specs.declared.situation.Situation.TheVariants.{Editin
 ghost use Rattle.ds_edit.specs.EditTakes.{Steps, Begins};
 ghost use Rattle.ds_edit.specs.EditAnswers.{IsTrueAnswer};
 ghost use Rattle.ds_edit.specs.EditSteps.{access_at};
+ghost use Rattle.ds_edit.specs.Early.{StandsUndone, Swings};
 ghost use Rattle.ds_layout.specs.SheetMemory.{CanPerform};
 
 /// Each step of an edit, whatever the word that its access answers, leaves a sound sheet sound, and
@@ -59,4 +60,13 @@ pub fn edits_leave_others()
     ensures begins { (e : PlainEditCall) (old new : PlainWorld) → IsSound old
         → IsEdit e → IsSheetOf old.layout e → HasRefs old.layout.shape e.text e.refs
         → Begins e old new → Leaves e.process old new }
+{}
+
+/// An edit that swung its cell's head before the done bit of the edit which it replaces is persisted
+/// would leave no sound world, whatever else is so. Behind `set 1 A1 9`, `begin 0 set A1 5` and
+/// `run 0 to indexed` the head of A1 is the first edit's, and the bit is not set; the second edit has
+/// yet to help it.
+pub fn early_swings_are_unsound()
+    ensures { (e : PlainEditCall) (head : ℕ) (by : PlainEdit) (old new : PlainWorld)
+        → StandsUndone old e.cell by → Swings e head old new → IsSound new → ⊥ }
 {}

@@ -25,3 +25,5 @@ pub mod RecoveryBegins
 pub mod RecoveryLaws
 pub mod RecoveryGood
 pub mod RecoveryLeaves
+pub mod Unmarked
+pub mod RecoveryNames

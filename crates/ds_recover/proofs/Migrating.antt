@@ -291,7 +291,7 @@ module _ (e : PlainMigrateCall) (s : MigrateStage) (word : ℕ) (old new : Plain
       (cached : (r : Place) → r ≢ place → new.memory.cached r ≡ old.memory.cached r) (persisted : (r : Place) → r ≢ place → new.memory.persisted r ≡ old.memory.persisted r)
       (buffers : (q : ℕ) → q ≢ p → new.memory.buffer q ≡ old.memory.buffer q)
       (moves_here : Moves p place old new → WordFits new place (new.memory.cached place) (new.memory.persisted place))
-      (word_moves : Rattle.ds_state.proofs.Frames.MovesWord old.memory p place (old.memory.cached place) (old.memory.persisted place) (new.memory.cached place) (new.memory.persisted place))
+      (word_moves : Rattle.ds_state.proofs.Frames.MovesWord old p place (old.memory.cached place) (old.memory.persisted place) (new.memory.cached place) (new.memory.persisted place))
       (holds : MigrationHolds new p e' e'.stage) (clear : (c x : ℕ) → Contains (new.memory.buffer p) (entry (Mark c) x) → ⊥) where
     lay_on : LayoutFits new p (new.situation p)
     lay_on = subst (λ (x : Situation). LayoutFits new p x) (sym goes_on) (record { alone = alone_on; at = moved })

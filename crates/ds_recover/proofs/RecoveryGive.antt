@@ -47,7 +47,7 @@ module _ (e : PlainRecoverCall) (c : ℕ) (s : RecoverStage) (old new : PlainWor
   same_turn : old.memory.cached (Mark c) / 32 ≡ e.mark / 32
   same_turn = let a = h.stands in omega arith
 
-  moved : MovesWord old.memory p (Mark c) (old.memory.cached (Mark c)) (old.memory.persisted (Mark c)) (given e.mark) (old.memory.persisted (Mark c))
+  moved : MovesWord old p (Mark c) (old.memory.cached (Mark c)) (old.memory.persisted (Mark c)) (given e.mark) (old.memory.persisted (Mark c))
   moved = record {
     cached = (let a = same_turn in omega arith);
     persisted = omega arith;

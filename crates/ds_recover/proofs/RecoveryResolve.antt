@@ -20,7 +20,11 @@ use Rattle.ds_state.specs.World.{PlainEdit, PlainIssue, PlainWorld, of_cell, ann
 use Rattle.ds_state.specs.Known.{AreBelow, IsIn}
 use Rattle.ds_state.specs.Owing.{IsPending}
 use Rattle.ds_state.specs.CallsFit.{RecoveryFits, IsInDoubt, DoubtFits}
-use Rattle.ds_state.specs.KnownRecovery.{IsItsCell, Tells, phase_for, IsOpenAnd, IsPassed, SettledAs}
+use Rattle.ds_state.specs.KnownRecovery.{IsHeadersCell, Tells, phase_for, IsOpenAnd, IsPassed, SettledAs}
+use Rattle.ds_layout.specs.Places.{cells_of}
+use Rattle.ds_layout.specs.declared.layout.Layout.{Layout}
+use Rattle.ds_state.specs.Headers.{HasCell}
+use Rattle.ds_state.proofs.Saying.{announced_number}
 use Rattle.ds_state.specs.Rely.{Keeps}
 use Rattle.ds_state.specs.Sound.{IsSound}
 use Rattle.ds_recover.specs.RecoverySteps.{StepsAt, at, number_of, announced_from, resolves_from, phase_from, cell_from, is_shown}
@@ -30,7 +34,7 @@ use Rattle.ds_state.specs.declared.situation.Situation.TheVariants.{Recovering}
 use Rattle.ds_state.proofs.Frames.{Moves}
 use Rattle.ds_state.proofs.Accesses.{Turn, same_moves}
 use Rattle.ds_recover.proofs.RecoveryFrame.{on, turn_of, held_on, pends_on, simple_passes, loads}
-use Rattle.ds_recover.proofs.RecoveryDoubt.{ended_reads, IsDoubted, unannounced, pending_open, header_reads, shown_in, not_shown, shows_last, shown_own, bit_tells, no_bit_tells}
+use Rattle.ds_recover.proofs.RecoveryDoubt.{IsDoubted, unannounced, pending_open, header_reads, shown_in, not_shown, shows_last, shown_own, bit_tells, no_bit_tells}
 
 same_issue : {o : Option PlainIssue} {a b : PlainIssue} → o ≡ Some a → o ≡ Some b → a ≡ b
 same_issue x y = let both : Some _ ≡ Some _ = sym x ∙ y in cc
@@ -121,10 +125,19 @@ module _ (e : PlainRecoverCall) (word : ℕ) (old new : PlainWorld) (sound : IsS
         let k = IsAnnouncement-announcement_of e.announcement a is in
         record { number = a.number; few = k.0; is = sym k.1 ∙ ap (λ (f : Phase). announcement a.number f) phase' }
 
-    its_cell : (how : Bool) (a : Announcement) → announcement_of e.announcement ≡ Some a → a.phase ≡ phase_for how → IsItsCell new p e.announcement c'
-    its_cell how a is phase' issue open_is own =
-        let doubt : IsInDoubt old p issue = subst (λ (o : Option PlainIssue). DoubtFits old p o) (sym t.open_edits ∙ open_is) fits.doubt in
-        sym (ap (λ (n : ℕ). cell_from (header_of n word)) (sym fits.cells) ∙ ended_reads old p e.announcement how issue doubt seen (tells how a is phase') own word t.memory.0)
+    -- the number is announced, so that its header says a cell of the sheet
+    its_cell : (how : Bool) (a : Announcement) → announcement_of e.announcement ≡ Some a → a.phase ≡ phase_for how → IsHeadersCell new p e.announcement c'
+    its_cell how a is phase' =
+        let said = (tells how a is phase').is in
+        let told = announced_number (tells how a is phase').number (phase_for how) in
+        let there = seen in
+        let both : HasCell old p (number_of e) = sound.headers p (number_of e) (inl (omega (arith, said, told, there))) in
+        let reads : header_of (cells_of old.layout) word ≡ Some both.cached.header = ap (λ x. header_of (cells_of old.layout) x) t.memory.0 ∙ both.cached.is in
+        record {
+          header = both.cached.header;
+          is = ap (λ (l : Layout). header_of (cells_of l) (new.memory.cached (Header p (number_of e)))) t.layout ∙ ap (λ x. header_of (cells_of old.layout) x) (m'.cached (Header p (number_of e))) ∙ both.cached.is;
+          of_cell = ap cell_from (sym reads) ∙ ap (λ (n : ℕ). cell_from (header_of n word)) fits.cells;
+        }
 
     done_ends : (a : Announcement) → announcement_of e.announcement ≡ Some a → a.phase ≡ phase.Done → Keeps p old new
     done_ends a is phase' = loads e e.mark e.row e.announcement c' LoadHeader (FlushOutcome true) old new sound was fits real tn'

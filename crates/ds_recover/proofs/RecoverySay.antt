@@ -1,20 +1,22 @@
 -- A recovery says how its edit in doubt ended.
-use Rattle.std.proofs.Common.{ℕ, ◌≡◌, ◌<◌, ◌≤◌, ◌⊎◌, refl, ap, sym, ◌∙◌, subst, arith, inl, inr, Some, true, false}
+use Rattle.std.proofs.Common.{ℕ, ◌≡◌, ◌<◌, ◌≤◌, ◌-◌, ◌⊎◌, refl, ap, sym, ◌∙◌, subst, arith, inl, inr, Some, true, false}
 use Rattle.std.specs.Prelude.{Option, Bool}
 use Rattle.ds_words.specs.Memory.{StoresAt}
 use Rattle.ds_layout.specs.declared.place.TheConstants.{RECORDS}
-use Rattle.ds_layout.specs.declared.place.Place.TheVariants.{Head, Mark, Value, Kind, Announce}
+use Rattle.ds_layout.specs.declared.place.Place.TheVariants.{Head, Mark, Value, Kind, Announce, Header}
+use Rattle.ds_layout.specs.declared.place.Edition.TheVariants.{First}
+use Rattle.ds_layout.specs.Announcement.{number_after}
 use Rattle.ds_layout.specs.declared.announcement.Phase.TheVariants as phase
 use Rattle.ds_layout.proofs.Packed.{announcement_of-announcement_word}
 use Rattle.ds_state.specs.Works.{PlainRecoverCall}
 use Rattle.ds_state.specs.RecoverStages.{IsAnnounced}
-use Rattle.ds_state.specs.World.{PlainEdit, PlainIssue, PlainWorld, announcement}
-use Rattle.ds_state.specs.Known.{Standing, outside, inside, safe, Announced, last, pending, ended, word_of, StandsAs}
+use Rattle.ds_state.specs.World.{PlainEdit, PlainIssue, PlainWorld, record_word, announcement}
+use Rattle.ds_state.specs.Known.{Standing, outside, inside, safe, Announced, last, pending, ended, word_of, StandsAs, IsRecorded}
 use Rattle.ds_state.specs.declared.stage.Outcome.{Outcome}
 use Rattle.ds_state.specs.declared.stage.Outcome.TheVariants as outcome
 use Rattle.ds_layout.specs.Mark.{IsHeldBy}
 use Rattle.ds_state.specs.CallsFit.{CallFits, MaySay, rank, IsWritten, IsInDoubt, DoubtFits, RecoveryFits}
-use Rattle.ds_state.specs.KnownRecovery.{phase_for, IsOpenAnd, SettledAs}
+use Rattle.ds_state.specs.KnownRecovery.{phase_for, IsOpenAnd, IsHeadersCell, SettledAs}
 use Rattle.ds_state.specs.WordsFit.{WordFits, IsKept}
 use Rattle.ds_state.specs.Rely.{Grows, Keeps}
 use Rattle.ds_state.specs.Sound.{IsSound}
@@ -24,6 +26,8 @@ use Rattle.ds_state.specs.declared.situation.Situation.{Situation}
 use Rattle.ds_state.specs.declared.situation.Situation.TheVariants.{Recovering}
 use Rattle.ds_state.proofs.Found.{gave_counts}
 use Rattle.ds_state.proofs.Stable.{standing_stable, word_stable, written_stable}
+use Rattle.ds_state.specs.Headers.{SayNumber, SaysCell, HasCell}
+use Rattle.ds_state.proofs.Saying.{announced_number, says_own}
 use Rattle.ds_state.proofs.Frames.{MovesWord, Moves, grows_own, moves_sound, kept_stable}
 use Rattle.ds_state.proofs.Bearing.{Mine, MyMarks, bears, all_stand, text_same, stored_marks}
 use Rattle.ds_state.proofs.Buffers.{buffered}
@@ -43,9 +47,6 @@ standing_for false = outside
 ended_word : (w : PlainWorld) (f : PlainEdit) (how : Bool) → announcement f.number (phase_for how) ≡ word_of w f (ended (outcome_for how))
 ended_word w f true = refl
 ended_word w f false = refl
-
-same_issue : {o : Option PlainIssue} {a b : PlainIssue} → o ≡ Some a → o ≡ Some b → a ≡ b
-same_issue x y = let both : Some _ ≡ Some _ = sym x ∙ y in cc
 
 -- the word that announces an outcome is an announcement of a record
 pub said_announced : (n : ℕ) (how : Bool) → n < RECORDS → IsAnnounced (announcement n (phase_for how))
@@ -102,8 +103,19 @@ module _ (e : PlainRecoverCall) (how : Bool) (word : ℕ) (old new : PlainWorld)
   more true = let n = number_is in omega arith
   more false = let n = number_is in omega arith
 
-  moved : MovesWord old.memory p (Announce p) (old.memory.cached (Announce p)) (old.memory.persisted (Announce p)) said_word (old.memory.persisted (Announce p))
-  moved = ((let c = h.it.cached in let w = h.it.is in let m = more how in omega arith), omega arith, inl refl)
+  moved : MovesWord old p (Announce p) (old.memory.cached (Announce p)) (old.memory.persisted (Announce p)) said_word (old.memory.persisted (Announce p))
+  moved = ((let c = h.it.cached in let w = h.it.is in let m = more how in omega arith), omega arith, inl (refl, says))
+    where
+      -- it announces the number that is announced as pending
+      says : (n : ℕ) → SayNumber said_word (old.memory.persisted (Announce p)) n → HasCell old p n
+      says n (inl now) =
+          let number = announced_number (number_of e) (phase_for how) in
+          let pending = announced_number f.number phase.Pending in
+          let same = number_is in
+          let c = h.it.cached in
+          let w = h.it.is in
+          sound.headers p n (inl (omega (arith, now, number, pending, same, c, w)))
+      says n (inr now) = sound.headers p n (inr now)
 
   moves : Moves p (Announce p) old new
   moves = store_moves p old new tn (Announce p) said_word (λ x. cc) moved store
@@ -179,6 +191,15 @@ module _ (e : PlainRecoverCall) (how : Bool) (word : ℕ) (old new : PlainWorld)
     written = written_stable (Announce p) old new f gf (λ x. cc) (ended (outcome_for how)) (written_pending old f how doubt.0.now doubt.1 doubt.0.written);
   }
 
+  -- its header stands, and says its cell
+  its_header : IsHeadersCell new p said_word e.cell
+  its_header =
+      let number : number_after said_word - 1 ≡ f.number = (let told = announced_number (number_of e) (phase_for how) in let same = number_is in omega (arith, told, same)) in
+      let written : IsRecorded old First f 1 1 = subst (λ (a : Announced). IsWritten old f a) doubt.1 doubt.0.written in
+      let there : new.memory.cached (Header p (number_after said_word - 1)) ≡ record_word f 0 =
+      ap (λ n. new.memory.cached (Header p n)) number ∙ store.elsewhere (Header p f.number) (λ x. cc) ∙ ap (λ q. old.memory.cached (Header q f.number)) (sym h.it.process) ∙ written.cached 0 (omega arith) in
+      subst (λ c. SaysCell new.layout c (new.memory.cached (Header p (number_after said_word - 1)))) h.own_is (says_own new f _ there (rw tn.layout doubt.0.cell) doubt.0.text)
+
   pub step_store_outcome : Keeps p old new
   step_store_outcome = moves_sound p (Announce p) old new moves tn.counted sound (bears p (Announce p) old new moves sound my)
       (all_stand p (Announce p) old new moves sound (buffered old sound) my (text_same old new moves.layout tn.counted) marks)
@@ -190,6 +211,6 @@ module _ (e : PlainRecoverCall) (how : Bool) (word : ℕ) (old new : PlainWorld)
       (λ r by. fits.freed r (subst (λ (x : ℕ). IsHeldBy p x) (store.elsewhere (Mark r) (λ x. cc)) by)) (
         store.there,
         record { number = number_of e; few = (let n = number_is in let k = h.it.number in omega arith); is = refl },
-        λ issue is same. (let mine : issue ≡ h.issue = same_issue is (t.open_edits ∙ h.it.issued) in ap (λ (i : PlainIssue). i.edit.cell) mine ∙ h.own_is),
+        its_header,
       )
       (store.buffer p ∙ fits.buffer) (said_announced (number_of e) how (let n = fits.is.stage.0.few in let k = fits.is.stage.0.some in omega arith), fits.is.stage.1)))

@@ -1,18 +1,18 @@
 -- Each step of a recovery keeps a world sound, and its answer is true.
-use Rattle.std.proofs.Common.{ℕ, ◌≡◌, ◌<◌, ◌≤◌, ◌-◌, ◌/◌, refl, sym, ◌∙◌, subst, arith, inl, inr, Some, None, true, false, ◌+◌}
+use Rattle.std.proofs.Common.{ℕ, ◌≡◌, ◌<◌, ◌≤◌, ◌-◌, ◌/◌, refl, ap, sym, ◌∙◌, subst, arith, inl, inr, Some, None, true, false, ◌+◌}
 use Rattle.std.specs.Prelude.{Option, Bool}
 use Rattle.std.proofs.lemmas.List.Elements.{All-weaker}
-use Rattle.ds_layout.specs.declared.place.Place.TheVariants.{Announce}
+use Rattle.ds_layout.specs.declared.place.Place.TheVariants.{Announce, Header}
 use Rattle.ds_layout.specs.declared.announcement.Phase.TheVariants as phase
 use Rattle.ds_state.specs.Works.{PlainRecoverCall}
 use Rattle.ds_state.specs.World.{PlainEdit, PlainIssue, PlainWorld, announcement}
 use Rattle.ds_state.specs.Known.{Standing, outside, inside, safe, Announced, last, pending, ended, word_of, AreBelow, StandsAs}
 use Rattle.ds_state.specs.declared.stage.Outcome.TheVariants as outcome
-use Rattle.ds_state.specs.KnownRecovery.{Tells}
+use Rattle.ds_state.specs.KnownRecovery.{IsHeadersCell, Tells}
 use Rattle.ds_state.specs.CallsFit.{CallFits, MaySay, IsInDoubt, DoubtFits, RecoveryFits}
 use Rattle.ds_state.specs.Rely.{Keeps}
 use Rattle.ds_state.specs.Sound.{IsSound}
-use Rattle.ds_recover.specs.RecoverySteps.{StepsAt, at, number_of, end_of, ResolvesAs}
+use Rattle.ds_recover.specs.RecoverySteps.{StepsAt, at, number_of, cell_from, end_of, ResolvesAs}
 use Rattle.ds_state.specs.declared.spread.Spread.TheVariants.{LoadRow, OrTold, FlushTold, BackTold}
 use Rattle.ds_state.specs.declared.recovery.RecoverStage.{RecoverStage}
 use Rattle.ds_state.specs.declared.recovery.RecoverStage.TheVariants.{LoadVersion, FlushVersion, BackVersion, LoadMark, FlushValue, FlushKind, BackValue, BackKind, Telling, Give, GiveDirty, FlushGiven, BackGiven, LoadAnnounce, LoadHeader, LoadHead, FlushHead, BackHead, LoadDone, OrMark, FlushMark, BackMark, StoreOutcome, FlushOutcome, BackOutcome, Answer}
@@ -20,7 +20,7 @@ use Rattle.ds_state.specs.declared.situation.Situation.{Situation}
 use Rattle.ds_state.specs.declared.situation.Situation.TheVariants.{Recovering}
 use Rattle.ds_recover.proofs.RecoveryResolve.{step_load_announce, step_load_header, step_load_head, step_load_done}
 use Rattle.ds_recover.proofs.RecoverySay.{step_store_outcome}
-use Rattle.ds_recover.proofs.RecoveryDoubt.{last_number}
+use Rattle.ds_recover.proofs.RecoveryDoubt.{last_number, ended_reads}
 use Rattle.ds_recover.proofs.RecoveryEnds.{step_answer, rests_none}
 use Rattle.ds_recover.proofs.RecoveryLate.{step_or_mark, step_flush_mark, step_back_mark, step_flush_outcome, step_back_outcome}
 use Rattle.ds_recover.proofs.RecoveryFree.{step_load_mark, step_flush_value, step_flush_kind, step_give, step_give_dirty, step_flush_given, step_back_given}
@@ -107,7 +107,9 @@ answer_resolves e (Some how) w issue fits is = by h.now h.said h.cached
 
     -- the cell that it found is the edit's
     its : f.number + 1 ≡ e.announcement / 4 → f.cell ≡ e.cell
-    its own = fits.resolved.3 issue is own
+    its own =
+        let read : IsHeadersCell w e.process e.announcement e.cell = fits.resolved.3 in
+        sym (ended_reads w e.process e.announcement how issue h there tells own (w.memory.cached (Header e.process (e.announcement / 4 - 1))) refl) ∙ ap cell_from read.is ∙ read.of_cell
 
     some : 4 ≤ e.announcement
     some = at_least how tells

@@ -3,3 +3,4 @@ pub mod RecoverBegun
 pub mod RecoverTakes
 pub mod MigrationSteps
 pub mod MigrationTakes
+pub mod Unmarked

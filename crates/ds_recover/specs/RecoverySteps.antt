@@ -24,6 +24,7 @@ use Rattle.ds_state.specs.Works.{PlainRecoverCall, HELD_MOST}
 use Rattle.ds_state.specs.World.{PlainEdit, PlainIssue, PlainWorld, announcement, done_place, phase_among}
 use Rattle.ds_state.specs.Owing.{StandsIn}
 use Rattle.ds_state.specs.Known.{AreBelow, IsSafelyIn}
+use Rattle.ds_state.specs.Headers.{SaysCell}
 use Rattle.ds_state.specs.KnownRecovery.{phase_for}
 use Rattle.ds_state.specs.Telling.{spread_access, told_from}
 use Rattle.ds_state.specs.declared.turn.Turn.TheVariants.{GoesOn, Answers}
@@ -301,6 +302,11 @@ ResolvesAs w f (Last told) = ResolvesBy w f told told.counts
 abbrev pub RepeatsAs : PlainWorld → ℕ → RecoveryEnd → Type 0
 RepeatsAs w p Nothing = AreBelow w p 0
 RepeatsAs w p (Last told) = AreBelow w p (told.number + 1) × (phase_among w.counted p told.number ≡ phase_for told.counts)
+
+-- the cell that a recovery's answer tells is that which both sides of the header of that record say, one of the sheet
+abbrev pub NamesCell : PlainWorld → ℕ → RecoveryEnd → Type 0
+NamesCell w p Nothing = Unit {0}
+NamesCell w p (Last told) = SaysCell w.layout told.cell (w.memory.cached (place.Header p told.number)) × SaysCell w.layout told.cell (w.memory.persisted (place.Header p told.number))
 
 -- the cell that the recovery tells next is one whose bit it found in the index row
 abbrev pub TellsFound : PlainRecoverCall → Type 0

@@ -5,7 +5,8 @@ ghost use Rattle.ds_layout.specs.declared.layout.Layout.{Layout};
 ghost use Rattle.ds_layout.specs.Places.{cells_of};
 ghost use Rattle.ds_layout.specs.SheetMemory.{CanPerform, NamesPlace};
 ghost use Rattle.ds_state.specs.World.{PlainIssue, PlainWorld};
-ghost use Rattle.ds_state.specs.Owing.{HoldsNone};
+ghost use Rattle.ds_layout.specs.declared.place.Place.TheVariants.{Mark};
+ghost use Rattle.ds_state.specs.Owing.{HoldsNone, Excuses};
 ghost use Rattle.ds_state.specs.Sound.{IsSound};
 ghost use Rattle.ds_state.specs.Rely.{Keeps};
 ghost use Rattle.ds_state.specs.Leaves.{Leaves};
@@ -18,8 +19,9 @@ ghost use Rattle.ds_state.specs.Works.{PlainRecoverCall, PlainMigrateCall, IsCop
 ghost use Rattle.ds_state.specs.RecoverStages.{IsRecovery};
 ghost use Rattle.ds_state.specs.declared.recovery.RecoverStage.TheVariants.{Answer};
 ghost use Rattle.ds_state.specs.declared.situation.Situation.TheVariants.{Recovering, Migrating};
-ghost use Rattle.ds_recover.specs.RecoverySteps.{Steps, access_at, next_at, rank, Falls, end_of, ResolvesAs, RepeatsAs, TellsFound};
+ghost use Rattle.ds_recover.specs.RecoverySteps.{Steps, access_at, next_at, rank, Falls, end_of, ResolvesAs, RepeatsAs, NamesCell, TellsFound};
 ghost use Rattle.ds_recover.specs.RecoverBegun.{IsBegun};
+ghost use Rattle.ds_recover.specs.Unmarked.{ReliesOn, AnswersUnmarked};
 ghost use Rattle.ds_recover.specs.MigrationSteps.{BeginsMigration};
 ghost use Rattle.ds_recover.specs.MigrationSteps as migrations;
 
@@ -121,6 +123,14 @@ pub fn answers_repeat()
         → RepeatsAs w e.process (end_of e how) }
 {}
 
+/// The cell that a recovery's answer tells, also of an edit that does not count, is a cell of the
+/// sheet, and the one that both sides of the header of that record say: a crash keeps it.
+pub fn answers_name_their_cell()
+    ensures { (e : PlainRecoverCall) (how : Option Bool) (w : PlainWorld) → IsSound w
+        → e.process < w.layout.processes → w.situation e.process ≡ Recovering e → e.stage ≡ Answer how
+        → NamesCell w e.process (end_of e how) }
+{}
+
 /// A recovery marks only cells whose bits it found in the row of a cell that it gives back, and the
 /// cell of its edit: no step makes it tell a cell without a bit.
 #[tactic(auto, using(crate::proofs::RecoveryRepeats::each_found))]
@@ -144,4 +154,17 @@ pub fn recoveries_leave_others()
         → Steps e word old new → Leaves e.process old new }
     ensures begins { (p : ℕ) (old new : PlainWorld) → IsSound old → p < old.layout.processes
         → IsBegun old p new → Leaves p old new }
+{}
+
+/// A cell may be clean and show what its content does not give, because an edit in doubt took the
+/// cell, another process worked on it then, and a crash took the edit: it does not count. In a sound
+/// world that edit's process accounts for it alone. A recovery of that process that answered and left
+/// the cell unmarked would leave no sound world. Behind `set 1 A1 9`, `begin 0 set A1 5`,
+/// `run 0 to swung`, `work 1 A1`, `crash`, the cell A1 is clean, shows 5, and has the text 9; the
+/// recovery of process 0 tells its edit as not done.
+pub fn undone_edits_need_their_mark()
+    ensures relied { (w : PlainWorld) (p c : ℕ) → IsSound w → ReliesOn w p c
+        → Excuses w p (w.situation p) c (w.memory.cached (Mark c)) }
+    ensures unmarked { (p c : ℕ) (old new : PlainWorld) → ReliesOn old p c
+        → AnswersUnmarked p c old new → IsSound new → ⊥ }
 {}

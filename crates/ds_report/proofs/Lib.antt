@@ -7,3 +7,4 @@ pub mod ReportMiddles
 pub mod ReportSolo
 pub mod ReportLaws
 pub mod ReportGood
+pub mod OneCollect

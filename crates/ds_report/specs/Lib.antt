@@ -4,3 +4,4 @@ pub mod ReportTakes
 pub mod ReportRuns
 pub mod ReportSolo
 pub mod ReportMiddles
+pub mod OneCollect

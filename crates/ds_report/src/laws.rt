@@ -5,6 +5,7 @@ ghost use Rattle.ds_state.specs.declared.situation.Rest.{Rest};
 ghost use Rattle.ds_layout.specs.declared.layout.Layout.{Layout};
 ghost use Rattle.ds_layout.specs.Places.{cells_of};
 ghost use Rattle.ds_layout.specs.SheetMemory.{CanPerform, NamesPlace};
+ghost use Rattle.ds_eval.specs.declared.value.Value.{Value};
 ghost use Rattle.ds_state.specs.World.{PlainEdit, PlainWorld};
 ghost use Rattle.ds_state.specs.Sound.{IsSound};
 ghost use Rattle.ds_state.specs.Rely.{Keeps};
@@ -22,6 +23,7 @@ ghost use Rattle.ds_report.specs.ReportSteps.{Steps, Begins, access_at, next_at,
 ghost use Rattle.ds_report.specs.ReportMiddles.{middle_after, WasSettled, IsToldReport};
 ghost use Rattle.ds_report.specs.ReportRuns.{Call, IsTrueReport};
 ghost use Rattle.ds_report.specs.ReportSolo.{SoloCall};
+ghost use Rattle.ds_report.specs.OneCollect.{AreAnEditApart, AreMixed, AreOfNoMoment};
 
 /// Each step of a report, whatever the word that its access answers, leaves a sound sheet sound, and
 /// leaves each other process what it may count on.
@@ -136,4 +138,15 @@ pub fn settled_reports_last()
         → IsToldReport w p e held }
     ensures stays { (old new : PlainWorld) (p : ℕ) (e : PlainReportCall) (held : List PlainEdit)
         → Lasts old new → IsToldReport old p e held → IsToldReport new p e held }
+{}
+
+/// A report that looked at announcements and marks once could settle with values of no moment: in
+/// two quiet worlds, between which one edit came to count, it finds nothing pending and each cell
+/// clean; and where it notes one cell in the first and another one in the last, and both changed,
+/// its values are those from scratch of no edits that counted at any time between. On `set 0 A1 1`,
+/// `set 0 B1 =[.A1]`, `settle 0` the sheet shows 1 and 1; `set 1 A1 2`, `settle 1` makes that 2 and 2,
+/// and such a report, which has noted A1 meanwhile and not B1, answers 1 and 2.
+pub fn one_collect_is_not_enough()
+    ensures { (first last : PlainWorld) (e : PlainEdit) (values : List Value)
+        → AreAnEditApart first last e → AreMixed first last values → AreOfNoMoment first last values }
 {}

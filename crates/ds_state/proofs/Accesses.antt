@@ -60,14 +60,14 @@ module _ (p : ℕ) (old new : PlainWorld) (t : Turn p old new) where
     version = inl (m.cached Version, inl (m.persisted Version));
   }
 
-  pub store_moves : (place : Place) (value : ℕ) → Version ≢ place → MovesWord old.memory p place (old.memory.cached place) (old.memory.persisted place) value (old.memory.persisted place)
+  pub store_moves : (place : Place) (value : ℕ) → Version ≢ place → MovesWord old p place (old.memory.cached place) (old.memory.persisted place) value (old.memory.persisted place)
       → StoresAt place value old.memory new.memory → Moves p place old new
   store_moves place value apart moves m = record {
     layout = t.layout;
     cached = m.elsewhere;
     persisted = λ r ne. m.persisted r;
-    here = subst (λ (c : ℕ). MovesWord old.memory p place (old.memory.cached place) (old.memory.persisted place) c (new.memory.persisted place)) (sym m.there)
-        (subst (λ (v : ℕ). MovesWord old.memory p place (old.memory.cached place) (old.memory.persisted place) value v) (sym (m.persisted place)) moves);
+    here = subst (λ (c : ℕ). MovesWord old p place (old.memory.cached place) (old.memory.persisted place) c (new.memory.persisted place)) (sym m.there)
+        (subst (λ (v : ℕ). MovesWord old p place (old.memory.cached place) (old.memory.persisted place) value v) (sym (m.persisted place)) moves);
     buffers = λ q ne. m.buffer q;
     situations = t.situations;
     pendings = t.pendings;
@@ -110,9 +110,9 @@ module _ (p : ℕ) (old new : PlainWorld) (t : Turn p old new) where
       layout = t.layout;
       cached = λ r ne. b.cached r;
       persisted = b.elsewhere;
-      here = subst (λ (c : ℕ). MovesWord old.memory p place (old.memory.cached place) (old.memory.persisted place) c (new.memory.persisted place)) (sym (b.cached place))
-          (subst (λ (v : ℕ). MovesWord old.memory p place (old.memory.cached place) (old.memory.persisted place) (old.memory.cached place) v) (sym b.there)
-          (between_moves old (small_counted old s.of_sheet) old.memory p place (old.memory.cached place) (old.memory.persisted place) value (s.words place) between));
+      here = subst (λ (c : ℕ). MovesWord old p place (old.memory.cached place) (old.memory.persisted place) c (new.memory.persisted place)) (sym (b.cached place))
+          (subst (λ (v : ℕ). MovesWord old p place (old.memory.cached place) (old.memory.persisted place) (old.memory.cached place) v) (sym b.there)
+          (between_moves old (small_counted old s.of_sheet) old p place (old.memory.cached place) (old.memory.persisted place) value (s.words place) between));
       buffers = b.buffers;
       situations = t.situations;
       pendings = t.pendings;

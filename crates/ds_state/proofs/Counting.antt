@@ -21,7 +21,7 @@ use Rattle.ds_state.specs.Rely.{IsOwnedBy, Grows, Rely, Keeps}
 use Rattle.ds_words.specs.declared.access.BufferEntry.{BufferEntry}
 use Rattle.ds_state.specs.Owing.{entry}
 use Rattle.ds_state.specs.declared.situation.Situation.{Situation}
-use Rattle.ds_state.proofs.Frames.{Moves, Goes, CatchesUp, shown_back, first_shown, layouts_move, each_moved, stays_hold}
+use Rattle.ds_state.proofs.Frames.{Moves, Goes, CatchesUp, shown_back, first_shown, layouts_move, headers_move, each_moved, stays_hold}
 use Rattle.ds_state.proofs.Bearing.{Buffered, Mine, bears, all_stand, no_new_marks, parts_owe, splits_excuse, splits_last, marks_grow, pends_last, apart_lasts}
 use Rattle.ds_state.proofs.Heads.{by_append, of_cell-append, of_cell-own, of_cell-other, cell_of-middle, parts_cases}
 use Rattle.ds_state.proofs.Lasting.{safe_stable}
@@ -310,6 +310,7 @@ module _ (e : PlainEdit) (issue : PlainIssue) (old new : PlainWorld) (c : Counts
       ];
       of_sheet = subst (λ (es : List PlainEdit). All (λ f. IsOfSheet new f) es) (sym c.counted) (All-push (λ (f : PlainEdit). IsOfSheet new f) old.counted e (λ k d l. sheet (get_or old.counted k d) (s.of_sheet k d l)) (sheet e may.of_sheet));
       layouts = λ q l. layouts_move e.process (Head e.cell) old new moves s q (rw (sym c.layout) l);
+      headers = headers_move e.process (Head e.cell) old new moves s.headers;
       increasing = rw c.counted (increasing_push old.counted e s.increasing may.below);
     };
   }

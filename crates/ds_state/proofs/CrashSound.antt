@@ -7,7 +7,10 @@ use Rattle.std.proofs.lemmas.Bool.Decides.{eqb_tells}
 use Rattle.ds_state.proofs.Outcomes.{kept, dropped}
 use Rattle.ds_layout.specs.declared.place.TheConstants.{RECORDS}
 use Rattle.ds_formula.specs.Limits.{TEXT_MOST}
-use Rattle.ds_layout.specs.declared.place.Place.TheVariants.{Head, Announce}
+use Rattle.ds_layout.specs.declared.layout.Layout.{Layout}
+use Rattle.ds_layout.specs.declared.place.Place.TheVariants.{Head, Announce, Header}
+use Rattle.ds_layout.specs.Announcement.{number_after}
+use Rattle.ds_state.specs.Headers.{IsSaid, SaysCell, HasCell}
 use Rattle.ds_layout.specs.declared.announcement.Phase.{Phase}
 use Rattle.ds_layout.specs.declared.announcement.Phase.TheVariants as phase
 use Rattle.ds_layout.specs.Places.{cells_of}
@@ -309,6 +312,17 @@ module _ (old new : PlainWorld) (sound : IsSound old) (crash : CrashesTo old new
   stopped_left p (Reporting e) h = through p e.next (ap old.open_edits (sym h.1.mine) ∙ h.1.rest.open_edits) (subst (λ (q : ℕ). IsAtRest old q e.next) h.1.mine h.1.rest)
   stopped_left p (Migrating e) h = doubt_left p (old.open_edits p) refl h.doubt
 
+  -- both sides of a header are the persisted one, which said that cell
+  headers_left : (q n : ℕ) → IsSaid new.memory q n → HasCell new q n
+  headers_left q n said =
+      let before : IsSaid old.memory q n = elim said [
+        | inl now ↦ inr (ap number_after (sym (crash.memory.cached (Announce q))) ∙ now)
+        | inr now ↦ inr (ap number_after (sym (crash.memory.persisted (Announce q))) ∙ now)
+      ] in
+      let h = sound.headers q n before in
+      let on : (word : ℕ) → word ≡ old.memory.persisted (Header q n) → SaysCell new.layout h.cell word = λ word same. subst (λ (l : Layout). SaysCell l h.cell word) (sym crash.layout) (subst (λ x. SaysCell old.layout h.cell x) (sym same) h.persisted) in
+      record { cell = h.cell; cached = on _ (crash.memory.cached (Header q n)); persisted = on _ (crash.memory.persisted (Header q n)) }
+
   pub crash_sound : IsSound new
   crash_sound = record {
     words = crash_words old new sound crash;
@@ -319,5 +333,6 @@ module _ (old new : PlainWorld) (sound : IsSound old) (crash : CrashesTo old new
     stand = crash_stands old new sound crash (leaves old new sound crash);
     of_sheet = crash_of_sheet old new sound crash;
     layouts = λ p l. subst (λ (s : Situation). LayoutFits new p s) (sym (crash.situation p (rw (sym crash.layout) l))) tt;
+    headers = headers_left;
     increasing = crash_increasing old new sound crash;
   }

@@ -9,11 +9,12 @@ use Rattle.ds_layout.specs.Bits.{IsSubset}
 use Rattle.ds_layout.proofs.OrBits.{IsSubset-same}
 use Rattle.ds_layout.proofs.PlaceCases.{place_cases}
 use Rattle.ds_state.specs.World.{PlainEdit, PlainIssue, PlainWorld, of_cell, head_after_all}
-use Rattle.ds_words.specs.Memory.{Memory}
 use Rattle.ds_state.specs.Owing.{IsApart, Splits}
 use Rattle.ds_layout.specs.Mark.{IsClean, IsHeldBy}
 use Rattle.ds_state.specs.Standing.{AllStand}
 use Rattle.ds_state.specs.CallsFit.{CallFits}
+use Rattle.ds_layout.specs.Announcement.{number_after}
+use Rattle.ds_state.specs.Headers.{SayNumber, IsSaid, SaysCell, HasCell}
 use Rattle.ds_state.specs.WordsFit.{IsKept, WordFits, RecordFits}
 use Rattle.ds_state.specs.Sound.{IsSound}
 use Rattle.ds_state.specs.Rely.{IsOwnedBy, KeepsHold, Grows, Bears, Rely, Keeps}
@@ -45,18 +46,19 @@ pub record MovesMark (p c v c' v' : ℕ) : Type 0 where
   pub persisted : v ≤ v'
   pub holds : (q : ℕ) → q ≢ p → KeepsHold q c v c' v'
 
--- how the sides of a word may move, from c and v to c' and v', in a step of the process
-abbrev pub MovesWord : Memory Place → ℕ → Place → ℕ → ℕ → ℕ → ℕ → Type 0
-MovesWord m p Version c v c' v' = Unit {0}
-MovesWord m p (Head cell) c v c' v' = (c ≤ c') × (v ≤ v')
-MovesWord m p (Mark cell) c v c' v' = MovesMark p c v c' v'
-MovesWord m p (Value cell) c v c' v' = IsHeldBy p (m.cached (Mark cell)) ⊎ CatchesUp c v c' v'
-MovesWord m p (Kind cell) c v c' v' = IsHeldBy p (m.cached (Mark cell)) ⊎ CatchesUp c v c' v'
-MovesWord m p (Index row part) c v c' v' = IsSubset c c' × IsSubset v v'
-MovesWord m p (Announce q) c v c' v' = (c ≤ c') × (v ≤ v') × ((q ≡ p) ⊎ CatchesUp c v c' v')
-MovesWord m p (Header q n) c v c' v' = (q ≡ p) ⊎ CatchesUp c v c' v'
-MovesWord m p (Text edition q n part) c v c' v' = (q ≡ p) ⊎ (CatchesUp c v c' v' ⊎ (seen_edition m ≡ edition → ⊥))
-MovesWord m p (Done q part) c v c' v' = IsSubset c c' × IsSubset v v'
+-- how the sides of a word may move, from c and v to c' and v', in a step of the process: what it announces has a header
+-- that says its cell, and it changes a header only while its number is not announced
+abbrev pub MovesWord : PlainWorld → ℕ → Place → ℕ → ℕ → ℕ → ℕ → Type 0
+MovesWord w p Version c v c' v' = Unit {0}
+MovesWord w p (Head cell) c v c' v' = (c ≤ c') × (v ≤ v')
+MovesWord w p (Mark cell) c v c' v' = MovesMark p c v c' v'
+MovesWord w p (Value cell) c v c' v' = IsHeldBy p (w.memory.cached (Mark cell)) ⊎ CatchesUp c v c' v'
+MovesWord w p (Kind cell) c v c' v' = IsHeldBy p (w.memory.cached (Mark cell)) ⊎ CatchesUp c v c' v'
+MovesWord w p (Index row part) c v c' v' = IsSubset c c' × IsSubset v v'
+MovesWord w p (Announce q) c v c' v' = (c ≤ c') × (v ≤ v') × (((q ≡ p) × ((number : ℕ) → SayNumber c' v' number → HasCell w q number)) ⊎ CatchesUp c v c' v')
+MovesWord w p (Header q n) c v c' v' = ((q ≡ p) × (IsSaid w.memory q n → ⊥)) ⊎ CatchesUp c v c' v'
+MovesWord w p (Text edition q n part) c v c' v' = (q ≡ p) ⊎ (CatchesUp c v c' v' ⊎ (seen_edition w.memory ≡ edition → ⊥))
+MovesWord w p (Done q part) c v c' v' = IsSubset c c' × IsSubset v v'
 
 -- a mark whose sides stay keeps each hold
 pub stays_hold : (q c v c' v' : ℕ) → c' ≡ c → v' ≡ v → KeepsHold q c v c' v'
@@ -65,7 +67,7 @@ stays_hold q c v c' v' a b = record { cached = λ h. omega arith; persisted = λ
 stays_subset : (a b : ℕ) → b ≡ a → IsSubset a b
 stays_subset a b e = subst (λ (x : ℕ). IsSubset a x) (sym e) (IsSubset-same a)
 
-pub stays_word : (m : Memory Place) (p : ℕ) (r : Place) (c v c' v' : ℕ) → c' ≡ c → v' ≡ v → MovesWord m p r c v c' v'
+pub stays_word : (m : PlainWorld) (p : ℕ) (r : Place) (c v c' v' : ℕ) → c' ≡ c → v' ≡ v → MovesWord m p r c v c' v'
 stays_word m p Version c v c' v' a b = tt
 stays_word m p (Head cell) c v c' v' a b = (omega arith, omega arith)
 stays_word m p (Mark cell) c v c' v' a b = record { cached = omega arith; persisted = omega arith; holds = λ q ne. stays_hold q c v c' v' a b }
@@ -124,7 +126,7 @@ pub record Moves (p : ℕ) (place : Place) (old new : PlainWorld) : Type 0 where
   pub layout : new.layout ≡ old.layout
   pub cached : (r : Place) → r ≢ place → new.memory.cached r ≡ old.memory.cached r
   pub persisted : (r : Place) → r ≢ place → new.memory.persisted r ≡ old.memory.persisted r
-  pub here : MovesWord old.memory p place (old.memory.cached place) (old.memory.persisted place) (new.memory.cached place) (new.memory.persisted place)
+  pub here : MovesWord old p place (old.memory.cached place) (old.memory.persisted place) (new.memory.cached place) (new.memory.persisted place)
   pub buffers : (q : ℕ) → q ≢ p → new.memory.buffer q ≡ old.memory.buffer q
   pub situations : (q : ℕ) → q ≢ p → new.situation q ≡ old.situation q
   pub pendings : (q : ℕ) → q ≢ p → new.open_edits q ≡ old.open_edits q
@@ -132,7 +134,7 @@ pub record Moves (p : ℕ) (place : Place) (old new : PlainWorld) : Type 0 where
   pub version : MovesVersion p old new
 
 abbrev pub Moved : ℕ → PlainWorld → PlainWorld → Place → Type 0
-Moved p old new r = MovesWord old.memory p r (old.memory.cached r) (old.memory.persisted r) (new.memory.cached r) (new.memory.persisted r)
+Moved p old new r = MovesWord old p r (old.memory.cached r) (old.memory.persisted r) (new.memory.cached r) (new.memory.persisted r)
 
 -- whoever may have the sides of this cell's head differ may still
 abbrev pub KeepsOwing : PlainWorld → PlainWorld → ℕ → Type 0
@@ -158,13 +160,13 @@ module _ (p : ℕ) (place : Place) (old new : PlainWorld) (m : Moves p place old
   pub each_moved : (r : Place) → Moved p old new r
   each_moved r = elim (place_cases r place) [
     | inl eq ↦ subst (λ (x : Place). Moved p old new x) (sym eq) m.here
-    | inr ne ↦ stays_word old.memory p r _ _ _ _ (m.cached r ne) (m.persisted r ne)
+    | inr ne ↦ stays_word old p r _ _ _ _ (m.cached r ne) (m.persisted r ne)
   ]
 
   -- a word of another process's own
   pub owned_catches : (q : ℕ) → q ≢ p → (r : Place) → IsOwnedBy old.memory q r → CatchesUp (old.memory.cached r) (old.memory.persisted r) (new.memory.cached r) (new.memory.persisted r)
-  owned_catches q ne (Announce x) own = elim (each_moved (Announce x)).2 [ inl mine ↦ absurd (ne (sym own ∙ mine)) | inr up ↦ up ]
-  owned_catches q ne (Header x n) own = elim (each_moved (Header x n)) [ inl mine ↦ absurd (ne (sym own ∙ mine)) | inr up ↦ up ]
+  owned_catches q ne (Announce x) own = elim (each_moved (Announce x)).2 [ inl mine ↦ absurd (ne (sym own ∙ mine.0)) | inr up ↦ up ]
+  owned_catches q ne (Header x n) own = elim (each_moved (Header x n)) [ inl mine ↦ absurd (ne (sym own ∙ mine.0)) | inr up ↦ up ]
   owned_catches q ne (Text edition x n part) own = elim (each_moved (Text edition x n part)) [ inl mine ↦ absurd (ne (sym own.0 ∙ mine)) | inr other ↦ elim other [ inl up ↦ up | inr unseen ↦ absurd (unseen own.1) ] ]
   owned_catches q ne Version own = absurd own
   owned_catches q ne (Head x) own = absurd own
@@ -173,6 +175,42 @@ module _ (p : ℕ) (place : Place) (old new : PlainWorld) (m : Moves p place old
   owned_catches q ne (Kind x) own = elim (each_moved (Kind x)) [ inl mine ↦ absurd (ne (one_holder _ p q mine own)) | inr up ↦ up ]
   owned_catches q ne (Index x n) own = absurd own
   owned_catches q ne (Done x n) own = absurd own
+
+-- a number that is said where words caught up was said before
+pub said_back : (c v c' v' number : ℕ) → CatchesUp c v c' v' → SayNumber c' v' number → SayNumber c v number
+said_back c v c' v' number up (inl now) = inl (ap number_after (sym up.0) ∙ now)
+said_back c v c' v' number up (inr now) = elim up.1 [ inl same ↦ inr (ap number_after (sym same) ∙ now) | inr caught ↦ inl (ap number_after (sym caught) ∙ now) ]
+
+-- a header's cell stays where its sides at most catch up
+pub cell_stays : (old new : PlainWorld) (q n : ℕ) → new.layout ≡ old.layout → CatchesUp (old.memory.cached (Header q n)) (old.memory.persisted (Header q n)) (new.memory.cached (Header q n)) (new.memory.persisted (Header q n)) → HasCell old q n → HasCell new q n
+cell_stays old new q n layout up h =
+    let on : (word word' : ℕ) → word' ≡ word → SaysCell old.layout h.cell word → SaysCell new.layout h.cell word' = λ word word' same s. subst (λ (l : _). SaysCell l h.cell word') (sym layout) (subst (λ x. SaysCell old.layout h.cell x) (sym same) s) in
+    record {
+      cell = h.cell;
+      cached = on _ _ up.0 h.cached;
+      persisted = elim up.1 [ inl same ↦ on _ _ same h.persisted | inr caught ↦ on _ _ caught h.cached ];
+    }
+
+module _ (p : ℕ) (place : Place) (old new : PlainWorld) (m : Moves p place old new) (headers : (q n : ℕ) → IsSaid old.memory q n → HasCell old q n) where
+  apart_header : (q n : ℕ) → Announce q ≡ place → Header q n ≢ place
+  apart_header q n at is = let bad : Announce q ≡ Header q n = at ∙ sym is in cc
+
+  -- the header of each record whose number is announced says one cell, as before
+  pub headers_move : (q n : ℕ) → IsSaid new.memory q n → HasCell new q n
+  headers_move q n said = elim (place_cases (Announce q) place) [
+    | inl eq ↦ (
+        let still : HasCell old q n → HasCell new q n = cell_stays old new q n m.layout (m.cached (Header q n) (apart_header q n eq), inl (m.persisted (Header q n) (apart_header q n eq))) in
+        elim (each_moved p place old new m (Announce q)).2 [
+          | inl mine ↦ still (mine.1 n said)
+          | inr up ↦ still (headers q n (said_back _ _ _ _ n up said))
+        ])
+    | inr ne ↦ (
+        let was : IsSaid old.memory q n = said_back _ _ _ _ n (m.cached (Announce q) ne, inl (m.persisted (Announce q) ne)) said in
+        elim (each_moved p place old new m (Header q n)) [
+          | inl mine ↦ absurd (mine.1 was)
+          | inr up ↦ cell_stays old new q n m.layout up (headers q n was)
+        ])
+  ]
 
 -- what a side says after a step, it said before
 pub shown_back : (old new : PlainWorld) → CatchesUp (old.memory.cached Version) (old.memory.persisted Version) (new.memory.cached Version) (new.memory.persisted Version) → (edition : Edition) → Shows new.memory edition → Shows old.memory edition
@@ -430,6 +468,7 @@ module _ (p : ℕ) (place : Place) (old new : PlainWorld) (m : Moves p place old
         | inr ne ↦ rw (m.situations q ne) (call_stable old new q (old.situation q) (rely_other b q ne) (s.layouts q (rw (sym m.layout) l)) (s.calls q (rw (sym m.layout) l)))
       ];
       layouts = λ q l. layouts_move p place old new m s q (rw (sym m.layout) l);
+      headers = headers_move p place old new m s.headers;
       of_sheet = rw (same) (λ k d l. let h = s.of_sheet k d l in record { process = rw m.layout h.process; number = h.number; cell = rw m.layout h.cell; text = h.text; short = λ now. h.short (first_shown p place old new m now) });
       increasing = rw same s.increasing;
     };

@@ -27,6 +27,7 @@ pub mod Middles
 pub mod Noted
 pub mod Underway
 pub mod Spent
+pub mod Saying
 pub mod Leaves
 pub mod Outcomes
 pub mod Dones

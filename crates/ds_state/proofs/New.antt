@@ -121,5 +121,6 @@ new_sound w is =
       });
       of_sheet = none_in (λ e. IsOfSheet w e) w.counted is.counted;
       layouts = λ p l. subst (λ (s : Situation). LayoutFits w p s) (sym (is.situation p l)) (record { cached = reads_back is.edition _ fresh.seen; persisted = reads_back is.edition _ fresh.kept });
+      headers = λ p n said. absurd (let c = fresh.cached (Announce p) (λ x. cc) in let v = fresh.persisted (Announce p) (λ x. cc) in elim said [ inl now ↦ omega (arith, c, now) | inr now ↦ omega (arith, v, now) ]);
       increasing = subst Increasing (sym is.counted) tt;
     }

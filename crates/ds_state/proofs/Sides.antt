@@ -2,7 +2,7 @@
 use Rattle.std.proofs.Common.{ℕ, ◌≡◌, ◌≤◌, ◌/◌, ◌⊎◌, max, refl, sym, ◌∙◌, subst, arith, inl, inr}
 use Rattle.std.specs.Prelude.{bit_or}
 use Rattle.std.proofs.lemmas.Bool.{cases_eq}
-use Rattle.ds_words.specs.Memory.{Memory, newer}
+use Rattle.ds_words.specs.Memory.{newer}
 use Rattle.ds_layout.specs.declared.layout.Layout.{Layout}
 use Rattle.ds_layout.specs.Places.{class_of}
 use Rattle.ds_layout.specs.declared.place.Place.{Place}
@@ -74,7 +74,7 @@ module _ (w : PlainWorld) (small : Small w.counted) where
   cached_between (Text edition q n part) c v h = inr refl
   cached_between (Done q part) c v h = (h.sides, IsSubset-same c)
 
-  pub between_moves : (m : Memory Place) (p : ℕ) (r : Place) (c v v' : ℕ) → WordFits w r c v → IsBetween w.layout r c v v' → MovesWord m p r c v c v'
+  pub between_moves : (m : PlainWorld) (p : ℕ) (r : Place) (c v v' : ℕ) → WordFits w r c v → IsBetween w.layout r c v v' → MovesWord m p r c v c v'
   between_moves m p Version c v v' h b = tt
   between_moves m p (Head cell) c v v' h b =
       let most = persisted_most w (of_cell cell w.counted) c v (small_of_cell cell w.counted small) h.last h.sides in

@@ -1,13 +1,16 @@
 -- What a recovery knows stays while others step.
-use Rattle.std.proofs.Common.{ℕ, ◌≡◌, ◌≢◌, ◌+◌, ◌⊎◌, List, [], ◌∷◌, ◌++◌, refl, ap, sym, ◌∙◌, subst, arith, append_assoc, inl, inr, Some, None, true, false}
+use Rattle.std.proofs.Common.{ℕ, ◌≡◌, ◌≢◌, ◌+◌, ◌-◌, ◌⊎◌, List, [], ◌∷◌, ◌++◌, refl, ap, sym, ◌∙◌, subst, arith, append_assoc, inl, inr, Some, None, true, false}
 use Rattle.std.specs.Prelude.{Bool}
 use Rattle.ds_layout.specs.declared.place.Place.{Place}
-use Rattle.ds_layout.specs.declared.place.Place.TheVariants.{Version, Mark, Value, Kind, Announce}
+use Rattle.ds_layout.specs.declared.place.Place.TheVariants.{Version, Mark, Value, Kind, Announce, Header}
+use Rattle.ds_layout.specs.Announcement.{number_after}
+use Rattle.ds_layout.specs.declared.layout.Layout.{Layout}
+use Rattle.ds_state.specs.Headers.{SaysCell}
 use Rattle.ds_state.specs.World.{PlainEdit, PlainIssue, PlainWorld, of_cell}
 use Rattle.ds_state.specs.Known.{AreBelow, IsIn}
 use Rattle.ds_state.specs.Owing.{entry}
 use Rattle.ds_layout.specs.Mark.{IsHeldBy, marked}
-use Rattle.ds_state.specs.KnownRecovery.{Freed, before, holding, value_back, both_back, outrun, all_free, HoldsFrom, Holding, FreedFits, Resolved, unknown, noted, doubted, is_head, not_head, settled, said, over, SettledAs, IsPassed, IsOpen, IsOpenAnd, ResolvedFits, RecoveryHeld, empty, the_value, both_words, the_kind, a_mark, a_head, the_outcome, the_version, value_now, kind_now, RecoveryHolds, freed_at, recovery_held}
+use Rattle.ds_state.specs.KnownRecovery.{Freed, before, holding, value_back, both_back, outrun, all_free, HoldsFrom, Holding, FreedFits, Resolved, unknown, noted, doubted, is_head, not_head, settled, said, over, SettledAs, IsPassed, IsOpen, IsOpenAnd, IsHeadersCell, ResolvedFits, RecoveryHeld, empty, the_value, both_words, the_kind, a_mark, a_head, the_outcome, the_version, value_now, kind_now, RecoveryHolds, freed_at, recovery_held}
 use Rattle.ds_state.specs.declared.spread.Spread.TheVariants.{LoadRow, OrTold, FlushTold, BackTold}
 use Rattle.ds_state.specs.declared.recovery.RecoverStage.{RecoverStage}
 use Rattle.ds_state.specs.declared.recovery.RecoverStage.TheVariants as stages
@@ -53,6 +56,12 @@ module _ (old new : PlainWorld) (p : ℕ) (g : Grows p Version old new) where
   announce_kept : (word : ℕ) → old.memory.cached (Announce p) ≡ word → old.memory.persisted (Announce p) ≡ word → new.memory.persisted (Announce p) ≡ word
   announce_kept word a b = elim (g.owned_persisted (Announce p) refl (λ x. cc)) [ inl same ↦ same ∙ b | inr up ↦ up ∙ a ]
 
+  -- a header that it has read stays
+  header_stable : (word cell : ℕ) → IsHeadersCell old p word cell → IsHeadersCell new p word cell
+  header_stable word cell h =
+      let n : ℕ = number_after word - 1 in
+      subst (λ (l : Layout). SaysCell l cell (new.memory.cached (Header p n))) (sym g.layout) (subst (λ x. SaysCell old.layout cell x) (sym (g.owned_cached (Header p n) refl (λ x. cc))) h)
+
   module _ (pending : new.open_edits p ≡ old.open_edits p) where
     open_stable : (word : ℕ) (issue : PlainIssue) → IsOpen old p word issue → IsOpen new p word issue
     open_stable word issue h = record { issued = pending ∙ h.issued; process = h.process; number = h.number; is = h.is; cached = announce_same ∙ h.cached }
@@ -93,8 +102,8 @@ module _ (old new : PlainWorld) (p : ℕ) (g : Grows p Version old new) where
           | inr o ↦ inr (passed_stable f o.0, below_stable f.process Version old new (grows_at f same) (f.number + 1) o.1)
         ]) h
     resolved_stable word cell (settled how) h = and_stable word cell (λ f. SettledAs old f how) (λ f. SettledAs new f how) (settled_stable how) h
-    resolved_stable word cell (said how) h = (announce_same ∙ h.0, h.1, λ issue is. h.2 issue (sym pending ∙ is))
-    resolved_stable word cell (over (Some how)) h = (announce_same ∙ h.0, announce_kept word h.0 h.1, h.2, λ issue is. h.3 issue (sym pending ∙ is))
+    resolved_stable word cell (said how) h = (announce_same ∙ h.0, h.1, header_stable word cell h.2)
+    resolved_stable word cell (over (Some how)) h = (announce_same ∙ h.0, announce_kept word h.0 h.1, h.2, header_stable word cell h.3)
     resolved_stable word cell (over None) h = (announce_same ∙ h.0, announce_kept word h.0 h.1, h.2)
 
     -- the words in the buffer are those of a cell that it holds

@@ -1,5 +1,5 @@
 -- What a recovery knows at each of its stages, and what its buffer holds.
-use Rattle.std.specs.Prelude.{ℕ, ◌≡◌, ◌<◌, ◌≤◌, ◌+◌, ◌⊎◌, List, [], ◌∷◌, ◌++◌, Option, Some, None, Bool, true, false}
+use Rattle.std.specs.Prelude.{ℕ, ◌≡◌, ◌<◌, ◌≤◌, ◌+◌, ◌-◌, ◌⊎◌, List, [], ◌∷◌, ◌++◌, Option, Some, None, Bool, true, false}
 use Rattle.ds_layout.specs.declared.place.TheConstants.{RECORDS}
 use Rattle.ds_layout.specs.declared.place.Place.TheVariants as place
 use Rattle.ds_layout.specs.declared.announcement.Phase.{Phase}
@@ -14,6 +14,7 @@ use Rattle.ds_state.specs.Known.{AreBelow, IsIn, IsSafelyIn}
 use Rattle.ds_state.specs.Owing.{entry, HoldsNone}
 use Rattle.ds_layout.specs.Announcement.{number_after}
 use Rattle.ds_layout.specs.Mark.{IsHeldBy, tenure, marked}
+use Rattle.ds_state.specs.Headers.{SaysCell}
 use Rattle.ds_state.specs.KnownWork.{HasMark}
 use Rattle.ds_state.specs.declared.recovery.RecoverStage.{RecoverStage}
 use Rattle.ds_state.specs.declared.recovery.RecoverStage.TheVariants.{LoadVersion, FlushVersion, BackVersion, LoadMark, FlushValue, FlushKind, BackValue, BackKind, Telling, Give, GiveDirty, FlushGiven, BackGiven, LoadHeader, LoadHead, FlushHead, BackHead, LoadDone, OrMark, FlushMark, BackMark, StoreOutcome, FlushOutcome, BackOutcome, Answer}
@@ -125,9 +126,9 @@ pub record IsPassed (w : PlainWorld) (e : PlainEdit) : Type 0 where
   pub after : List PlainEdit
   pub parts : of_cell e.cell w.counted ≡ before ++ e ∷ next ∷ after
 
--- the cell is that of the edit in doubt, where the word announces that edit
-abbrev pub IsItsCell : PlainWorld → ℕ → ℕ → ℕ → Type 0
-IsItsCell w p word cell = (issue : PlainIssue) → w.open_edits p ≡ Some issue → issue.edit.number + 1 ≡ number_after word → issue.edit.cell ≡ cell
+-- the header of the record whose number the word announces says this cell of the sheet, as processes see it
+abbrev pub IsHeadersCell : PlainWorld → ℕ → ℕ → ℕ → Type 0
+IsHeadersCell w p word cell = SaysCell w.layout cell (w.memory.cached (place.Header p (number_after word - 1)))
 
 -- the edit in doubt, which is announced as pending by the word
 pub record IsOpen (w : PlainWorld) (p word : ℕ) (issue : PlainIssue) : Type 0 where
@@ -152,8 +153,8 @@ ResolvedFits w p word cell doubted = IsOpenAnd w p word cell (λ f. Unit {0})
 ResolvedFits w p word cell is_head = IsOpenAnd w p word cell (λ f. (own : ℕ) × IsIn w f own)
 ResolvedFits w p word cell not_head = IsOpenAnd w p word cell (λ f. AreBelow w f.process f.number ⊎ (IsPassed w f × AreBelow w f.process (f.number + 1)))
 ResolvedFits w p word cell (settled how) = IsOpenAnd w p word cell (λ f. SettledAs w f how)
-ResolvedFits w p word cell (said how) = (w.memory.cached (place.Announce p) ≡ word) × Tells word how × IsItsCell w p word cell
-ResolvedFits w p word cell (over (Some how)) = (w.memory.cached (place.Announce p) ≡ word) × (w.memory.persisted (place.Announce p) ≡ word) × Tells word how × IsItsCell w p word cell
+ResolvedFits w p word cell (said how) = (w.memory.cached (place.Announce p) ≡ word) × Tells word how × IsHeadersCell w p word cell
+ResolvedFits w p word cell (over (Some how)) = (w.memory.cached (place.Announce p) ≡ word) × (w.memory.persisted (place.Announce p) ≡ word) × Tells word how × IsHeadersCell w p word cell
 ResolvedFits w p word cell (over None) = (w.memory.cached (place.Announce p) ≡ word) × (w.memory.persisted (place.Announce p) ≡ word) × (word ≡ 0)
 
 -- what a recovery's buffer holds: nothing; value, kind or both of the cell that it frees; a mark; a head; its

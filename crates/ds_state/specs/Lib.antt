@@ -17,6 +17,7 @@ pub mod KnownRecovery
 pub mod CallsFit
 pub mod WordsFit
 pub mod LayoutsFit
+pub mod Headers
 pub mod Sound
 pub mod Calm
 pub mod Rely

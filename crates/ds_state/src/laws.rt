@@ -19,6 +19,7 @@ ghost use Rattle.ds_state.specs.Middles.{Middle, Middles};
 ghost use Rattle.ds_state.specs.Leaves.{Leaves};
 ghost use Rattle.ds_state.specs.Works.{PlainReportCall};
 ghost use Rattle.ds_state.specs.Spent.{IsSpent};
+ghost use Rattle.ds_state.specs.Headers.{IsSaid, HasCell};
 ghost use Rattle.ds_state.specs.Edits.{PlainEditCall};
 ghost use Rattle.ds_state.specs.declared.stage.Outcome.{Outcome};
 ghost use Rattle.ds_state.specs.declared.stage.Stage.TheVariants.{Swap, Answer};
@@ -98,6 +99,12 @@ pub fn spent_numbers_stay()
         → (q n : ℕ) → IsSpent old q n → IsSpent new q n }
     ensures crashed { (old new : PlainWorld) → CrashesTo old new
         → (q n : ℕ) → IsSpent old q n → IsSpent new q n }
+{}
+
+/// Where a side of a process's announcement says a number, in any phase, both sides of the header of
+/// that record say one and the same cell of the sheet, also where that edit does not count.
+pub fn announced_edits_have_their_cell()
+    ensures { (w : PlainWorld) (p number : ℕ) → IsSound w → IsSaid w.memory p number → HasCell w p number }
 {}
 
 /// An edit that may come to count with its next step has no spent number, and one that is answered

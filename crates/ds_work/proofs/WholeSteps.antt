@@ -61,7 +61,7 @@ module _ (p : ℕ) (e : PlainWorkCall) (changed : Bool) (old new : PlainWorld) (
   free : (q : ℕ) → IsHeldBy q (freed_after e.mark) → ⊥
   free q by = omega arith
 
-  moved : MovesWord old.memory p (Mark e.cell) (old.memory.cached (Mark e.cell)) (old.memory.persisted (Mark e.cell)) (freed_after e.mark) (old.memory.persisted (Mark e.cell))
+  moved : MovesWord old p (Mark e.cell) (old.memory.cached (Mark e.cell)) (old.memory.persisted (Mark e.cell)) (freed_after e.mark) (old.memory.persisted (Mark e.cell))
   moved =
       let by = fits.knows.hold.claim.by in
       let mine = fits.mine in

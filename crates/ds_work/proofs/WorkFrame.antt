@@ -189,7 +189,7 @@ module _ (e : PlainWorkCall) (s : WorkStage) (f : PlainWorkCall) (old new : Plai
 
   -- a word is stored
   pub stores : (place : Place) (v : ℕ) → Announce e.process ≢ place → Version ≢ place
-      → MovesWord old.memory e.process place (old.memory.cached place) (old.memory.persisted place) v (old.memory.persisted place)
+      → MovesWord old e.process place (old.memory.cached place) (old.memory.persisted place) v (old.memory.persisted place)
       → (m : StoresAt place v old.memory new.memory)
       → ((moves : Moves e.process place old new) → Mine e.process place old new moves) → ((moves : Moves e.process place old new) → Mine e.process place old new moves → MyMarks e.process place old new moves)
       → (WorkParts s → IsHeld old.memory e.process e.cell → IsHeld new.memory e.process e.cell) → PartsPass
