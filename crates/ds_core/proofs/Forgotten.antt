@@ -43,6 +43,7 @@ use Rattle.ds_core.specs.declared.event.Event.{Event}
 use Rattle.ds_core.specs.declared.event.Event.TheVariants.{BeginEdit, Step}
 use Rattle.ds_core.specs.declared.reply.Reply.{Reply}
 use Rattle.ds_core.specs.declared.reply.Reply.TheVariants.{Begun, Answered}
+use Rattle.ds_core.proofs.Replied.{replied}
 use Rattle.ds_core.proofs.Did as did_so
 use Rattle.ds_core.proofs.Did.{Did, did, nothing, edit_begins, work_begins, report_begins, recovery_begins, migration_begins, offers, evicts, stops, crashes}
 use Rattle.ds_core.proofs.Moved.{Moved, WasOpen, TellsOn, moved, none_some, put_here}
@@ -145,7 +146,7 @@ migration_recovers_not (turns.Answers e) end is = absurd (cc)
 
 recovers : (old new : WorldValue) (p : ℕ) (end : RecoveryEnd) → StepsBy old p (Answered (Recovery end)) new → RecoveryStepsBy old p (Answered (Recovery end)) new
 recovers old new p end (recoveries h) = h
-recovers old new p end (edits h) = absurd (let found = some_outcome old.sheet.layout.processes h.edit.number (Recovery end) (outcome_at h.edit.stage) h.is in edit_recovers_not old.sheet.layout.processes h.edit.number end found.0 found.2)
+recovers old new p end (edits h) = absurd (let found = some_outcome old.sheet.layout.processes h.steps.edit.number (Recovery end) (outcome_at h.steps.edit.stage) (replied old new p (Answered (Recovery end)) h) in edit_recovers_not old.sheet.layout.processes h.steps.edit.number end found.0 found.2)
 recovers old new p end (works h) = absurd (work_recovers_not h.what end h.is)
 recovers old new p end (reports h) = absurd (report_recovers_not h.what end h.is)
 recovers old new p end (migrations h) = absurd (migration_recovers_not h.what end h.is)

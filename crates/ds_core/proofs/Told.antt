@@ -35,7 +35,7 @@ pub record IsTold (es : List Placed) (w : PlainWorld) (p : ℕ) (c : Closed) : T
 abbrev pub Announces : PlainWorld → ℕ → Option Closed → Type 0
 Announces w p told = w.memory.cached (Announce p) / 4 ≡ next_number told
 
--- the words tell what the ledger has of closed edits: cells, numbers, announcements, what recoveries have seen
+-- the words tell what the ledger has of closed edits: cells, numbers, announcements
 pub record Tells (l : Ledger) (v : WorldValue) : Type 0 where
   pub told : (p : ℕ) (c : Closed) → l.told p ≡ Some c → IsTold l.counted (world_of v) p c
   pub opens : (p : ℕ) (issue : PlainIssue) → (world_of v).open_edits p ≡ Some issue → issue.edit.number ≡ next_number (l.told p)

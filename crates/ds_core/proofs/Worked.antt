@@ -74,6 +74,7 @@ use Rattle.ds_core.specs.declared.event.Event.{Event}
 use Rattle.ds_core.specs.declared.event.Event.TheVariants.{BeginEdit, BeginWork, BeginReport, BeginRecover, BeginMigrate, Step, Offer, Evict, Stop}
 use Rattle.ds_core.specs.declared.reply.Reply.{Reply}
 use Rattle.ds_core.specs.declared.reply.Reply.TheVariants.{Begun, Entered, Stepped, Answered, Evicted, Stopped}
+use Rattle.ds_core.proofs.Replied.{replied}
 use Rattle.ds_core.proofs.Did as did_so
 use Rattle.ds_core.proofs.Did.{Did, did, nothing, edit_begins, work_begins, report_begins, recovery_begins, migration_begins, offers, evicts, stops, crashes}
 use Rattle.ds_core.proofs.NewIdle.{new_idle}
@@ -323,7 +324,7 @@ module _ (p : ℕ) (old new : WorldValue) (good : IsGood old) (low : p < old.she
   by _ _ (report_begins q h) = by_turn (BeginReport q) Entered q h.begun.begins.others (λ e is. let bad : Reporting _ ≡ Working e = sym h.begun.begins.situation ∙ is in cc)
   by _ _ (recovery_begins q h) = by_turn (BeginRecover q) Entered q h.begun.begins.others (λ e is. let bad : Recovering _ ≡ Working e = sym h.begun.begins.situation ∙ is in cc)
   by _ _ (migration_begins q h) = by_turn (BeginMigrate q) Entered q h.begun.others (λ e is. let bad : Migrating _ ≡ Working e = sym h.begun.situation ∙ is in cc)
-  by _ _ (did_so.steps q reply is (edits h)) = by_turn (Step q) reply h.edit.process h.steps.others (λ e at. edit_after h.edit h.edit.stage h.word e (sym h.steps.situation ∙ at))
+  by _ _ (did_so.steps q reply is (edits h)) = by_turn (Step q) reply h.steps.edit.process h.steps.steps.others (λ e at. edit_after h.steps.edit h.steps.edit.stage h.steps.word e (sym h.steps.steps.situation ∙ at))
   by _ _ (did_so.steps q reply is (works h)) = by_work q reply h
   by _ _ (did_so.steps q reply is (reports h)) = by_turn (Step q) reply q (report_turn old new q reply good.sound h).others (report_after q reply h)
   by _ _ (did_so.steps q reply is (recoveries h)) = by_turn (Step q) reply q (recovery_turn old new q reply good.sound h).others (recovery_after q reply h)
@@ -541,7 +542,7 @@ module _ (old : WorldValue) (events : List Event) (replies : List Reply) (new : 
   answer_at k p end e what (taken.answers ended at_answer t) is = let same : ended ≡ end = cc in at_answer ∙ ap (λ x. Answer x) same
 
   by_steps : (k p : ℕ) (end : WorkEnd) → k ≤ length events → StepsBy (at_moment k) p (Answered (Work end)) (at_moment (k + 1)) → HasCause run.moment events replies k p end
-  by_steps k p end lt (edits h) = absurd (let found = some_outcome (at_moment k).sheet.layout.processes h.edit.number (Work end) (outcome_at h.edit.stage) h.is in edit_works_not (at_moment k).sheet.layout.processes h.edit.number end found.0 found.2)
+  by_steps k p end lt (edits h) = absurd (let found = some_outcome (at_moment k).sheet.layout.processes h.steps.edit.number (Work end) (outcome_at h.steps.edit.stage) (replied (at_moment k) (at_moment (k + 1)) p (Answered (Work end)) h) in edit_works_not (at_moment k).sheet.layout.processes h.steps.edit.number end found.0 found.2)
   by_steps k p end lt (reports h) = absurd (report_works_not h.what end h.is)
   by_steps k p end lt (recoveries h) = absurd (recovery_works_not h.what end h.is)
   by_steps k p end lt (migrations h) = absurd (migration_works_not h.what end h.is)
