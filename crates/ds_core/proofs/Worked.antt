@@ -1,7 +1,7 @@
 -- What a run's works answer is true of the worlds of their calls.
-use Rattle.std.proofs.Common.{ℕ, ◌≡◌, ◌≢◌, ◌<◌, ◌≤◌, ◌+◌, ◌-◌, ◌/◌, ◌%◌, ◌^◌, ◌==◌, ◌⊎◌, List, [], ◌∷◌, ◌++◌, refl, ap, sym, ◌∙◌, subst, arith, inl, inr, zero, suc, length, take, Bool, true, false, if◌then◌else◌, nat_lt, Option, Some, None}
+use Rattle.std.proofs.Common.{ℕ, ◌≡◌, ◌≢◌, ◌<◌, ◌≤◌, ◌+◌, ◌-◌, ◌*◌, ◌/◌, ◌%◌, ◌^◌, ◌==◌, ◌⊎◌, List, [], ◌∷◌, ◌++◌, refl, ap, sym, ◌∙◌, subst, arith, inl, inr, zero, suc, length, take, Bool, true, false, if◌then◌else◌, nat_lt, Option, Some, None}
 use Rattle.std.specs.Prelude.{◌&&◌}
-use Rattle.std.proofs.lemmas.Bool.{cases_eq, cases_lt, eqb-false, ltb-true}
+use Rattle.std.proofs.lemmas.Bool.{cases_eq, cases_lt, eqb-true, eqb-false, ne_eqb, lt-ltb, ltb-true}
 use Rattle.std.proofs.lemmas.List.{get_or_past}
 use Rattle.ds_formula.specs.Cells.{index_of}
 use Rattle.ds_formula.specs.declared.cells.Cell.{Cell}
@@ -15,7 +15,7 @@ use Rattle.ds_layout.specs.declared.mark.State.TheVariants.{Clean, Marked, Held}
 use Rattle.ds_layout.specs.declared.place.Place.TheVariants as place
 use Rattle.ds_layout.specs.Head.{head_of}
 use Rattle.ds_layout.specs.Header.{header_of}
-use Rattle.ds_layout.specs.Mark.{IsHeldBy, holder_of, present, state_by, mark_of, state_of, generation_of, held_after}
+use Rattle.ds_layout.specs.Mark.{IsHeldBy, holder_of, present, state_by, mark_of, state_of, generation_of, held_after, freed_after, dirtied}
 use Rattle.ds_layout.specs.SheetMemory.{PerformsAt}
 use Rattle.ds_layout.specs.TextWords.{bytes_of}
 use Rattle.ds_state.specs.Edits.{PlainEditCall}
@@ -25,7 +25,7 @@ use Rattle.ds_state.specs.Owing.{HoldsNone}
 use Rattle.ds_state.specs.Shown.{header_in}
 use Rattle.ds_state.specs.Standing.{shown_entry, value_for, word_for}
 use Rattle.ds_state.specs.Telling.{told_from}
-use Rattle.ds_state.specs.KnownWork.{WorkFits, HoldFits, work_known}
+use Rattle.ds_state.specs.KnownWork.{WorkFits, HoldFits, HasHeld, work_known}
 use Rattle.ds_state.specs.CallsFit.{CallFits}
 use Rattle.ds_state.specs.Value.{first_rest, WorldValue, world_of, IsGood}
 use Rattle.ds_state.specs.EditEndings.{end_of as end_by, outcome_at}
@@ -64,7 +64,7 @@ use Rattle.ds_work.proofs.Next.{next_noted}
 use Rattle.ds_work.proofs.WorkAlone.{after_on}
 use Rattle.ds_core.specs.Moments.{Moment, empty_ledger}
 use Rattle.ds_core.specs.Takes.{Takes}
-use Rattle.ds_core.specs.Headline.{Happens, mark_then, state_then, WasSo, CauseFits, HasCause, WorksFit}
+use Rattle.ds_core.specs.Headline.{Happens, mark_then, state_then, WasSo, WasLetGo, CauseFits, HasCause, WorksFit}
 use Rattle.ds_core.specs.StepEvents.{StepsBy, edits, works, reports, recoveries, migrations}
 use Rattle.ds_core.specs.WorkEvents.{work_reply, WorkStepsBy, WorkBegins, TakesEntry}
 use Rattle.ds_core.specs.ReportEvents.{report_reply, ReportStepsBy}
@@ -111,11 +111,12 @@ between_if false x y h k = k
 
 -- ---- one step of it
 
--- the ends that say nothing of a moment
-record AreFree (F : WorkEnd → Type 0) : Type 0 where
-  published : (changed : Bool) → F (Published changed)
-  again : F Again
-  memory : F NoMemory
+-- what the swaps tell that let the cell go, where they win
+record LetsGo (F : WorkEnd → Type 0) (e : PlainWorkCall) (word : ℕ) (s : WorkStage) : Type 0 where
+  published : (changed : Bool) → s ≡ Clear changed → word ≡ e.mark → F (Published changed)
+  again : s ≡ ClearDirty → F Again
+  given : s ≡ Give → word ≡ e.mark → F NoMemory
+  given_dirty : s ≡ GiveDirty → F NoMemory
 
 -- what the mark says that it loads
 record Loads (D : ℕ → Type 0) (F : WorkEnd → Type 0) (e : PlainWorkCall) (word : ℕ) : Type 0 where
@@ -124,7 +125,7 @@ record Loads (D : ℕ → Type 0) (F : WorkEnd → Type 0) (e : PlainWorkCall) (
   marked : state_of (mark_of e.processes word) ≡ Marked → D word
   worn : state_of (mark_of e.processes word) ≡ Marked → SEEN_MOST < generation_of word → F Worn
 
-module _ (C D : ℕ → Type 0) (E F : WorkEnd → Type 0) (e : PlainWorkCall) (word : ℕ) (on : (end : WorkEnd) → E end → F end) (free : AreFree F) where
+module _ (C D : ℕ → Type 0) (E F : WorkEnd → Type 0) (e : PlainWorkCall) (word : ℕ) (on : (end : WorkEnd) → E end → F end) where
   abbrev Has : PlainWorkCall → Type 0
   Has f = Knows D F f.mark f.stage
 
@@ -145,6 +146,10 @@ module _ (C D : ℕ → Type 0) (E F : WorkEnd → Type 0) (e : PlainWorkCall) (
   by_claim true is h lost = tt
   by_claim false is h lost = lost h (eqb-false word e.mark is)
 
+  by_swap : (b : Bool) → (word == e.mark) ≡ b → (end : WorkEnd) (s : WorkStage) → (word ≡ e.mark → F end) → Has (at e s) → Has (if b then at e (FlushCleared end) else at e s)
+  by_swap true is end s h k = h (eqb-true word e.mark is)
+  by_swap false is end s h k = k
+
   by_head : (o : Option Head) → Has (head_from e word o)
   by_head None = tt
   by_head (Some head) = tt
@@ -157,26 +162,26 @@ module _ (C D : ℕ → Type 0) (E F : WorkEnd → Type 0) (e : PlainWorkCall) (
   by_told f None = tt
   by_told f (Some cell) = tt
 
-  next_knows : (s : WorkStage) → Knows C E e.mark s → (s ≡ LoadMark → Loads D F e word) → (s ≡ Claim → C e.mark → word ≢ e.mark → F Missed) → Has (next_at e s word)
-  next_knows LoadMark h loads lost = by_state (state_of (mark_of e.processes word)) refl (loads refl)
-  next_knows Claim h loads lost = by_claim (word == e.mark) refl h (lost refl)
-  next_knows LoadHead h loads lost = by_head (head_of e.processes word)
-  next_knows LoadHeader h loads lost = by_header (header_in e.edition (header_of e.cells word))
-  next_knows (LoadText part) h loads lost = either (nat_lt (part + 1) ((e.length + 7) / 8)) (record e { text = take e.length (e.text ++ bytes_of word); stage = LoadText (part + 1) }) (record e { text = take e.length (e.text ++ bytes_of word); stage = Read }) tt tt
-  next_knows (LoadKind i value) h loads lost = either (nat_lt (i + 1) (length (with_entry e.inputs i (shown_entry e.cells value word)))) (record e { inputs = with_entry e.inputs i (shown_entry e.cells value word); stage = LoadValue (i + 1) }) (record e { inputs = with_entry e.inputs i (shown_entry e.cells value word); stage = LoadOwnValue }) tt tt
-  next_knows (Telling (LoadRow part)) h loads lost = either (nat_lt (part + 1) ((e.cells + 63) / 64)) (record e { row = e.row ++ word ∷ []; stage = Telling (LoadRow (part + 1)) }) (tell_from (record e { row = e.row ++ word ∷ [] }) 0) tt
+  next_knows : (s : WorkStage) → Knows C E e.mark s → (s ≡ LoadMark → Loads D F e word) → (s ≡ Claim → C e.mark → word ≢ e.mark → F Missed) → LetsGo F e word s → Has (next_at e s word)
+  next_knows LoadMark h loads lost go = by_state (state_of (mark_of e.processes word)) refl (loads refl)
+  next_knows Claim h loads lost go = by_claim (word == e.mark) refl h (lost refl)
+  next_knows LoadHead h loads lost go = by_head (head_of e.processes word)
+  next_knows LoadHeader h loads lost go = by_header (header_in e.edition (header_of e.cells word))
+  next_knows (LoadText part) h loads lost go = either (nat_lt (part + 1) ((e.length + 7) / 8)) (record e { text = take e.length (e.text ++ bytes_of word); stage = LoadText (part + 1) }) (record e { text = take e.length (e.text ++ bytes_of word); stage = Read }) tt tt
+  next_knows (LoadKind i value) h loads lost go = either (nat_lt (i + 1) (length (with_entry e.inputs i (shown_entry e.cells value word)))) (record e { inputs = with_entry e.inputs i (shown_entry e.cells value word); stage = LoadValue (i + 1) }) (record e { inputs = with_entry e.inputs i (shown_entry e.cells value word); stage = LoadOwnValue }) tt tt
+  next_knows (Telling (LoadRow part)) h loads lost go = either (nat_lt (part + 1) ((e.cells + 63) / 64)) (record e { row = e.row ++ word ∷ []; stage = Telling (LoadRow (part + 1)) }) (tell_from (record e { row = e.row ++ word ∷ [] }) 0) tt
       (by_told (record e { row = e.row ++ word ∷ [] }) (told_from (e.row ++ word ∷ []) (e.cells - 0) 0))
-  next_knows (Telling (OrTold cell)) h loads lost = tt
-  next_knows (Telling (FlushTold cell)) h loads lost = tt
-  next_knows (Telling (BackTold cell)) h loads lost = by_told e (told_from e.row (e.cells - (cell + 1)) (cell + 1))
-  next_knows (Clear changed) h loads lost = either (word == e.mark) (at e (FlushCleared (Published changed))) (at e ClearDirty) (free.published changed) tt
-  next_knows ClearDirty h loads lost = free.again
-  next_knows Give h loads lost = either (word == e.mark) (at e (FlushCleared NoMemory)) (at e GiveDirty) free.memory tt
-  next_knows GiveDirty h loads lost = free.memory
-  next_knows (FlushCleared end) h loads lost = on end h
-  next_knows (BackCleared end) h loads lost = on end h
-  next_knows (Answer end) h loads lost = on end h
-  next_knows _ h loads lost = tt
+  next_knows (Telling (OrTold cell)) h loads lost go = tt
+  next_knows (Telling (FlushTold cell)) h loads lost go = tt
+  next_knows (Telling (BackTold cell)) h loads lost go = by_told e (told_from e.row (e.cells - (cell + 1)) (cell + 1))
+  next_knows (Clear changed) h loads lost go = by_swap (word == e.mark) refl (Published changed) ClearDirty (go.published changed refl) tt
+  next_knows ClearDirty h loads lost go = go.again refl
+  next_knows Give h loads lost go = by_swap (word == e.mark) refl NoMemory GiveDirty (go.given refl) tt
+  next_knows GiveDirty h loads lost go = go.given_dirty refl
+  next_knows (FlushCleared end) h loads lost go = on end h
+  next_knows (BackCleared end) h loads lost go = on end h
+  next_knows (Answer end) h loads lost go = on end h
+  next_knows _ h loads lost go = tt
 
 -- ---- who holds a mark that says held
 
@@ -198,6 +203,22 @@ some_holder (Some p) dirty q is = let same : p ≡ q = cc in ap (λ x. Some x) s
 
 held_by : (processes word q : ℕ) → state_of (mark_of processes word) ≡ Held q → IsHeldBy q word
 held_by processes word q is = held_word processes (word / 2 % 16) q (some_holder (present processes (holder_of (word / 2 % 16))) (word % 2 == 1) q is)
+
+-- what a mark says that a process of the sheet holds, and one that nobody holds
+held_state : (processes word q : ℕ) → q < processes → IsHeldBy q word → state_of (mark_of processes word) ≡ Held q
+held_state processes word q real by =
+    let some : holder_of (word / 2 % 16) ≡ Some q = ap holder_of by ∙ ap (λ (b : Bool). if b then None else Some (q + 1 - 1)) (ne_eqb (q + 1) 0 (λ x. omega (arith, x))) ∙ ap (λ (n : ℕ). Some n) (let n : q + 1 - 1 ≡ q = omega arith in n) in
+    let here : present processes (Some q) ≡ Some q = ap (λ (b : Bool). if b then Some q else None) (lt-ltb q processes real) in
+    ap (λ (o : Option ℕ). state_by (present processes o) (word % 2 == 1)) some ∙ ap (λ (o : Option ℕ). state_by o (word % 2 == 1)) here
+
+free_state : (processes word : ℕ) (dirty : Bool) → word / 2 % 16 ≡ 0 → (word % 2 == 1) ≡ dirty → state_of (mark_of processes word) ≡ state_by None dirty
+free_state processes word dirty none is = ap (λ (n : ℕ). state_by (present processes (holder_of n)) (word % 2 == 1)) none ∙ ap (λ (b : Bool). state_by None b) is
+
+freed_state : (processes mark : ℕ) → state_of (mark_of processes (freed_after mark)) ≡ Clean
+freed_state processes mark = free_state processes (freed_after mark) false (omega arith) (ap (λ n. n == 1) (let even : (mark / 32 + 1) * 32 % 2 ≡ 0 = omega arith in even))
+
+dirty_state : (processes mark : ℕ) → state_of (mark_of processes (dirtied (freed_after mark))) ≡ Marked
+dirty_state processes mark = free_state processes (dirtied (freed_after mark)) true (omega arith) (ap (λ n. n == 1) (let odd : ((mark / 32 + 1) * 32 + 1) % 2 ≡ 1 = omega arith in odd))
 
 -- ---- one event, seen by a process that is at work after it
 
@@ -369,17 +390,17 @@ module _ (old : WorldValue) (events : List Event) (replies : List Reply) (new : 
   was_on : (start k : ℕ) (So : Moment → Type 0) → WasSo run.moment start k So → WasSo run.moment start (k + 1) So
   was_on start k So h = record { at = h.at; later = h.later; until = (let u = h.until in omega (arith, u)); so = h.so }
 
+  let_go_on : (p start k : ℕ) (cell : Cell) (now : State) → WasLetGo run.moment p start k cell now → WasLetGo run.moment p start (k + 1) cell now
+  let_go_on p start k cell now h = record { at = h.at; later = h.later; until = (let u = h.until in omega (arith, u)); held = h.held; so = h.so }
+
   cause_on : (p start k : ℕ) (cell : Cell) (end : WorkEnd) → Cause p start k cell end → Cause p start (k + 1) cell end
   cause_on p start k cell NotDirty h = was_on start k _ h
   cause_on p start k cell Missed (inl h) = inl (was_on start k _ h)
   cause_on p start k cell Missed (inr h) = inr (record { seen = h.seen; later = h.later; at = h.at; order = h.order; until = (let u = h.until in omega (arith, u)); marked = h.marked; other = h.other })
   cause_on p start k cell Worn h = was_on start k _ h
-  cause_on p start k cell (Published changed) h = tt
-  cause_on p start k cell Again h = tt
-  cause_on p start k cell NoMemory h = tt
-
-  causes_free : (p start k : ℕ) (cell : Cell) → AreFree (λ end. Cause p start k cell end)
-  causes_free p start k cell = record { published = λ changed. tt; again = tt; memory = tt }
+  cause_on p start k cell (Published changed) h = let_go_on p start k cell Clean h
+  cause_on p start k cell Again h = let_go_on p start k cell Marked h
+  cause_on p start k cell NoMemory h = let_go_on p start k cell Marked h
 
   record IsAtWork (p k : ℕ) (e : PlainWorkCall) : Type 0 where
     cell : Cell
@@ -453,9 +474,62 @@ module _ (old : WorldValue) (events : List Event) (replies : List Reply) (new : 
       other = λ same. other ((performs Claim is).0 ∙ sym mark_here ∙ same ∙ h.is);
     })
 
+    -- the mark of its cell at the next moment
+    mark_next : (run.moment (k + 1)).world.sheet.layout ≡ (at_moment k).sheet.layout → mark_then (run.moment (k + 1)) w.cell ≡ (world_of (at_moment (k + 1))).memory.cached (place.Mark e.cell)
+    mark_next same = ap (λ (x : Shape). (world_of (at_moment (k + 1))).memory.cached (place.Mark (index_of x w.cell))) (ap (λ (l : Layout). l.shape) (same ∙ run.layouts k lt)) ∙ ap (λ n. (world_of (at_moment (k + 1))).memory.cached (place.Mark n)) (sym w.cell_is)
+
+    -- it held the cell, by its claim or that mark made dirty, and stores a mark that nobody holds
+    lets_go : (st : State) (now : ℕ) → HasHeld (world_of (at_moment k)) e → (mark_then (run.moment k) w.cell ≡ e.mark) ⊎ (mark_then (run.moment k) w.cell ≡ dirtied e.mark)
+        → (world_of (at_moment (k + 1))).memory.cached (place.Mark e.cell) ≡ now → state_of (mark_of (at_moment (k + 1)).sheet.layout.processes now) ≡ st → WasLetGo run.moment p w.start (k + 1) w.cell st
+    lets_go st now held was_mark stored is =
+        let even = held.claim.even in
+        let by : IsHeldBy p e.mark = subst (λ q. IsHeldBy q e.mark) mine held.claim.by in
+        let holds : IsHeldBy p (mark_then (run.moment k) w.cell) = elim was_mark [ inl same ↦ omega (arith, same, by) | inr same ↦ omega (arith, same, by, even) ] in
+        let real_here : p < (at_moment k).sheet.layout.processes = real (at_moment k) p e (good k lt) was in
+        record {
+          at = k;
+          later = w.earlier;
+          until = omega arith;
+          held = held_state (at_moment k).sheet.layout.processes (mark_then (run.moment k) w.cell) p real_here holds;
+          so = ap (λ n. state_of (mark_of (at_moment (k + 1)).sheet.layout.processes n)) (mark_next t.layout ∙ stored) ∙ is;
+        }
+
+    hold_at : (s : WorkStage) → e.stage ≡ s → HoldFits (world_of (at_moment k)) e (work_known (length e.inputs) s).hold
+    hold_at s is = subst (λ (x : WorkStage). HoldFits (world_of (at_moment k)) e (work_known (length e.inputs) x).hold) is fits.knows.hold
+
+    goes : LetsGo (λ end. Cause p w.start (k + 1) w.cell end) e word e.stage
+    goes = record {
+      published = λ changed is won. (
+          let swap = performs (Clear changed) is in
+          elim swap.1 [
+            | inl stored ↦ lets_go Clean (freed_after e.mark) (hold_at (Clear changed) is) (inl (mark_here ∙ sym swap.0 ∙ won)) stored.1.there (freed_state _ e.mark)
+            | inr lost_swap ↦ absurd (lost_swap.0 won)
+          ]);
+      again = λ is. (
+          let swap = performs ClearDirty is in
+          let held = hold_at ClearDirty is in
+          elim swap.1 [
+            | inl stored ↦ lets_go Marked (dirtied (freed_after e.mark)) held.0 (inr (mark_here ∙ held.1)) stored.1.there (dirty_state _ e.mark)
+            | inr lost_swap ↦ absurd (lost_swap.0 (swap.0 ∙ held.1))
+          ]);
+      given = λ is won. (
+          let swap = performs Give is in
+          elim swap.1 [
+            | inl stored ↦ lets_go Marked (dirtied (freed_after e.mark)) (hold_at Give is) (inl (mark_here ∙ sym swap.0 ∙ won)) stored.1.there (dirty_state _ e.mark)
+            | inr lost_swap ↦ absurd (lost_swap.0 won)
+          ]);
+      given_dirty = λ is. (
+          let swap = performs GiveDirty is in
+          let held = hold_at GiveDirty is in
+          elim swap.1 [
+            | inl stored ↦ lets_go Marked (dirtied (freed_after e.mark)) held.0 (inr (mark_here ∙ held.1)) stored.1.there (dirty_state _ e.mark)
+            | inr lost_swap ↦ absurd (lost_swap.0 (swap.0 ∙ held.1))
+          ]);
+    }
+
     stepped : Knows (HasLoaded w.start (k + 1) w.cell) (λ end. Cause p w.start (k + 1) w.cell end) (next_at e e.stage word).mark (next_at e e.stage word).stage
     stepped = next_knows (HasLoaded w.start k w.cell) (HasLoaded w.start (k + 1) w.cell) (λ end. Cause p w.start k w.cell end) (λ end. Cause p w.start (k + 1) w.cell end) e word
-        (cause_on p w.start k w.cell) (causes_free p w.start (k + 1) w.cell) e.stage w.knows loads lost
+        (cause_on p w.start k w.cell) e.stage w.knows loads lost goes
 
   -- ---- from event to event
 

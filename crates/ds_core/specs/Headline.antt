@@ -126,15 +126,24 @@ pub record WasForestalled (moment : ℕ → Moment) (start k : ℕ) (cell : Cell
   pub marked : state_then (moment seen) cell ≡ Marked
   pub other : mark_then (moment at) cell ≢ mark_then (moment seen) cell
 
--- what work of the process says that leaves its cell as it found it, of a moment of its call: the cell was clean;
--- another process held it, or forestalled the claim; it was marked, with a generation that is not claimed any more
+-- at a moment of the call the process held the cell, and at the next one, of the call, too, the cell is let go, and is so
+pub record WasLetGo (moment : ℕ → Moment) (p start k : ℕ) (cell : Cell) (now : State) : Type 0 where
+  pub at : ℕ
+  pub later : start < at
+  pub until : at < k
+  pub held : state_then (moment at) cell ≡ Held p
+  pub so : state_then (moment (at + 1)) cell ≡ now
+
+-- what an answer of the process's work says of a moment of its call. The cell was clean; another process held it, or
+-- forestalled the claim; it was marked, with a generation that is not claimed any more. Or this process held it and let
+-- it go: clean where it is published, marked where it is to be worked on again or memory was wanting
 abbrev pub CauseFits : (ℕ → Moment) → ℕ → ℕ → ℕ → Cell → WorkEnd → Type 0
 CauseFits moment p start k cell NotDirty = WasSo moment start k (λ m. state_then m cell ≡ Clean)
 CauseFits moment p start k cell Missed = WasSo moment start k (λ m. (q : ℕ) × (q ≢ p) × (state_then m cell ≡ Held q)) ⊎ WasForestalled moment start k cell
 CauseFits moment p start k cell Worn = WasSo moment start k (λ m. (state_then m cell ≡ Marked) × (SEEN_MOST < generation_of (mark_then m cell)))
-CauseFits moment p start k cell (Published changed) = Unit {0}
-CauseFits moment p start k cell Again = Unit {0}
-CauseFits moment p start k cell NoMemory = Unit {0}
+CauseFits moment p start k cell (Published changed) = WasLetGo moment p start k cell Clean
+CauseFits moment p start k cell Again = WasLetGo moment p start k cell Marked
+CauseFits moment p start k cell NoMemory = WasLetGo moment p start k cell Marked
 
 -- the work that is answered began on this cell, and its answer fits a moment of its call
 pub record HasCause (moment : ℕ → Moment) (events : List Event) (replies : List Reply) (k p : ℕ) (end : WorkEnd) : Type 0 where

@@ -120,9 +120,8 @@ pub fn solo_edits_are_done()
 /// sheet from scratch. A recovery's answer closes the edit in doubt as done just where it stands in
 /// the list. An edit, once closed, stays in the list or stays out, through stops and crashes, and
 /// stands before each edit that is begun later. Each report that is answered fits a moment of its
-/// call, and so does each work that is answered NotDirty, Missed or Worn. No edit that a recovery's
-/// answer forgets was ever announced on a persisted side. Detectable execution (Friedman, Herlihy,
-/// Marathe, Petrank, PPoPP 2018).
+/// call, and so does each work's answer. No edit that a recovery's answer forgets was ever announced
+/// on a persisted side. Detectable execution (Friedman, Herlihy, Marathe, Petrank, PPoPP 2018).
 pub fn runs_have_the_headline()
     ensures { (old : WorldValue) (events : List Event) (replies : List Reply) (new : WorldValue)
         → IsNew (world_of old) → IsGood old → (run : WorldRun old events replies new)
@@ -183,7 +182,9 @@ pub fn forgotten_edits_were_never_announced()
 /// A work's answer is of the cell of the process's last begin of work, and tells of a moment of that
 /// call. NotDirty: the cell was clean then. Missed: another process held it then, or its mark was
 /// another one than at an earlier moment of the call, at which the cell was marked. Worn: it was
-/// marked then, with a generation above 2^58.
+/// marked then, with a generation above 2^58. Published: this process held it then, and at the next
+/// moment it was clean. Again, NoMemory: this process held it then, and at the next moment it was
+/// marked.
 pub fn works_tell_of_their_calls()
     ensures { (old : WorldValue) (events : List Event) (replies : List Reply) (new : WorldValue)
         (h : Headline old events replies new) (k p : ℕ) (end : WorkEnd)
