@@ -17,8 +17,8 @@ use Rattle.ds_crew.specs.declared.ended.Edited.{Edited}
 use Rattle.ds_crew.specs.declared.ended.Edited.TheVariants as edited
 use Rattle.ds_crew.specs.declared.ended.Recovered.{Recovered}
 use Rattle.ds_crew.specs.declared.ended.Recovered.TheVariants as recovered
-use Rattle.ds_crew.specs.declared.ended.Shown.{Shown}
-use Rattle.ds_crew.specs.declared.ended.Shown.TheVariants as shown
+use Rattle.ds_crew.specs.declared.ended.Reported.{Reported}
+use Rattle.ds_crew.specs.declared.ended.Reported.TheVariants as reported
 
 -- how many edits an end answers Done: 1 or 0
 abbrev pub done_by : Edited → ℕ
@@ -45,11 +45,11 @@ edit_reply (edited.Refused why) = replies.Refused why
 edit_reply edited.NotEnabled = replies.NotEnabled
 
 -- the last reply of a report that ended so
-abbrev pub show_reply : Shown → Reply
-show_reply shown.Settled = settled_reply
-show_reply (shown.Unsettled place word) = Answered (Report (reports.Unsettled place word))
-show_reply (shown.Refused why) = replies.Refused why
-show_reply shown.NotEnabled = replies.NotEnabled
+abbrev pub report_reply : Reported → Reply
+report_reply reported.Settled = settled_reply
+report_reply (reported.Unsettled place word) = Answered (Report (reports.Unsettled place word))
+report_reply (reported.Refused why) = replies.Refused why
+report_reply reported.NotEnabled = replies.NotEnabled
 
 -- the last reply of a recovery that ended so
 abbrev pub recovery_reply : Recovered → Reply
@@ -107,6 +107,6 @@ HasReceiptOf begin end = ⊥
 
 -- the pass after a report of a sheet with so many cells: it has the report as its last call; a Settled is counted, and
 -- the pass then keeps a value for each cell; else all else stays
-abbrev pub AfterReport : ℕ → PlainPass → Shown → PlainPass → Type 0
-AfterReport cells old shown.Settled new = IsSettled cells (asked old (BeginReport old.process) settled_reply) new
-AfterReport cells old end new = new ≡ asked old (BeginReport old.process) (show_reply end)
+abbrev pub AfterReport : ℕ → PlainPass → Reported → PlainPass → Type 0
+AfterReport cells old reported.Settled new = IsSettled cells (asked old (BeginReport old.process) settled_reply) new
+AfterReport cells old end new = new ≡ asked old (BeginReport old.process) (report_reply end)

@@ -6,12 +6,12 @@ ghost use Rattle.ds_core.specs.Counts.{IsReplyTo, done_of};
 ghost use Rattle.ds_core.specs.declared.event.Event.TheVariants.{BeginRecover};
 ghost use Rattle.ds_core.specs.Ends.{edits, reports, recoveries};
 ghost use Rattle.ds_crew.specs.LockedCalls.{CountsNothing, IsKindOf, IsNoStep, came_reply, step_reply};
-ghost use Rattle.ds_crew.specs.Ends.{AfterReport, AfterStep, BeginsCall, HasReceipt, HasReceiptOf, IsBegin, IsReportBegin, after_edit, after_recovery, edit_reply, recovery_reply, show_reply};
+ghost use Rattle.ds_crew.specs.Ends.{AfterReport, AfterStep, BeginsCall, HasReceipt, HasReceiptOf, IsBegin, IsReportBegin, after_edit, after_recovery, edit_reply, recovery_reply, report_reply};
 ghost use Rattle.ds_crew.specs.Kept.{Happened, HasBegun, HasEnded, HasMade, HasStepped, IsEntry};
 ghost use Rattle.ds_crew.specs.declared.steps.Call.TheVariants.{Edit, Recovery, Report};
 
 use crate::came::Came;
-use crate::ended::{Edited, Receipt, Recovered, Shown, Worked};
+use crate::ended::{Edited, Receipt, Recovered, Reported, Worked};
 use crate::locked::LockedSheet;
 use crate::pass::Pass;
 use crate::steps::Call;
@@ -154,14 +154,14 @@ fn edited_by(begin: Event, came: Came<EditEnd>) -> Edited
 }
 
 // How a report ended, by what it came to.
-fn shown_by(came: Came<ReportEnd>) -> Shown
-    ensures { show_reply result ≡ came_reply reports came }
+fn reported_by(came: Came<ReportEnd>) -> Reported
+    ensures { report_reply result ≡ came_reply reports came }
 {
     match came {
-        Came::Ended(ReportEnd::Settled) => Shown::Settled,
-        Came::Ended(ReportEnd::Unsettled(place, word)) => Shown::Unsettled(place, word),
-        Came::Refused(why) => Shown::Refused(why),
-        Came::NotEnabled => Shown::NotEnabled,
+        Came::Ended(ReportEnd::Settled) => Reported::Settled,
+        Came::Ended(ReportEnd::Unsettled(place, word)) => Reported::Unsettled(place, word),
+        Came::Refused(why) => Reported::Refused(why),
+        Came::NotEnabled => Reported::NotEnabled,
     }
 }
 
@@ -296,13 +296,13 @@ impl<L: Ledger, M: Ledger> LockedSheet<L, M> {
     /// with its end. A Settled is counted in the pass's share, and its values are those that the pass then
     /// keeps: `Pass::last`. Any other end leaves both as they were. Where the process migrates the sheet, it is
     /// refused as `Busy`.
-    pub fn report<R: Wait>(&self, rt: &R, alloc: Global, pass: &mut Pass<L, M>) -> Shown
+    pub fn report<R: Wait>(&self, rt: &R, alloc: Global, pass: &mut Pass<L, M>) -> Reported
         ensures { AfterReport (cells_of self.now.layout) pass.old result pass.new }
     {
         let begin = Event::BeginReport(pass.process);
         let came = self.report_as(rt, alloc, pass, &begin);
         pass.remember(&begin, &came.reply());
-        shown_by(came)
+        reported_by(came)
     }
 }
 

@@ -61,7 +61,7 @@ pub enum Worked {
 
 /// How a report ended.
 #[derive(Clone, Copy, Debug, PartialEq, Eq)]
-pub enum Shown {
+pub enum Reported {
     /// Its values are those of one moment. The pass keeps them as its last ones.
     Settled,
     /// This mark or announcement, whose word it saw, was not at rest.

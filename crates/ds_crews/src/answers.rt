@@ -5,7 +5,7 @@ ghost use Rattle.std.specs.Prelude.{◌≡◌, length};
 use ds_core::event::Event;
 use ds_core::reply::Reply;
 use ds_core::take::take;
-use ds_crew::ended::{Edited, Recovered, Shown, Worked};
+use ds_crew::ended::{Edited, Recovered, Reported, Worked};
 use ds_crew::locked::{Closed, LockedSheet};
 use ds_crew::pass::Pass;
 use ds_formula::cells::{Cell, Shape};
@@ -43,7 +43,7 @@ enum Seen {
     Refused(Refusal),
     NotEnabled,
     Worked(Worked),
-    Shown(Shown),
+    Reported(Reported),
     Recovered(Recovered),
     NoMemory,
 }
@@ -66,7 +66,7 @@ fn answer_to<L: Ledger, M: Ledger, R: Wait>(
             Err(_) => Seen::NoMemory,
         },
         Ask::Work(cell) => Seen::Worked(sheet.work(rt, alloc, pass, cell)),
-        Ask::Report => Seen::Shown(sheet.report(rt, alloc, pass)),
+        Ask::Report => Seen::Reported(sheet.report(rt, alloc, pass)),
         Ask::Recover => Seen::Recovered(sheet.recover(rt, alloc, pass)),
     }
 }
@@ -84,7 +84,7 @@ const ROWS: [Row; 10] = [
     (
         0,
         Ask::Report,
-        Seen::Shown(Shown::Unsettled(Place::Mark(0), 1)),
+        Seen::Reported(Reported::Unsettled(Place::Mark(0), 1)),
     ),
     (
         0,
@@ -96,7 +96,7 @@ const ROWS: [Row; 10] = [
         Ask::Work(A1),
         Seen::Worked(Worked::Ended(WorkEnd::NotDirty)),
     ),
-    (0, Ask::Report, Seen::Shown(Shown::Settled)),
+    (0, Ask::Report, Seen::Reported(Reported::Settled)),
     (
         0,
         Ask::Edit(A1, "=1.5"),
@@ -132,7 +132,7 @@ const MIGRATING: [Row; 6] = [
         Ask::Work(A1),
         Seen::Worked(Worked::Refused(Refusal::Busy)),
     ),
-    (0, Ask::Report, Seen::Shown(Shown::Refused(Refusal::Busy))),
+    (0, Ask::Report, Seen::Reported(Reported::Refused(Refusal::Busy))),
     (
         0,
         Ask::Recover,

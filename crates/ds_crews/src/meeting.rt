@@ -2,7 +2,7 @@
 
 ghost use Rattle.std.specs.Prelude.{◌≡◌};
 
-use ds_crew::ended::Shown;
+use ds_crew::ended::Reported;
 use ds_crew::locked::LockedSheet;
 use ds_crew::pass::Pass;
 use ds_crew::workers::{Gate, work_all};
@@ -52,7 +52,7 @@ impl Gate for Meet {
 struct Seen {
     started: usize,
     met: u64,
-    shown: Shown,
+    shown: Reported,
     values: [Value; 4],
 }
 
@@ -117,7 +117,7 @@ fn two_evaluations_meet(rt: HostRuntime) -> Result<(), Fail> {
     let wanted = Seen {
         started: 2,
         met: 1,
-        shown: Shown::Settled,
+        shown: Reported::Settled,
         values: [
             Value::Number(1),
             Value::Number(2),

@@ -8,7 +8,7 @@ use Rattle.ds_streams.specs.Input.{EndsWith}
 use Rattle.ds_streams.specs.declared.input.InputEnd.{InputEnd}
 use Rattle.ds_streams.specs.declared.input.InputEnd.TheVariants as inputs
 use Rattle.ds_streams.specs.declared.ending.ScriptEnd.TheVariants as ends
-use Rattle.ds_play.specs.Script.{Finishes, Outcome}
+use Rattle.ds_play.specs.Script.{Finishes, Concludes}
 use Rattle.ds_stops.specs.declared.reach.Short.{Short}
 use Rattle.ds_stops.specs.declared.reach.Short.TheVariants as shorts
 use Rattle.ds_stops.specs.Reaching.{FallsShort}
@@ -27,7 +27,7 @@ gave_all limit script after ended failed bytes end consumed h is =
 
 -- a script within the limit that was read whole and ended is carried out to its end
 pub finishes_of : (limit : ℕ) (script : List ℕ) (after : Option (List ℕ)) (ended failed : Bool) (bytes out : List ℕ)
-    → length script ≤ limit → Consumes (Some script) after bytes → Outcome limit after ended failed bytes out ends.Ended → Finishes true script out
+    → length script ≤ limit → Consumes (Some script) after bytes → Concludes limit after ended failed bytes out ends.Ended → Finishes true script out
 finishes_of limit script after ended failed bytes out short consumed (inl ran) =
     let all = gave_all limit script after ended failed bytes ran.end consumed ran.ends_with ran.writes.0 in
     let e : take limit bytes ≡ script = ap (take limit) all ∙ take_all limit script short in

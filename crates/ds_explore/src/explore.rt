@@ -10,7 +10,7 @@ use crate::flaw::Flaw;
 use crate::graph::{Way, path};
 use crate::options::{Options, Watcher};
 use crate::orders::{Orders, count_orders};
-use crate::outcomes::Outcome;
+use crate::outcomes::Finding;
 use crate::script::lines_of;
 use crate::search::{Search, Start, go_through};
 use ds_stops::reach::Short;
@@ -156,7 +156,7 @@ fn heading(alloc: Global, number: u128, orders: u128) -> Result<Vec<u8>, AllocEr
 }
 
 // The flaws of an outcome, and that its script is answered otherwise, where it is.
-fn all_flaws(outcome: &Outcome, answers: &[u8]) -> Result<Vec<Flaw>, AllocError> {
+fn all_flaws(outcome: &Finding, answers: &[u8]) -> Result<Vec<Flaw>, AllocError> {
     let mut flaws = outcome.flaws.clone()?;
     if !outcome.is_in(answers) {
         flaws.push(Flaw::AnsweredOtherwise)?;
@@ -169,7 +169,7 @@ fn script_block(
     alloc: Global,
     number: u128,
     orders: u128,
-    outcome: &Outcome,
+    outcome: &Finding,
     script: &[u8],
 ) -> Result<Block, AllocError>
     ensures { IfOk result (λ block. IsBlock number orders script.now block.flawed block.text.items) }
@@ -195,7 +195,7 @@ fn outcome_block(
     script: &[u8],
     start: &Start,
     found: &Found,
-    outcome: &Outcome,
+    outcome: &Finding,
     at: usize,
 ) -> Result<Written, AllocError>
     ensures { IfOk result (λ made. IsOutcome script.now (suc at) made.orders made.flawed made.text.items) }

@@ -4,9 +4,9 @@ use crate::flaw::Flaw;
 use std::alloc::{AllocError, Global};
 use std::collections::HashMap;
 
-/// An outcome of orders.
+/// What an order of steps came to.
 #[derive(Drop)]
-pub(crate) struct Outcome {
+pub(crate) struct Finding {
     /// What each call was answered.
     pub(crate) answers: Vec<Vec<u8>>,
     /// What is told behind the order.
@@ -25,8 +25,8 @@ fn contains(text: &[u8], part: &[u8]) -> bool {
     text.windows(part.len()).any(|window| window == part)
 }
 
-impl Outcome {
-    /// Whether a script that has these answers has this outcome: its calls are answered so, and behind the order this is
+impl Finding {
+    /// Whether a script that has these answers came to this: its calls are answered so, and behind the order this is
     /// told, and nothing else.
     pub(crate) fn is_in(&self, answers: &[u8]) -> bool {
         for answer in &self.answers {
@@ -54,22 +54,22 @@ impl Outcome {
     }
 }
 
-/// The outcomes that were found, each once; there is at least one.
+/// What orders came to, each once; there is at least one.
 #[derive(Drop)]
-pub(crate) struct Outcomes {
+pub(crate) struct Findings {
     /// The first one.
-    pub(crate) first: Outcome,
+    pub(crate) first: Finding,
     /// The others, in the order in which they were found.
-    pub(crate) rest: Vec<Outcome>,
+    pub(crate) rest: Vec<Finding>,
     numbers: HashMap<Vec<u8>, usize>,
 }
 
-impl Outcomes {
+impl Findings {
     /// This one was found.
-    pub(crate) fn new(alloc: Global, first: Outcome) -> Result<Outcomes, AllocError> {
+    pub(crate) fn new(alloc: Global, first: Finding) -> Result<Findings, AllocError> {
         let mut numbers = HashMap::new(alloc);
         numbers.insert(first.key(alloc)?, 0)?;
-        Ok(Outcomes {
+        Ok(Findings {
             first,
             rest: Vec::new(alloc),
             numbers,
@@ -82,7 +82,7 @@ impl Outcomes {
     }
 
     /// The number of an outcome, from 0. It is kept, where it was not found before.
-    pub(crate) fn number(&mut self, alloc: Global, outcome: Outcome) -> Result<usize, AllocError> {
+    pub(crate) fn number(&mut self, alloc: Global, outcome: Finding) -> Result<usize, AllocError> {
         let key = outcome.key(alloc)?;
         if let Some(number) = self.numbers.get(key.as_slice()) {
             return Ok(*number);

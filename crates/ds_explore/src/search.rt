@@ -7,7 +7,7 @@ use crate::ends::end;
 use crate::graph::{Edge, Node};
 use crate::judge::Judge;
 use crate::options::{Options, Watcher};
-use crate::outcomes::{Outcome, Outcomes};
+use crate::outcomes::{Finding, Findings};
 use ds_core::event::Event;
 use ds_core::take::take;
 use ds_formula::cells::Shape;
@@ -67,7 +67,7 @@ pub(crate) struct Search {
     crashes: HashMap<Vec<u8>, usize>,
     frames: Vec<Frame>,
     /// The outcomes.
-    pub(crate) outcomes: Outcomes,
+    pub(crate) outcomes: Findings,
     /// The states, each behind those that it leads to.
     pub(crate) nodes: Vec<Node>,
     /// Whether there are more states than there may be.
@@ -210,7 +210,7 @@ impl Start {
 
     /// The calls are carried out one after another, in the order of their processes: what that comes to, and what
     /// happens on the way.
-    pub(crate) fn straight(&self, alloc: Global) -> Result<(Outcome, Vec<u32>), AllocError> {
+    pub(crate) fn straight(&self, alloc: Global) -> Result<(Finding, Vec<u32>), AllocError> {
         let mut position = self.position(alloc)?;
         let mut path = Vec::new(alloc);
         for process in 0..position.seats.len() {
@@ -226,10 +226,10 @@ impl Start {
         alloc: Global,
         position: &mut Position,
         crashed: bool,
-    ) -> Result<Outcome, AllocError> {
+    ) -> Result<Finding, AllocError> {
         let ending = end(alloc, &mut position.world, crashed)?;
         let flaws = self.judge.flaws(alloc, position, &ending)?;
-        Ok(Outcome {
+        Ok(Finding {
             answers: position.answers(alloc)?,
             tail: ending.text,
             flaws,
@@ -240,7 +240,7 @@ impl Start {
 
 impl Search {
     // No state was found yet, and this outcome.
-    fn new(alloc: Global, outcomes: Outcomes) -> Search {
+    fn new(alloc: Global, outcomes: Findings) -> Search {
         Search {
             numbers: Numbers::new(alloc),
             seen: HashMap::new(alloc),
@@ -442,10 +442,10 @@ impl Search {
 pub(crate) fn go_through<W: Watcher>(
     alloc: Global,
     start: &Start,
-    first: Outcome,
+    first: Finding,
     watcher: &mut W,
 ) -> Result<Search, AllocError> {
-    let mut search = Search::new(alloc, Outcomes::new(alloc, first)?);
+    let mut search = Search::new(alloc, Findings::new(alloc, first)?);
     search.begin(alloc, start)?;
     for _ in 0..u64::MAX {
         match search.next() {

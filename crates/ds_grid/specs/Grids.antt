@@ -144,5 +144,5 @@ pub record Unread (bytes out : List ℕ) (result : GridEnd) : Type 0 where
   pub is : result ≡ NoMemory
 
 -- what became of an input: it was read and reported as a grid, or there was no room for it
-abbrev pub Outcome : ℕ → Option (List ℕ) → Bool → Bool → List ℕ → List ℕ → GridEnd → Type 0
-Outcome limit remaining ended failed bytes out result = Reported limit remaining ended failed bytes out result ⊎ Unread bytes out result
+abbrev pub Concludes : ℕ → Option (List ℕ) → Bool → Bool → List ℕ → List ℕ → GridEnd → Type 0
+Concludes limit remaining ended failed bytes out result = Reported limit remaining ended failed bytes out result ⊎ Unread bytes out result

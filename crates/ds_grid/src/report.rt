@@ -6,7 +6,7 @@ ghost use Rattle.ds_formula.specs.Cells.{count_of};
 ghost use Rattle.ds_eval.specs.Numbers.{value_text};
 ghost use Rattle.ds_streams.specs.AnswerTexts.{rows_text};
 ghost use Rattle.ds_streams.specs.Streams.{reader_of, bytes_given, has_ended, read_failed, writer_of, write_failed};
-ghost use Rattle.ds_grid.specs.Grids.{Shows, Fails, Outcome};
+ghost use Rattle.ds_grid.specs.Grids.{Shows, Fails, Concludes};
 ghost use Rattle.ds_grid.specs.declared.ending.GridEnd as GridEnd;
 ghost use Rattle.ds_formula.specs.Limits.{INPUT_MOST};
 
@@ -62,7 +62,7 @@ pub fn report_grid<R: Read, W: Write>(
     ensures write_failed { result ≡ GridEnd.WriteFailed → write_failed writer.new ≡ true }
     ensures outcome { result ≢ GridEnd.WriteFailed → (bytes : List ℕ) × (out : List ℕ) × Consumes (R.remaining (reader_of reader.old)) (R.remaining (reader_of reader.new)) bytes
         × Appends (W.contents (writer_of writer.old)) (W.contents (writer_of writer.new)) out
-        × Outcome INPUT_MOST (R.remaining (reader_of reader.new)) (has_ended reader.new) (read_failed reader.new) bytes out result }
+        × Concludes INPUT_MOST (R.remaining (reader_of reader.new)) (has_ended reader.new) (read_failed reader.new) bytes out result }
 {
     let Ok(input) = read_input(alloc, reader, INPUT_LIMIT) else {
         return GridEnd::NoMemory;

@@ -6,7 +6,7 @@ ghost use Rattle.ds_pace.specs.declared.pace.TheConstants.{PROCESSES};
 use crate::pace::{CALLS, PROCESSES, Pace, TEXTS, Task};
 use crate::round::Round;
 use crate::tally::Tally;
-use ds_crew::ended::{Edited, Shown, Worked};
+use ds_crew::ended::{Edited, Reported, Worked};
 use ds_crew::locked::LockedSheet;
 use ds_crew::pass::Pass;
 use ds_formula::cells::{Cell, Shape};
@@ -65,7 +65,7 @@ fn call<L: Ledger, M: Ledger, R: Wait>(
                     _ => false,
                 }
         }
-        Task::Report => sheet.report(rt, alloc, pass) == Shown::Settled,
+        Task::Report => sheet.report(rt, alloc, pass) == Reported::Settled,
     }
 }
 

@@ -140,8 +140,8 @@ pub record Unread (bytes out : List ℕ) (result : ScriptEnd) : Type 0 where
   pub is : result ≡ ends.NoMemory
 
 -- what became of an input: it was read and run as a script, or there was no room for it
-abbrev pub Outcome : ℕ → Option (List ℕ) → Bool → Bool → List ℕ → List ℕ → ScriptEnd → Type 0
-Outcome limit remaining ended failed bytes out result = Ran limit remaining ended failed bytes out result ⊎ Unread bytes out result
+abbrev pub Concludes : ℕ → Option (List ℕ) → Bool → Bool → List ℕ → List ℕ → ScriptEnd → Type 0
+Concludes limit remaining ended failed bytes out result = Ran limit remaining ended failed bytes out result ⊎ Unread bytes out result
 
 -- ---- stops between two steps
 

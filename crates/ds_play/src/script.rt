@@ -18,7 +18,7 @@ ghost use Rattle.ds_play.specs.Orders.{Settle, command_view};
 ghost use Rattle.ds_play.specs.Doing.{plan};
 ghost use Rattle.ds_play.specs.Plays.{Played};
 ghost use Rattle.ds_play.specs.LoneSettles.{SaysClean};
-ghost use Rattle.ds_play.specs.Script.{Progress, Carried, Writes, Outcome, is_whole};
+ghost use Rattle.ds_play.specs.Script.{Progress, Carried, Writes, Concludes, is_whole};
 ghost use Rattle.ds_play.specs.Running.{Obeyed, Stopped, RanLines, HidesNone, after, break_of, ending_of};
 ghost use Rattle.ds_formula.specs.Limits.{INPUT_MOST};
 
@@ -206,7 +206,7 @@ fn run_within<R: Read, W: Write>(
     ensures write_failed { result ≡ ScriptEnd.WriteFailed → write_failed writer.new ≡ true }
     ensures outcome { result ≢ ScriptEnd.WriteFailed → (bytes : List ℕ) × (out : List ℕ) × Consumes (R.remaining (reader_of reader.old)) (R.remaining (reader_of reader.new)) bytes
         × Appends (W.contents (writer_of writer.old)) (W.contents (writer_of writer.new)) out
-        × Outcome limit (R.remaining (reader_of reader.new)) (has_ended reader.new) (read_failed reader.new) bytes out result }
+        × Concludes limit (R.remaining (reader_of reader.new)) (has_ended reader.new) (read_failed reader.new) bytes out result }
 {
     let Ok(input) = read_input(alloc, reader, limit) else {
         return ScriptEnd::NoMemory;
@@ -233,7 +233,7 @@ pub fn run_script<R: Read, W: Write>(
     ensures write_failed { result ≡ ScriptEnd.WriteFailed → write_failed writer.new ≡ true }
     ensures outcome { result ≢ ScriptEnd.WriteFailed → (bytes : List ℕ) × (out : List ℕ) × Consumes (R.remaining (reader_of reader.old)) (R.remaining (reader_of reader.new)) bytes
         × Appends (W.contents (writer_of writer.old)) (W.contents (writer_of writer.new)) out
-        × Outcome INPUT_MOST (R.remaining (reader_of reader.new)) (has_ended reader.new) (read_failed reader.new) bytes out result }
+        × Concludes INPUT_MOST (R.remaining (reader_of reader.new)) (has_ended reader.new) (read_failed reader.new) bytes out result }
 {
     run_within(alloc, INPUT_LIMIT, reader, writer)
 }

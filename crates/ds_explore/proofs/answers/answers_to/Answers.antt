@@ -2,7 +2,7 @@ use Rattle.std.proofs.Common.{ℕ, ◌≡◌, ◌≤◌, ◌∙◌, ◌++◌, Li
 use Rattle.ds_formula.specs.Limits.{INPUT_MOST}
 use Rattle.ds_streams.specs.Streams.{reader_of, writer_of, has_ended, read_failed}
 use Rattle.ds_streams.specs.declared.ending.ScriptEnd.{ScriptEnd}
-use Rattle.ds_play.specs.Script.{Finishes, Outcome}
+use Rattle.ds_play.specs.Script.{Finishes, Concludes}
 use Rattle.ds_explore.proofs.Telling.{finishes_of}
 use Rattle.ds_explore.proofs.answers.answers_to.Goals as goal
 
@@ -14,6 +14,6 @@ returns-in-Ended c =
     let empty : (writer_of c.new-writer.result).items ≡ [] = cc in
     let all : c.into_inner.result.items ≡ (writer_of c.new-writer.result).items ++ ran.1 = cc in
     let written : c.into_inner.result.items ≡ ran.1 = all ∙ ap (λ (xs : List ℕ). xs ++ ran.1) empty in
-    let ended = subst (λ (end : ScriptEnd). Outcome INPUT_MOST (Some (reader_of c.run_script.new.reader).now) (has_ended c.run_script.new.reader) (read_failed c.run_script.new.reader) ran.0 ran.1 end) c.in-Ended.is ran.4 in
+    let ended = subst (λ (end : ScriptEnd). Concludes INPUT_MOST (Some (reader_of c.run_script.new.reader).now) (has_ended c.run_script.new.reader) (read_failed c.run_script.new.reader) ran.0 ran.1 end) c.in-Ended.is ran.4 in
     subst (λ (out : List ℕ). Finishes true c.args.script.now out) (sym written)
     (finishes_of INPUT_MOST c.args.script.now (Some (reader_of c.run_script.new.reader).now) (has_ended c.run_script.new.reader) (read_failed c.run_script.new.reader) ran.0 ran.1 short given ended)
