@@ -2,7 +2,7 @@
 
 ghost use Rattle.std.specs.Prelude.{◌≡◌};
 ghost use Rattle.ds_core.specs.declared.event.Event.TheVariants.{BeginEdit, BeginWork, BeginReport, BeginRecover, BeginMigrate};
-ghost use Rattle.ds_core.specs.Takes.{IsOfWorld, Fits, BeginTakes};
+ghost use Rattle.ds_core.specs.Takes.{IsOfWorld, Fits};
 ghost use Rattle.ds_core.specs.WorkEvents.{HasWork};
 ghost use Rattle.ds_state.specs.declared.answer.Answer.TheVariants.{Edit, Work, Report, Recovery};
 ghost use Rattle.ds_core.specs.Kinds.{IsEditAnswer, IsWorkAnswer, IsReportAnswer, IsRecoveryAnswer, IsMigrationAnswer};
@@ -24,17 +24,6 @@ use ds_state::work::WorkEnd;
 use ds_state::world::World;
 use std::alloc::Global;
 
-// An edit begins, or is refused: as by the event, which would own the text.
-fn edit_takes(alloc: Global, world: &mut World, process: usize, cell: Cell, text: &[u8]) -> Reply
-    requires { IsOfWorld world.old (request process cell text.now) }
-    ensures { BeginTakes world.old (request process cell text.now) result world.new }
-{
-    match ds_edit::begin::begin(alloc, world, process, cell, text) {
-        Ok(number) => Reply::Begun(number),
-        Err(refusal) => Reply::Refused(refusal),
-    }
-}
-
 /// An edit of a process of the sheet begins, or is refused: the reply to the event that begins it. The text is not
 /// copied into that event.
 pub fn begin_edit(
@@ -48,9 +37,7 @@ pub fn begin_edit(
     ensures fits { Fits world.old (BeginEdit (request process cell text.now)) result world.new }
     ensures begins { BeginsCall IsEditAnswer world.old process world.new result }
 {
-    let reply = edit_takes(alloc, world, process, cell, text);
-    world.is_always_good();
-    reply
+    ds_core::take::begin_edit(alloc, world, process, cell, text)
 }
 
 fn begin_work(alloc: Global, world: &mut World, process: usize, cell: Cell) -> Reply

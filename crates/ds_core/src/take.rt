@@ -1,7 +1,7 @@
 //! One event, and a list of events.
 
 ghost use Rattle.std.specs.Prelude.{◌≡◌, ◌<◌, ◌+◌, ℕ, IfOk, OnErr};
-ghost use Rattle.ds_core.specs.declared.event.Event.TheVariants.{Step};
+ghost use Rattle.ds_core.specs.declared.event.Event.TheVariants.{BeginEdit, Step};
 ghost use Rattle.ds_core.specs.declared.reply.Reply.TheVariants.{Stepped};
 ghost use Rattle.ds_core.specs.Counts.{IsReplyTo, KeepsReports, done_of, settled_of};
 ghost use Rattle.ds_core.specs.Own.{steps_left};
@@ -11,7 +11,7 @@ ghost use Rattle.ds_core.specs.RecoveryEvents.{BeginRecoverTakes};
 ghost use Rattle.ds_core.specs.MigrationEvents.{BeginMigrateTakes};
 ghost use Rattle.ds_core.specs.Takes.{BeginTakes, Takes, Fits, WorldRun};
 
-use crate::event::{Event, Request};
+use crate::event::Event;
 use crate::reply::Reply;
 use crate::step::{evict, step};
 use crate::stop::{crash, stop};
@@ -23,17 +23,34 @@ use std::alloc::{AllocError, Global};
 
 // An edit begins, or is refused.
 #[inline(always)]
-fn begin_edit(alloc: Global, world: &mut World, request: &Request) -> Reply
-    ensures { BeginTakes world.old request.now result world.new }
+fn edit_takes(alloc: Global, world: &mut World, process: usize, cell: Cell, text: &[u8]) -> Reply
+    ensures { BeginTakes world.old (record { process = process; cell = cell; text = text.now }) result world.new }
 {
     let layout = world.words.layout();
-    if request.process >= layout.processes || !layout.shape.contains(request.cell) {
+    if process >= layout.processes || !layout.shape.contains(cell) {
         return Reply::NotEnabled;
     }
-    match begin(alloc, world, request.process, request.cell, &request.text) {
+    match begin(alloc, world, process, cell, text) {
         Ok(number) => Reply::Begun(number),
         Err(refusal) => Reply::Refused(refusal),
     }
+}
+
+/// A process begins an edit of the cell to the text, or is refused: what `take` does by that event, which would own
+/// the text.
+pub fn begin_edit(
+    alloc: Global,
+    world: &mut World,
+    process: usize,
+    cell: Cell,
+    text: &[u8],
+) -> Reply
+    ensures { Fits world.old (BeginEdit (record { process = process; cell = cell; text = text.now })) result world.new }
+{
+    world.is_always_good();
+    let reply = edit_takes(alloc, world, process, cell, text);
+    world.is_always_good();
+    reply
 }
 
 // Work begins, or is refused.
@@ -106,7 +123,9 @@ fn happen(alloc: Global, world: &mut World, event: &Event) -> Reply
     ensures { Takes world.old event.now result world.new }
 {
     match event {
-        Event::BeginEdit(request) => begin_edit(alloc, world, request),
+        Event::BeginEdit(request) => {
+            edit_takes(alloc, world, request.process, request.cell, &request.text)
+        }
         Event::Step(process) => step(alloc, world, *process),
         Event::Evict(place) => evict(world, *place),
         Event::Stop(process) => stop(world, *process),

@@ -57,7 +57,7 @@ module _ (p : ℕ) where
   -- a step of a process that recovers is one of its recovery
   its_step : (w mid : WorldValue) (reply : Reply) (e : PlainRecoverCall) → (world_of w).situation p ≡ Recovering e → steps.StepsBy w p reply mid → RecoveryStepsBy w p reply mid
   its_step w mid reply e at (steps.recoveries h) = h
-  its_step w mid reply e at (steps.edits h) = absurd (let bad : Editing h.edit ≡ Recovering e = sym h.at ∙ at in cc)
+  its_step w mid reply e at (steps.edits h) = absurd (let bad : Editing h.steps.edit ≡ Recovering e = sym h.steps.at ∙ at in cc)
   its_step w mid reply e at (steps.works h) = absurd (let bad : Working h.steps.work ≡ Recovering e = sym h.steps.works ∙ at in cc)
   its_step w mid reply e at (steps.migrations h) = absurd (let bad : Migrating h.steps.migration ≡ Recovering e = sym h.steps.at ∙ at in cc)
   its_step w mid reply e at (steps.reports h) = absurd (let bad : Reporting h.steps.show ≡ Recovering e = sym h.steps.at ∙ at in cc)

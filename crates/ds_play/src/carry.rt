@@ -4,7 +4,6 @@ ghost use Rattle.std.specs.Prelude.{◌≡◌, ◌≤◌, IfOk};
 ghost use Rattle.ds_state.specs.Value.{world_of};
 ghost use Rattle.ds_core.specs.Takes.{Fits};
 ghost use Rattle.ds_core.specs.declared.event.Event.TheVariants.{BeginEdit};
-ghost use Rattle.ds_calls.specs.Whole.{request};
 ghost use Rattle.ds_play.specs.Orders.{CanDo, command_view, beginning};
 ghost use Rattle.ds_play.specs.Doing.{Once, Calls, Drives, to_point};
 ghost use Rattle.ds_play.specs.Plays.{Played, IsNoRound};
@@ -16,11 +15,10 @@ use crate::order::{Call, Command};
 use crate::point::PointName;
 use crate::settle::settle;
 use crate::texts::{at_line, halt_bytes, peek_line, reply_bytes, word_line};
-use ds_calls::call::begin_edit;
 use ds_calls::finish::finish;
 use ds_core::event::Event;
 use ds_core::reply::Reply;
-use ds_core::take::take;
+use ds_core::take::{begin_edit, take};
 use ds_formula::cells::Cell;
 use ds_layout::layout::Layout;
 use ds_layout::place::Edition;
@@ -41,18 +39,6 @@ pub fn new_world(alloc: Global, layout: Layout, edition: Edition) -> Result<Worl
     Ok(world)
 }
 
-// An edit begins, or is refused.
-fn edits(alloc: Global, world: &mut World, process: usize, cell: Cell, text: &[u8]) -> Reply
-    ensures { Fits world.old (BeginEdit (request process cell text.now)) result world.new }
-{
-    let layout = world.words.layout();
-    if process >= layout.processes || !layout.shape.contains(cell) {
-        world.is_always_good();
-        return Reply::NotEnabled;
-    }
-    begin_edit(alloc, world, process, cell, text)
-}
-
 fn happen(alloc: Global, world: &mut World, event: &Event) -> Reply
     ensures { Fits world.old event.now result world.new }
 {
@@ -64,7 +50,7 @@ pub fn begins(alloc: Global, world: &mut World, process: usize, call: Call<'_>) 
     ensures { Fits world.old (beginning process call.entry) result world.new }
 {
     match call {
-        Call::Edit(cell, text) => edits(alloc, world, process, cell, text),
+        Call::Edit(cell, text) => begin_edit(alloc, world, process, cell, text),
         Call::Work(cell) => happen(alloc, world, &Event::BeginWork(process, cell)),
         Call::Report => happen(alloc, world, &Event::BeginReport(process)),
         Call::Recovery => happen(alloc, world, &Event::BeginRecover(process)),
