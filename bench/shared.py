@@ -30,7 +30,8 @@ def measured(programs, kind, threads, runs):
     calls = "reports" if kind == "report" else "edits"
     for _ in range(runs):
         for name, words in programs.items():
-            found = tallies([*words, kind, str(threads), str(SHEETS[name])])
+            texts = [] if name == "plain" else ["number"]
+            found = tallies([*words, kind, *texts, str(threads), str(SHEETS[name])])
             count, nanoseconds, _ = found[calls]
             best[name] = max(best[name], count / nanoseconds * 1e9)
     return best

@@ -9,3 +9,5 @@ pub mod Works
 pub mod Reports
 pub mod Driving
 pub mod Dealt
+pub mod Contents
+pub mod Crossing

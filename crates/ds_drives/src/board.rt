@@ -6,6 +6,7 @@ ghost use Rattle.ds_layout.specs.Places.{AreStartsOf, words_of};
 ghost use Rattle.ds_drives.specs.Views.{HasRest, In, bygone, first_now, first_view, lone, newcomer, past_of, united};
 ghost use Rattle.ds_drives.specs.Rule.{AreTrue, AtRest, Behind, Closes};
 
+use crate::kept::KeptTexts;
 use atomic_table::{Closed, Join, Play, Seat, Split, Table, TableRule};
 use ds_layout::layout::{Layout, Starts};
 use ds_layout::place;
@@ -154,13 +155,15 @@ pub struct Board {
     pub layout: Layout,
     // Where each kind of words begins: kept, it saves each step the sums.
     pub(crate) starts: Starts,
+    // Texts that edits have read. No clause speaks of them: what a work does is the same without.
+    pub(crate) kept: KeptTexts,
     pub ghost began: { AreStartsOf layout starts },
     pub ghost sized: { (table.shared.table_id.words ≡ 8 * words_of layout) × (table.shared.key.layout ≡ layout) × (table.shared.table_id.slots ≡ 0) },
 }
 
 impl Board {
     // The board of a table with the words of a sheet.
-    fn of(table: Table<u8, View, Key, Law, Global>, layout: Layout) -> Board
+    fn of(table: Table<u8, View, Key, Law, Global>, layout: Layout, kept: KeptTexts) -> Board
         requires { (table.shared.table_id.words ≡ 8 * words_of layout) × (table.shared.key.layout ≡ layout) × (table.shared.table_id.slots ≡ 0) }
         ensures { (result.table ≡ table) × (result.layout ≡ layout) }
     {
@@ -169,6 +172,7 @@ impl Board {
             table,
             layout,
             starts,
+            kept,
         }
     }
 
@@ -178,6 +182,7 @@ impl Board {
         ensures layout { IfOk result (λ r. r.0.layout ≡ layout) }
         ensures place { IfOk result (λ r. (r.1.table_id ≡ r.0.table.shared.table_id) × (r.1.me ≡ (first_view false layout.processes [], []))) }
     {
+        let kept = KeptTexts::make(alloc, layout.processes)?;
         let count = layout.words() * 8;
         let mut words: Vec<u64, Global> = vec![in alloc; 0; count]?;
         let version = layout.number(place::Place::Version) * 8;
@@ -189,7 +194,7 @@ impl Board {
             before: None,
         };
         let (table, place) = Table::of_words(alloc, words.as_slice(), &key)?;
-        Ok((Board::of(table, layout), place))
+        Ok((Board::of(table, layout, kept), place))
     }
 
     /// A board with these words, of a sheet in the second layout, and a seat that runs every process, each of
@@ -207,13 +212,16 @@ impl Board {
         ensures place { IfOk result (λ r. (r.1.table_id ≡ r.0.table.shared.table_id) × (r.1.me ≡ (first_view true layout.processes (past_of before), []))) }
         ensures back { IfErr result (λ s. s ≡ before) }
     {
+        let Ok(kept) = KeptTexts::make(alloc, layout.processes) else {
+            return Err(before);
+        };
         let key = Key {
             layout,
             stopped: true,
             before,
         };
         match Table::of_words(alloc, words, &key) {
-            Ok((table, place)) => Ok((Board::of(table, layout), place)),
+            Ok((table, place)) => Ok((Board::of(table, layout, kept), place)),
             Err(_) => Err(key.before),
         }
     }
@@ -257,6 +265,7 @@ impl Board {
             table,
             layout: _,
             starts: _,
+            kept: _,
         } = self;
         (table.close_with(place), before)
     }

@@ -61,6 +61,6 @@ pub(crate) fn drive<M: Machine, F: Fuse>(
             oldest(&buffer),
         );
         keep(&mut buffer, class, wanted, found);
-        call.got(alloc, layout, answer(wanted, found));
+        call.got(alloc, board, answer(wanted, found));
     }
 }

@@ -6,6 +6,7 @@ pub mod board;
 mod drive;
 pub mod edit;
 pub mod fuse;
+pub mod kept;
 mod machine;
 pub mod recover;
 pub mod report;

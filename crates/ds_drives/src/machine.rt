@@ -3,6 +3,7 @@
 ghost use Rattle.std.specs.Prelude.{◌<◌, ◌≡◌};
 ghost use Rattle.ds_drives.specs.Machines.{Lawful};
 
+use crate::board::Board;
 use ds_layout::layout::Layout;
 use ds_layout::place::Place;
 use ds_state::turn::Turn;
@@ -30,11 +31,11 @@ pub(crate) trait Machine {
         ensures { result ≡ rules.access layout.now self.now };
 
     /// Goes on with the word that its access answered, up to its next step that touches a word.
-    fn got(&mut self, alloc: Global, layout: &Layout, word: u64)
-        requires fits { rules.fits layout.now self.old }
+    fn got(&mut self, alloc: Global, board: &Board, word: u64)
+        requires fits { rules.fits board.now.layout self.old }
         requires goes { rules.goes self.old }
-        ensures turns { rules.turns layout.now (rules.next self.old word) self.new }
-        ensures fits { rules.fits layout.now self.new }
+        ensures turns { rules.turns board.now.layout (rules.next self.old word) self.new }
+        ensures fits { rules.fits board.now.layout self.new }
         ensures stays { (first : Self) → rules.stays first self.old → rules.stays first self.new }
         ensures fewer { rules.rank self.new < rules.rank self.old };
 

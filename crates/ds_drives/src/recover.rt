@@ -46,8 +46,8 @@ impl Machine for RecoverCall {
         want(self)
     }
 
-    fn got(&mut self, alloc: Global, layout: &Layout, word: u64) {
-        let (_alloc, _layout) = (alloc, layout);
+    fn got(&mut self, alloc: Global, board: &Board, word: u64) {
+        let (_alloc, _board) = (alloc, board);
         got(self, word);
         is_recovery(self);
     }

@@ -22,17 +22,16 @@ use ds_words::access::Access;
 use ds_work::laws::works_are_of_a_sheet;
 use ds_work::machine::{got, want};
 use ds_work::offer::offer_to;
-use ds_work::reading::reading;
 use std::alloc::Global;
 
 // It reads its content, or takes its entry, where one of these is next.
-fn go_on(alloc: Global, layout: &Layout, call: &mut WorkCall)
-    requires { cells_of layout.now ≡ call.old.cells }
-    ensures { Turned layout.now call.old call.new }
+fn go_on(alloc: Global, board: &Board, call: &mut WorkCall)
+    requires { cells_of board.now.layout ≡ call.old.cells }
+    ensures { Turned board.now.layout call.old call.new }
 {
     match call.stage {
-        WorkStage::Read => reading(alloc, call, layout.shape),
-        WorkStage::Wait => offer_to(call, layout.shape),
+        WorkStage::Read => board.kept.read(alloc, call, board.layout.shape),
+        WorkStage::Wait => offer_to(call, board.layout.shape),
         _ => (),
     }
 }
@@ -56,9 +55,9 @@ impl Machine for WorkCall {
         want(self, layout.shape)
     }
 
-    fn got(&mut self, alloc: Global, layout: &Layout, word: u64) {
+    fn got(&mut self, alloc: Global, board: &Board, word: u64) {
         got(self, word);
-        go_on(alloc, layout, self);
+        go_on(alloc, board, self);
         works_are_of_a_sheet(self);
     }
 

@@ -3,7 +3,7 @@
 ghost use Rattle.std.specs.Prelude.{◌≡◌, ◌<◌, IfSome};
 ghost use Rattle.ds_pace.specs.declared.pace.TheConstants.{PROCESSES};
 
-use crate::pace::{CALLS, PROCESSES, Pace, TEXTS, Task};
+use crate::pace::{CALLS, PROCESSES, Pace, Task, Texts};
 use crate::round::Round;
 use crate::tally::Tally;
 use ds_crew::ended::{Edited, Reported, Worked};
@@ -45,16 +45,15 @@ fn edit<L: Ledger, M: Ledger, R: Wait>(
     }
 }
 
-// The call with this number of a task.
+// A call of a task.
 fn call<L: Ledger, M: Ledger, R: Wait>(
     rt: &R,
     alloc: Global,
     sheet: &LockedSheet<L, M>,
     pass: &mut Pass<L, M>,
     task: Task,
-    number: usize,
+    text: &str,
 ) -> bool {
-    let text = TEXTS[number % 2];
     match task {
         Task::Edit(column) => edit(rt, alloc, sheet, pass, column, text),
         Task::EditAndWork(column) => {
@@ -78,19 +77,21 @@ fn run<L: Ledger, M: Ledger, R: Wait + Clock>(
     runner: &mut Runner<L, M>,
 ) {
     let task = round.pace.task(runner.process);
+    let texts = round.pace.texts.pair();
     runner.tally.begun = round.begin(rt);
     for number in 0..CALLS {
-        let is_good = call(rt, alloc, sheet, &mut runner.pass, task, number);
+        let text = texts[number % 2];
+        let is_good = call(rt, alloc, sheet, &mut runner.pass, task, text);
         runner.tally.count(is_good);
     }
     runner.tally.ended = round.now(rt);
 }
 
-// A new world of as many cells as processes.
-fn new_world(alloc: Global) -> Option<World>
+// A new world for edits that give these texts.
+fn new_world(alloc: Global, texts: Texts) -> Option<World>
     ensures { IfSome result (λ w. w.sheet.layout.processes ≡ PROCESSES) }
 {
-    World::new(alloc, Shape::new(PROCESSES, 1)?, PROCESSES).ok()
+    World::new(alloc, Shape::new(PROCESSES, texts.rows())?, PROCESSES).ok()
 }
 
 // The passes of so many processes.
@@ -170,7 +171,7 @@ pub fn measure<R: Threads + Wait + Clock + Sync>(
 {
     let (mut reports, mut edits) = (Tally::new(), Tally::new());
     for _ in 0..pace.sheets {
-        if let Some(world) = new_world(alloc) {
+        if let Some(world) = new_world(alloc, pace.texts) {
             let (dones, settleds) = (Blank::new(PROCESSES as u64), Blank::new(PROCESSES as u64));
             let more = once::<Brand, Brand, R>(rt, alloc, world, dones, settleds, pace)?;
             reports = reports.and(more.0);

@@ -38,7 +38,9 @@ fn measure<R: Threads + Wait + Clock + Sync>(
 
 fn main(rt: HostRuntime) -> io::Result<ExitCode> {
     let Some(pace) = asked(&rt)? else {
-        println!(rt; "usage: ds_pace shared|locked own|one|work|report THREADS SHEETS")?;
+        println!(rt;
+            "usage: ds_pace shared|locked own|one|work|report number|two|range|sixteen|greatest THREADS SHEETS"
+        )?;
         return Ok(ExitCode::SUCCESS);
     };
     let (reports, edits) = measure(&rt, rt.alloc(), pace)?;

@@ -26,6 +26,21 @@ pub enum Kind {
     Report,
 }
 
+/// Which texts the edits give.
+#[derive(Clone, Copy)]
+pub enum Texts {
+    /// A number.
+    Number,
+    /// A sum of two references.
+    Two,
+    /// The sum of a range.
+    Range,
+    /// A sum of sixteen references.
+    Sixteen,
+    /// The greatest of 37 numbers.
+    Greatest,
+}
+
 /// What is measured: so many threads, at least one, make 256 calls each on each of so many sheets.
 #[derive(Clone, Copy)]
 pub struct Pace {
@@ -33,6 +48,8 @@ pub struct Pace {
     pub beneath: Beneath,
     /// Which calls are made.
     pub kind: Kind,
+    /// Which texts the edits give.
+    pub texts: Texts,
     /// How many threads there are, from 1 to 8.
     pub threads: usize,
     /// How many sheets there are.
@@ -51,14 +68,38 @@ pub enum Task {
     Report,
 }
 
-/// How many cells a sheet has, all in one row, and how many processes.
+/// How many processes a sheet has, and how many cells in each row.
 pub const PROCESSES: usize = 8;
 
 /// How many calls a process makes on a sheet.
 pub const CALLS: usize = 256;
 
-/// The texts that edits give, by turns.
-pub const TEXTS: [&str; 2] = ["1234", "5678"];
+impl Texts {
+    /// The texts that the edits give by turns. Where they refer to cells, these are of the second row.
+    pub fn pair(self) -> [&'static str; 2] {
+        match self {
+            Texts::Number => ["1234", "5678"],
+            Texts::Two => ["=[.A2]+[.B2]", "=[.A2]+[.C2]"],
+            Texts::Range => ["=SUM([.A2:.H2])", "=SUM([.A2:.G2])"],
+            Texts::Sixteen => [
+                "=[.A2]+[.B2]+[.C2]+[.D2]+[.E2]+[.F2]+[.G2]+[.H2]+[.A2]+[.B2]+[.C2]+[.D2]+[.E2]+[.F2]+[.G2]+[.H2]",
+                "=[.A2]+[.B2]+[.C2]+[.D2]+[.E2]+[.F2]+[.G2]+[.H2]+[.A2]+[.B2]+[.C2]+[.D2]+[.E2]+[.F2]+[.G2]+[.A2]",
+            ],
+            Texts::Greatest => [
+                "=MAX(1;2;3;4;5;6;7;8;9;10;11;12;13;14;15;16;17;18;19;20;21;22;23;24;25;26;27;28;29;30;31;32;33;34;35;36;37)",
+                "=MAX(1;2;3;4;5;6;7;8;9;10;11;12;13;14;15;16;17;18;19;20;21;22;23;24;25;26;27;28;29;30;31;32;33;34;35;36;38)",
+            ],
+        }
+    }
+
+    /// How many rows a sheet has, whose edits give these.
+    pub fn rows(self) -> usize {
+        match self {
+            Texts::Number => 1,
+            _ => 2,
+        }
+    }
+}
 
 impl Pace {
     /// What the threads that report have counted, the first one or none, and the others.
@@ -100,9 +141,20 @@ fn kind_of(word: &str) -> Option<Kind> {
     }
 }
 
+fn texts_of(word: &str) -> Option<Texts> {
+    match word {
+        "number" => Some(Texts::Number),
+        "two" => Some(Texts::Two),
+        "range" => Some(Texts::Range),
+        "sixteen" => Some(Texts::Sixteen),
+        "greatest" => Some(Texts::Greatest),
+        _ => None,
+    }
+}
+
 /// What the words of a command line ask for, behind the name of the program.
 pub fn pace_of(words: &[String]) -> Option<Pace> {
-    let [_program, beneath, kind, threads, sheets] = words else {
+    let [_program, beneath, kind, texts, threads, sheets] = words else {
         return None;
     };
     let threads = threads.parse::<usize>().ok()?;
@@ -112,6 +164,7 @@ pub fn pace_of(words: &[String]) -> Option<Pace> {
     Some(Pace {
         beneath: beneath_of(beneath)?,
         kind: kind_of(kind)?,
+        texts: texts_of(texts)?,
         threads,
         sheets: sheets.parse::<usize>().ok()?,
     })

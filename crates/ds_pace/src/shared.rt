@@ -4,7 +4,7 @@ ghost use Rattle.std.specs.Prelude.{◌≡◌, All, IfSome};
 ghost use Rattle.std.specs.Arc.{arc_value};
 ghost use Rattle.ds_shared.specs.Answers.{IsOf};
 
-use crate::pace::{CALLS, PROCESSES, Pace, TEXTS, Task};
+use crate::pace::{CALLS, PROCESSES, Pace, Task, Texts};
 use crate::round::Round;
 use crate::tally::Tally;
 use ds_drives::fuse::Whole;
@@ -70,8 +70,8 @@ impl Seat {
     }
 
     // The call with this number of a task.
-    fn call(&mut self, alloc: Global, task: Task, number: usize) -> bool {
-        let text = TEXTS[number % 2];
+    fn call(&mut self, alloc: Global, task: Task, texts: [&str; 2], number: usize) -> bool {
+        let text = texts[number % 2];
         match task {
             Task::Edit(column) => self.edit(alloc, column, text),
             Task::EditAndWork(column) => {
@@ -82,9 +82,9 @@ impl Seat {
     }
 
     // All calls of a task.
-    fn play(&mut self, alloc: Global, task: Task, tally: &mut Tally) {
+    fn play(&mut self, alloc: Global, task: Task, texts: [&str; 2], tally: &mut Tally) {
         for number in 0..CALLS {
-            tally.count(self.call(alloc, task, number));
+            tally.count(self.call(alloc, task, texts, number));
         }
     }
 }
@@ -92,20 +92,21 @@ impl Seat {
 // The calls of a thread, when all have come.
 fn run<R: Clock>(rt: &R, alloc: Global, mut runner: Runner, round: &Round) -> Tally {
     let task = round.pace.task(runner.process);
+    let texts = round.pace.texts.pair();
     let mut tally = Tally::new();
     tally.begun = round.begin(rt);
     for seat in &mut runner.seats {
-        seat.play(alloc, task, &mut tally);
+        seat.play(alloc, task, texts, &mut tally);
     }
     tally.ended = round.now(rt);
     tally
 }
 
 // A new sheet, and a pass for each process.
-fn opened(alloc: Global) -> Option<(SharedSheet, Vec<Pass, Global>)>
+fn opened(alloc: Global, texts: Texts) -> Option<(SharedSheet, Vec<Pass, Global>)>
     ensures { IfSome result (λ r. All (λ p. IsOf r.0 p) r.1.items) }
 {
-    let layout = Layout::new(Shape::new(PROCESSES, 1)?, PROCESSES)?;
+    let layout = Layout::new(Shape::new(PROCESSES, texts.rows())?, PROCESSES)?;
     let (sheet, _past, passes) = SharedSheet::make(alloc, layout).ok()?;
     Some((sheet, passes))
 }
@@ -126,8 +127,8 @@ fn last(
 }
 
 // A new sheet, one pass of which goes to each thread.
-fn deal(alloc: Global, runners: &mut Vec<Runner>) -> Result<(), AllocError> {
-    let Some((sheet, mut passes)) = opened(alloc) else {
+fn deal(alloc: Global, texts: Texts, runners: &mut Vec<Runner>) -> Result<(), AllocError> {
+    let Some((sheet, mut passes)) = opened(alloc, texts) else {
         return Ok(());
     };
     let sheet = Arc::new(alloc, sheet)?;
@@ -159,7 +160,7 @@ pub fn measure<R: Threads + Clock + Sync>(
 ) -> Result<(Tally, Tally), AllocError> {
     let mut runners = runners(alloc, pace.threads)?;
     for _ in 0..pace.sheets {
-        deal(alloc, &mut runners)?;
+        deal(alloc, pace.texts, &mut runners)?;
     }
     let round = Round::new(rt, pace);
     let tallies = map_vec(rt, runners, &|runner| run(rt, alloc, runner, &round))?;

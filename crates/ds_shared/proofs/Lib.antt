@@ -4,3 +4,4 @@ pub mod Passing
 pub mod Joined
 pub mod Ordered
 pub mod Texts
+pub mod Crossing

@@ -50,7 +50,7 @@ impl SharedSheet {
         if pass.stopped {
             return Ended::Refused(Refusal::Stopped);
         }
-        let (mut call, _content) = match prepared(
+        let (mut call, content) = match prepared(
             alloc,
             &self.board.layout,
             pass.process,
@@ -61,6 +61,7 @@ impl SharedSheet {
             Ok(begun) => begun,
             Err(refusal) => return Ended::Refused(refusal),
         };
+        self.board.keep(alloc, &call, content);
         match self.board.edit(alloc, &mut pass.place, &mut call, fuse) {
             Some(end) => {
                 pass.number += 1;

@@ -236,9 +236,9 @@ fn stale_tree(rt: HostRuntime) -> Result<(), Fail> {
     let Some((sheet, _past, mut first, mut second, a, b)) = opened(rt.alloc()) else {
         return Ok(());
     };
-    let broken = sheet.edit(rt.alloc(), &mut first, a, b"1", &mut Times { left: 6 });
+    let broken = sheet.edit(rt.alloc(), &mut first, a, b"=1+1", &mut Times { left: 6 });
     let nothing = sheet.recover(rt.alloc(), &mut first, &mut Whole);
-    let done = sheet.edit(rt.alloc(), &mut first, a, b"2", &mut Whole);
+    let done = sheet.edit(rt.alloc(), &mut first, a, b"=2+2", &mut Whole);
     work_all(rt.alloc(), &sheet, &mut second, a, b);
     let (said, values) = sheet.report(rt.alloc(), &mut second, &mut Whole);
     assert_eq!(rt; broken, Ended::Stopped);
@@ -246,7 +246,7 @@ fn stale_tree(rt: HostRuntime) -> Result<(), Fail> {
     assert_eq!(rt; done, Ended::Answered(EditEnd::Done(0)));
     assert_eq!(rt; said, Ended::Answered(ReportEnd::Settled));
     if let Some(values) = values {
-        assert_eq!(rt; values.as_slice(), shows(2).as_slice());
+        assert_eq!(rt; values.as_slice(), shows(4).as_slice());
     }
     Ok(())
 }

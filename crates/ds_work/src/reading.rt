@@ -8,7 +8,7 @@ ghost use Rattle.ds_formula.specs.Plain.{plain};
 ghost use Rattle.ds_formula.specs.Refs.{AreRefs, IsBefore};
 ghost use Rattle.ds_formula.specs.Grammar.{Reads};
 ghost use Rattle.ds_work.specs.WorkSteps.{read_from};
-ghost use Rattle.ds_work.specs.Reading.{unseen, IsReading};
+ghost use Rattle.ds_work.specs.Reading.{unseen, HasRead, IsReading};
 
 use crate::machine::input_from;
 use ds_eval::inputs::{Entry, Input, Inputs};
@@ -54,7 +54,7 @@ fn fill(inputs: &mut Inputs, shape: Shape, cells: &[Cell])
 
 // The work has its content, and looks at its references next.
 #[inline(always)]
-fn take_content(call: &mut WorkCall, shape: Shape, content: Content, cells: &[Cell])
+fn set_content(call: &mut WorkCall, shape: Shape, content: Content, cells: &[Cell])
     requires sheet { count_of shape ≡ call.old.cells }
     requires ascending { AllPairs IsBefore cells.now }
     requires inside { (cell : Cell) → Contains cells.now cell → IsInside shape cell }
@@ -63,6 +63,19 @@ fn take_content(call: &mut WorkCall, shape: Shape, content: Content, cells: &[Ce
     fill(&mut call.inputs, shape, cells);
     call.content = content;
     call.stage = input_from(cells.len(), 0);
+}
+
+/// The work takes this content of the text that it has gathered, on a sheet of this shape, with the cells written in it:
+/// whoever has read that text before may give it, so that the work does not read it again. It looks at its references
+/// next.
+#[inline(always)]
+pub fn take_content(call: &mut WorkCall, shape: Shape, content: Content, cells: &[Cell])
+    requires sheet { count_of shape ≡ call.old.cells }
+    requires reads { Reads shape call.old.text (plain content) }
+    requires cells { AreRefs (plain content) cells.now }
+    ensures { HasRead shape call.old call.new }
+{
+    set_content(call, shape, content, cells);
 }
 
 /// The work reads the content of the text that it has gathered, on a sheet of this shape, and lists

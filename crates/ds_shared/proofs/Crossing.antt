@@ -1,0 +1,18 @@
+-- That a sheet may go from thread to thread, and be shared by threads; that a pass may go from thread to thread.
+use Rattle.std.proofs.Crossing.{crosses}
+use denote.Param.Send.{IsSend, IsSync, sendable}
+use denote.Param.SendFields.{declared_send, declared_sync}
+use denote.Struct.Record.{declared}
+use Rattle.atomic_table.proofs.shared.Seat.TheSendSync.{the_send as place_send}
+use Rattle.ds_drives.proofs.Crossing.{board_send, board_sync}
+use Rattle.ds_shared.specs.contracts.pass.Pass as Pass
+use Rattle.ds_shared.specs.contracts.sheet.SharedSheet as SharedSheet
+
+pub pass_send : IsSend Pass.the_row
+pass_send = search (sendable, crosses, place_send) depth 60 fits 100000
+
+pub sheet_send : IsSend SharedSheet.the_row
+sheet_send = declared_send (declared SharedSheet.struct _) (board_send, tt)
+
+pub sheet_sync : IsSync SharedSheet.the_row
+sheet_sync = declared_sync (declared SharedSheet.struct _) (board_sync, tt)
