@@ -19,6 +19,7 @@ use ds_lines::lines;
 use ds_state::world::World;
 use sqlite::{Alter, Connection};
 use std::alloc::Global;
+use std::slice;
 
 /// A journal in a database, and a sheet of its own, to which its lines lead: by that sheet it is seen, before a line is
 /// committed, that the line can be followed, and gives the number that was told.
@@ -97,9 +98,10 @@ impl<S: Alter + Drop> Store<S> {
             Ok(opened) => opened,
             Err(fault) => return Err(StoreFault::at_line(1, fault)),
         };
-        let first = [text_of(alloc, &opened.line)?];
-        lines::make(&mut conn, &first)?;
-        let sheet = restarted(alloc, &first)?;
+        // (one line as a list of its own: an array that owns it would be dear to prove)
+        let line = text_of(alloc, &opened.line)?;
+        lines::make(&mut conn, slice::from_ref(&line))?;
+        let sheet = restarted(alloc, slice::from_ref(&line))?;
         let store = Store {
             conn,
             world: opened.world,

@@ -1,0 +1,62 @@
+#!/usr/bin/env python3
+"""Prints the table of docs/COSTS.md: of each crate of crates.txt its lines of code, definitions and proofs, its edits,
+and the processor minutes that its proof, its tests and its edits took, as read from what tools/gate_minutes.py wrote
+to these files; the last file that has a figure counts.
+    tools/costs.py FILE ..
+"""
+import os
+import re
+import sys
+
+TOP = os.path.dirname(os.path.dirname(os.path.realpath(__file__)))
+ROW = re.compile(r"\| `(\w+)` \| ([\d.]+) \| ([\d.]+) \| ([\d.]+) \| ")
+
+
+def crates():
+    """The crates, in the order of crates.txt."""
+    with open(f"{TOP}/crates.txt", encoding="utf-8") as listed:
+        return [line.split(":")[0].split()[0] for line in listed if line.strip() and line[0] != "#"]
+
+
+def files(crate, part, ending):
+    """The files of a part of a crate that end so."""
+    found = []
+    for folder, _, names in os.walk(f"{TOP}/crates/{crate}/{part}"):
+        found += [f"{folder}/{name}" for name in names if name.endswith(ending)]
+    return found
+
+
+def lines(crate, part, ending):
+    """How many lines a part of a crate has, to the ten."""
+    count = 0
+    for name in files(crate, part, ending):
+        with open(name, encoding="utf-8") as it:
+            count += sum(1 for _ in it)
+    return round(count, -1)
+
+
+def minutes(names):
+    """The minutes of each crate's proof, edits and tests."""
+    found = {}
+    for name in names:
+        with open(name, encoding="utf-8") as log:
+            for crate, *figures in ROW.findall(log.read()):
+                row = found.setdefault(crate, [0.0, 0.0, 0.0])
+                found[crate] = [float(new) or old for new, old in zip(figures, row)]
+    return found
+
+
+def main():
+    times = minutes(sys.argv[1:])
+    print("| Crate | Code | Specs | Proofs | Edits | More | Proof | Tests | Trying the edits |")
+    print("|" + "---|" * 9)
+    for crate in crates():
+        counts = [lines(crate, "src", ".rt"), lines(crate, "specs", ".antt"), lines(crate, "proofs", ".antt")]
+        edits = [len(files(crate, part, ".edit")) for part in ("must-fail", "more-edits")]
+        proof, tried, tests = times.get(crate, [0.0, 0.0, 0.0])
+        figures = [f"{it:.1f}" if it else "-" for it in (proof, tests, tried)]
+        print(f"| `{crate}` | " + " | ".join([f"{it:,}" for it in counts + edits] + figures) + " |")
+
+
+if __name__ == "__main__":
+    main()
