@@ -232,6 +232,7 @@ fn a_write_is_read_back(rt: HostRuntime) -> Result<(), Fail> {
 
 // Two texts that are long enough to be kept, of 2 and of 4.
 const OLD: &[u8] = b"=1+1+0+0+0+0+0+0+0+0+0+0+0+0+0+0";
+
 const NEW: &[u8] = b"=2+2+0+0+0+0+0+0+0+0+0+0+0+0+0+0";
 
 // A record that was never announced is written again: a work has the content of the text that stands there now, and not the
