@@ -20,10 +20,10 @@ pub type Values = [Value; CELLS];
 const NUMBERS: [&str; 5] = ["1", "7", "-40", "=[.B2]", ""];
 
 /// The texts of B1, which refer to A1.
-const SUMS: [&str; 3] = ["=[.A1]+1", "=[.A1]*2", ""];
+const SUMS: [&str; 3] = ["=[.A1]+1", "=[.A1]*2+0+0+0+0+0+0+0+0+0+0+0+0", ""];
 
 /// The texts of A2, which refer to the cells above.
-const TOTALS: [&str; 3] = ["=[.B1]-3", "=SUM([.A1:.B1])", ""];
+const TOTALS: [&str; 3] = ["=[.B1]-3+0+0+0+0+0+0+0+0+0+0+0+0", "=SUM([.A1:.B1])", ""];
 
 /// A text of 240 bytes, which are all that a cell's text may have.
 const LONGEST: &str =

@@ -19,6 +19,10 @@ use ds_work::reading::{reading, take_content};
 use once_cell::race::OnceBox;
 use std::alloc::{AllocError, Global};
 
+/// How many bytes a text has at least that is kept. To keep a shorter one costs its edit more than it saves a work
+/// (bench/README.md).
+const KEPT_LEAST: usize = 32;
+
 /// A text with its content: the one that the text has on a sheet of this shape.
 #[derive(Drop)]
 pub struct KeptText {
@@ -130,11 +134,15 @@ impl KeptTexts {
 }
 
 impl Board {
-    /// Keeps the content of an edit's text for the works that meet this text in the words, where it is a formula: unless
-    /// one is kept for that record, or memory is wanting. It touches no word, and no clause can tell whether it did.
+    /// Keeps the content of an edit's text for the works that meet this text in the words, where it is a long formula:
+    /// unless one is kept for that record, or memory is wanting. It touches no word, and no clause can tell whether it
+    /// did.
     pub fn keep(&self, alloc: Global, call: &EditCall, content: Content)
         requires { Reads self.now.layout.shape call.now.text (plain content) }
     {
+        if call.text.len() < KEPT_LEAST {
+            return;
+        }
         if let Content::Formula(_) = content {
             let record = call.process * RECORDS + call.number;
             let kept = KeptText::new(self.layout.shape, call.text, content);

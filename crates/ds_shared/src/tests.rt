@@ -230,15 +230,21 @@ fn a_write_is_read_back(rt: HostRuntime) -> Result<(), Fail> {
     Ok(())
 }
 
-// A record that was never announced is written again: a work reads the text that stands there now, and no tree of the one before.
+// Two texts that are long enough to be kept, of 2 and of 4.
+const OLD: &[u8] = b"=1+1+0+0+0+0+0+0+0+0+0+0+0+0+0+0";
+
+const NEW: &[u8] = b"=2+2+0+0+0+0+0+0+0+0+0+0+0+0+0+0";
+
+// A record that was never announced is written again: a work has the content of the text that stands there now, and not the
+// one that is kept, of the text before.
 #[test]
 fn stale_tree(rt: HostRuntime) -> Result<(), Fail> {
     let Some((sheet, _past, mut first, mut second, a, b)) = opened(rt.alloc()) else {
         return Ok(());
     };
-    let broken = sheet.edit(rt.alloc(), &mut first, a, b"=1+1", &mut Times { left: 6 });
+    let broken = sheet.edit(rt.alloc(), &mut first, a, OLD, &mut Times { left: 6 });
     let nothing = sheet.recover(rt.alloc(), &mut first, &mut Whole);
-    let done = sheet.edit(rt.alloc(), &mut first, a, b"=2+2", &mut Whole);
+    let done = sheet.edit(rt.alloc(), &mut first, a, NEW, &mut Whole);
     work_all(rt.alloc(), &sheet, &mut second, a, b);
     let (said, values) = sheet.report(rt.alloc(), &mut second, &mut Whole);
     assert_eq!(rt; broken, Ended::Stopped);
