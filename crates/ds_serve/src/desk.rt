@@ -11,7 +11,7 @@ use crate::keeping::Keeping;
 use crate::settle::settle;
 use crate::visit::Visit;
 use crossbeam_queue::ArrayQueue;
-use ds_crew::ended::{Edited, Recovered, Reported};
+use ds_crew::ended::{self, Edited, Recovered};
 use ds_crew::locked::LockedSheet;
 use ds_crew::pass::Pass;
 use ds_eval::value::Value;
@@ -151,13 +151,13 @@ fn reported<L: Ledger, M: Ledger, R: Wait + Clock>(
         return Err(CallRefusal::NoMemory);
     };
     match sheet.report(rt, alloc, pass) {
-        Reported::Settled => {
+        ended::Reported::Settled => {
             fill(&mut values, pass.last());
             Ok(Reported::Settled(values))
         }
-        Reported::Unsettled(place, word) => Ok(Reported::Unsettled(place, word)),
-        Reported::Refused(why) => Err(CallRefusal::from(why)),
-        Reported::NotEnabled => Err(CallRefusal::ProcessTaken),
+        ended::Reported::Unsettled(place, word) => Ok(Reported::Unsettled(place, word)),
+        ended::Reported::Refused(why) => Err(CallRefusal::from(why)),
+        ended::Reported::NotEnabled => Err(CallRefusal::ProcessTaken),
     }
 }
 
