@@ -2,11 +2,12 @@
 
 use ds_core::reply::Reply;
 use ds_eval::value::Value;
-use ds_fixtures::row::{Action, Row, play, play_on};
-use ds_fixtures::sheet::{A1, B1, small};
+use ds_fixtures::row::{Action, Row, expect_row, play, play_on, play_tables};
+use ds_fixtures::sheet::{A1, B1, SMALL};
 use ds_formula::cells::Cell;
 use ds_state::answer::{Answer, EditEnd};
 use ds_state::recovery::{RecoveryEnd, Told};
+use ds_state::world::World;
 use std::alloc::Global;
 use std::test::Fail;
 
@@ -102,19 +103,23 @@ const BEHIND_WORK: [Row; 3] = [
 ];
 
 // So many of the 24 steps of the work, the answer's among them; then a crash or two stops.
-fn end_after(alloc: Global, steps: usize, end: &[Row]) -> Result<(), Fail> {
-    let mut world = small(alloc)?;
-    play_on(alloc, &mut world, &WORK)?;
-    play_on(alloc, &mut world, &[Row::Moves(1, steps)])?;
-    play_on(alloc, &mut world, end)?;
-    play_on(alloc, &mut world, &BEHIND_WORK)
+fn end_after(alloc: Global, world: &mut World, steps: usize, end: &[Row]) -> Result<(), Fail> {
+    play_on(alloc, world, &WORK)?;
+    expect_row(alloc, world, Row::Moves(1, steps))?;
+    play_tables(alloc, world, &[end, &BEHIND_WORK])
+}
+
+// So on a new sheet.
+fn ended_after(alloc: Global, steps: usize, end: &[Row]) -> Result<(), Fail> {
+    let mut world = SMALL.make(alloc)?;
+    end_after(alloc, &mut world, steps, end)
 }
 
 #[test]
 fn of_work(rt: HostRuntime) -> Result<(), Fail> {
     for steps in 0..25usize {
-        end_after(rt.alloc(), steps, &CRASH)?;
-        end_after(rt.alloc(), steps, &STOPS)?;
+        ended_after(rt.alloc(), steps, &CRASH)?;
+        ended_after(rt.alloc(), steps, &STOPS)?;
     }
     Ok(())
 }

@@ -2,8 +2,8 @@
 
 use ds_core::reply::Reply;
 use ds_eval::value::Value;
-use ds_fixtures::row::{Action, Row, play_first, play_on};
-use ds_fixtures::sheet::{A1, B1, B2, small_first_of_one};
+use ds_fixtures::row::{Action, Row, expect_row, play_on, play_tables, play_tables_of};
+use ds_fixtures::sheet::{A1, B1, B2, SMALL_FIRST, SMALL_FIRST_OF_ONE};
 use ds_formula::fault::{FaultKind, TextFault};
 use ds_layout::place::Place;
 use ds_state::answer::{Answer, EditEnd};
@@ -11,6 +11,7 @@ use ds_state::migration::MigrateEnd;
 use ds_state::recovery::{RecoveryEnd, Told};
 use ds_state::refusal::Refusal;
 use ds_state::stage::Point;
+use ds_state::world::World;
 use std::alloc::Global;
 use std::test::Fail;
 
@@ -89,21 +90,45 @@ const TELLS_ONE: [Row; 4] = [
     Row::Call(Action::Edit(0, B1, "4"), Answer::Edit(EditEnd::Done(2))),
 ];
 
+fn two_edits(alloc: Global, world: &mut World) -> Result<(), Fail> {
+    play_on(alloc, world, &TWO_EDITS)
+}
+
+// The texts, where a crash has come, or none.
+fn expect_texts(alloc: Global, world: &mut World, has_crashed: bool) -> Result<(), Fail> {
+    if has_crashed {
+        play_on(alloc, world, &TEXTS_WITH_ONE)
+    } else {
+        play_on(alloc, world, &TEXTS_WITH_BOTH)
+    }
+}
+
+// What recoveries tell then.
+fn expect_told(alloc: Global, world: &mut World, has_crashed: bool) -> Result<(), Fail> {
+    if has_crashed {
+        play_on(alloc, world, &TELLS_ONE)
+    } else {
+        play_on(alloc, world, &TELLS_BOTH)
+    }
+}
+
 // Without a migration: what the texts are behind this end, and what recoveries tell.
-fn told_without(alloc: Global, ended: &[Row], texts: &[Row], told: &[Row]) -> Result<(), Fail> {
-    let mut rows = Vec::new(alloc);
-    rows.extend_from_slice(&TWO_EDITS)?;
-    rows.extend_from_slice(ended)?;
-    rows.extend_from_slice(texts)?;
-    rows.extend_from_slice(told)?;
-    let mut world = small_first_of_one(alloc)?;
-    play_on(alloc, &mut world, &rows)
+fn told_without(alloc: Global, world: &mut World, has_crashed: bool) -> Result<(), Fail> {
+    two_edits(alloc, world)?;
+    if has_crashed {
+        expect_row(alloc, world, CRASH)?;
+    }
+    expect_texts(alloc, world, has_crashed)?;
+    expect_told(alloc, world, has_crashed)
 }
 
 #[test]
 fn no_migration(rt: HostRuntime) -> Result<(), Fail> {
-    told_without(rt.alloc(), &[], &TEXTS_WITH_BOTH, &TELLS_BOTH)?;
-    told_without(rt.alloc(), &[CRASH], &TEXTS_WITH_ONE, &TELLS_ONE)
+    for has_crashed in [false, true] {
+        let mut world = SMALL_FIRST_OF_ONE.make(rt.alloc())?;
+        told_without(rt.alloc(), &mut world, has_crashed)?;
+    }
+    Ok(())
 }
 
 // The version's word behind so many steps of a migration of one process.
@@ -115,39 +140,48 @@ fn version_behind(steps: usize) -> (u64, u64) {
     }
 }
 
-// A migration of so many steps is ended so, which leaves the version's word so; then one that is begun anew comes to
-// its end. Behind both the texts are these, and recoveries tell this.
-fn ended_after(
+const BEGUN: Row = Row::Event(Action::Migrate(0), Reply::Entered);
+
+// A migration of so many steps is ended so, which leaves the version's word so.
+fn end_after(
     alloc: Global,
+    world: &mut World,
+    steps: usize,
+    end: Row,
+    (cached, persisted): (u64, u64),
+) -> Result<(), Fail> {
+    expect_row(alloc, world, BEGUN)?;
+    expect_row(alloc, world, Row::Moves(0, steps))?;
+    expect_row(alloc, world, end)?;
+    expect_row(alloc, world, Row::Word(Place::Version, cached, persisted))
+}
+
+// One that is begun anew comes to its end: it finds this on the cached side of that word.
+fn migrate_anew(alloc: Global, world: &mut World, cached: u64) -> Result<(), Fail> {
+    let steps = match cached {
+        0 => Row::Steps(0, OF_ONE, MIGRATED),
+        _ => Row::Steps(0, 4, ALREADY),
+    };
+    expect_row(alloc, world, BEGUN)?;
+    expect_row(alloc, world, steps)?;
+    expect_row(alloc, world, Row::Word(Place::Version, 1, 1))
+}
+
+// A migration of so many steps is ended so, which leaves the version's word so; then one that is begun anew comes to
+// its end. Behind both the texts are as they are without one, and recoveries tell the same.
+fn ended_on(
+    alloc: Global,
+    world: &mut World,
     steps: usize,
     (end, version): (Row, (u64, u64)),
-    texts: &[Row],
-    told: &[Row],
+    has_crashed: bool,
 ) -> Result<(), Fail> {
-    let (cached, persisted) = version;
-    let (count, answer) = if cached == 0 {
-        (OF_ONE, MIGRATED)
-    } else {
-        (4, ALREADY)
-    };
-    let mut world = small_first_of_one(alloc)?;
-    play_on(alloc, &mut world, &TWO_EDITS)?;
-    let ended = [
-        Row::Event(Action::Migrate(0), Reply::Entered),
-        Row::Moves(0, steps),
-        end,
-        Row::Word(Place::Version, cached, persisted),
-    ];
-    play_on(alloc, &mut world, &ended)?;
-    play_on(alloc, &mut world, texts)?;
-    let anew = [
-        Row::Event(Action::Migrate(0), Reply::Entered),
-        Row::Steps(0, count, answer),
-        Row::Word(Place::Version, 1, 1),
-    ];
-    play_on(alloc, &mut world, &anew)?;
-    play_on(alloc, &mut world, texts)?;
-    play_on(alloc, &mut world, told)
+    two_edits(alloc, world)?;
+    end_after(alloc, world, steps, end, version)?;
+    expect_texts(alloc, world, has_crashed)?;
+    migrate_anew(alloc, world, version.0)?;
+    expect_texts(alloc, world, has_crashed)?;
+    expect_told(alloc, world, has_crashed)
 }
 
 // The first steps, some of the others, and the last ones.
@@ -158,10 +192,11 @@ fn is_looked_at(steps: usize) -> bool {
 #[test]
 fn crashed_behind_each_step(rt: HostRuntime) -> Result<(), Fail> {
     for steps in 0..15366usize {
-        let (_, persisted) = version_behind(steps);
-        let end = (CRASH, (persisted, persisted));
         if is_looked_at(steps) {
-            ended_after(rt.alloc(), steps, end, &TEXTS_WITH_ONE, &TELLS_ONE)?;
+            let (_, persisted) = version_behind(steps);
+            let end = (CRASH, (persisted, persisted));
+            let mut world = SMALL_FIRST_OF_ONE.make(rt.alloc())?;
+            ended_on(rt.alloc(), &mut world, steps, end, true)?;
         }
     }
     Ok(())
@@ -180,9 +215,10 @@ fn stop_behind(steps: usize) -> Row {
 #[test]
 fn stopped_behind_each_step(rt: HostRuntime) -> Result<(), Fail> {
     for steps in 0..15366usize {
-        let end = (stop_behind(steps), version_behind(steps));
         if is_looked_at(steps) {
-            ended_after(rt.alloc(), steps, end, &TEXTS_WITH_BOTH, &TELLS_BOTH)?;
+            let end = (stop_behind(steps), version_behind(steps));
+            let mut world = SMALL_FIRST_OF_ONE.make(rt.alloc())?;
+            ended_on(rt.alloc(), &mut world, steps, end, false)?;
         }
     }
     Ok(())
@@ -223,12 +259,7 @@ const TELLS_DONE: [Row; 5] = [
 
 // On a sheet of the first layout with those edits: these rows, what is told then, and these.
 fn behind_done(alloc: Global, migration: &[Row], last: &[Row]) -> Result<(), Fail> {
-    let mut rows = Vec::new(alloc);
-    rows.extend_from_slice(&DONE)?;
-    rows.extend_from_slice(migration)?;
-    rows.extend_from_slice(&TELLS_DONE)?;
-    rows.extend_from_slice(last)?;
-    play_first(alloc, &rows)
+    play_tables_of(alloc, SMALL_FIRST, &[&DONE, migration, &TELLS_DONE, last])
 }
 
 // The sheet takes a longer text then, and it stays.
@@ -315,7 +346,7 @@ fn lost(rt: HostRuntime) -> Result<(), Fail> {
 }
 
 // It stops where the cached side alone has the version's word: a recovery persists that before it reads a text.
-const STOPPED: [Row; 7] = [
+const STOPPED: [Row; 8] = [
     Row::Event(Action::Migrate(0), Reply::Entered),
     Row::Steps(0, 30722, Reply::Stepped),
     Row::Event(Action::Stop(0), Reply::Stopped),
@@ -323,21 +354,17 @@ const STOPPED: [Row; 7] = [
     Row::Event(Action::Recover(1), Reply::Entered),
     Row::Steps(1, 3, Reply::Stepped),
     Row::Word(Place::Version, 1, 1),
+    Row::End(
+        1,
+        Answer::Recovery(RecoveryEnd::Last(Told {
+            number: 0,
+            cell: 3,
+            counts: true,
+        })),
+    ),
 ];
-
-const ENDS: [Row; 1] = [Row::End(
-    1,
-    Answer::Recovery(RecoveryEnd::Last(Told {
-        number: 0,
-        cell: 3,
-        counts: true,
-    })),
-)];
 
 #[test]
 fn stopped(rt: HostRuntime) -> Result<(), Fail> {
-    let mut rows = Vec::new(rt.alloc());
-    rows.extend_from_slice(&STOPPED)?;
-    rows.extend_from_slice(&ENDS)?;
-    behind_done(rt.alloc(), &rows, &TAKES_LONGER)
+    behind_done(rt.alloc(), &STOPPED, &TAKES_LONGER)
 }

@@ -5,9 +5,9 @@ ghost use Rattle.std.specs.Mem.Slots.{slots_items};
 ghost use Rattle.ds_drives.specs.Rule.{AreTrue, AtRest, Behind};
 ghost use Rattle.ds_drives.specs.Views.{past_of};
 
-use crate::crowd::{Crowd, Game, reopened};
+use crate::crowd::{Crowd, Game, Hands, reopened};
 use crate::draw::Draw;
-use crate::ends::{Wrong, check, shown_by};
+use crate::ends::{Shown, Wrong, check, shown_by};
 use crate::gate::Gate;
 use crate::grid::{Values, all_values};
 use ds_shared::sheet::ClosedSheet;
@@ -58,15 +58,23 @@ fn play<R: Threads + Sync>(
     reopened(alloc, closed, hands).ok_or(Wrong::NoMemory)
 }
 
-// Each process recovers, the sheet settles, and it is closed, compared and opened again.
-fn compare(alloc: Global, crowd: Crowd) -> Result<Crowd, Wrong> {
-    let (crowd, reported) = crowd.calm(alloc);
-    let (closed, hands) = crowd.close(alloc).ok_or(Wrong::NoMemory)?;
+// A closed sheet, opened again, and what it shows.
+fn shown(alloc: Global, closed: ClosedSheet, hands: Hands) -> Result<(Crowd, Vec<Shown>), Wrong>
+    requires { (b : Behind) × AtRest closed.layout (slots_items closed.table.words) b × AreTrue closed.layout (slots_items closed.table.words) b (past_of closed.before) }
+{
     let Some(all) = shown_by(alloc, &closed) else {
         closed.free();
         return Err(Wrong::NoMemory);
     };
     let crowd = reopened(alloc, closed, hands).ok_or(Wrong::NoMemory)?;
+    Ok((crowd, all))
+}
+
+// Each process recovers, the sheet settles, and it is closed, compared and opened again.
+fn compare(alloc: Global, crowd: Crowd) -> Result<Crowd, Wrong> {
+    let (crowd, reported) = crowd.calm(alloc);
+    let (closed, hands) = crowd.close(alloc).ok_or(Wrong::NoMemory)?;
+    let (crowd, all) = shown(alloc, closed, hands)?;
     check(alloc, &all, &crowd, reported)?;
     Ok(crowd)
 }

@@ -39,26 +39,26 @@ pub struct Single {
     world: World,
 }
 
+// What a call does next that answers, or does not.
+fn due_if(answers: bool) -> Due {
+    if answers { Due::Thought } else { Due::Word }
+}
+
+fn due_in_work(stage: WorkStage) -> Due {
+    match stage {
+        WorkStage::Read | WorkStage::Answer(_) => Due::Thought,
+        WorkStage::Wait => Due::Entry,
+        _ => Due::Word,
+    }
+}
+
 // What the process does next.
 fn next_of(world: &World, process: usize) -> Due {
     match world.situations.get(process) {
-        Some(Situation::Editing(call)) => match call.stage {
-            Stage::Answer(_) => Due::Thought,
-            _ => Due::Word,
-        },
-        Some(Situation::Working(call)) => match call.stage {
-            WorkStage::Read | WorkStage::Answer(_) => Due::Thought,
-            WorkStage::Wait => Due::Entry,
-            _ => Due::Word,
-        },
-        Some(Situation::Recovering(call)) => match call.stage {
-            RecoverStage::Answer(_) => Due::Thought,
-            _ => Due::Word,
-        },
-        Some(Situation::Reporting(call)) => match call.stage {
-            ReportStage::Answer(_) => Due::Thought,
-            _ => Due::Word,
-        },
+        Some(Situation::Editing(call)) => due_if(matches!(call.stage, Stage::Answer(_))),
+        Some(Situation::Working(call)) => due_in_work(call.stage),
+        Some(Situation::Recovering(call)) => due_if(matches!(call.stage, RecoverStage::Answer(_))),
+        Some(Situation::Reporting(call)) => due_if(matches!(call.stage, ReportStage::Answer(_))),
         _ => Due::Thought,
     }
 }

@@ -75,23 +75,31 @@ fn call(
     }
 }
 
-// Each word has the same sides on both.
+// The word at a place has the same sides on both.
+fn compare_word(single: &Single, closed: &ClosedSheet, place: Place) -> Result<(), Difference> {
+    if !closed.layout().contains(place) {
+        return Err(Difference::NoMemory);
+    }
+    let shared = Word {
+        cached: closed.cached(place),
+        persisted: closed.persisted(place),
+    };
+    match single.word(place) {
+        Some(word) if word == shared => Ok(()),
+        Some(single) => Err(Difference::Word {
+            place,
+            single,
+            shared,
+        }),
+        None => Err(Difference::NoMemory),
+    }
+}
+
+// So has each word.
 fn compare(single: &Single, closed: &ClosedSheet) -> Result<(), Difference> {
     let layout = closed.layout();
     for number in 0..layout.words() {
-        let place = layout.place(number);
-        let shared = Word {
-            cached: closed.cached(place),
-            persisted: closed.persisted(place),
-        };
-        let single = single.word(place).ok_or(Difference::NoMemory)?;
-        if single != shared {
-            return Err(Difference::Word {
-                place,
-                single,
-                shared,
-            });
-        }
+        compare_word(single, closed, layout.place(number))?;
     }
     Ok(())
 }

@@ -3,7 +3,7 @@
 use crate::mismatch::Mismatch;
 use ds_core::event::{Event, Request};
 use ds_core::reply::Reply;
-use ds_core::take::take;
+use ds_core::take::{run, take};
 use ds_eval::task::{Evaluated, evaluate};
 use ds_formula::cells::Cell;
 use ds_layout::mark::State;
@@ -19,6 +19,20 @@ pub fn edit(alloc: Global, process: usize, cell: Cell, text: &str) -> Result<Eve
         cell,
         text,
     }))
+}
+
+/// A list of this event alone.
+pub fn alone(alloc: Global, event: Event) -> Result<Vec<Event>, AllocError> {
+    let mut events = Vec::new(alloc);
+    events.push(event)?;
+    Ok(events)
+}
+
+/// An event happens; the reply to it.
+pub fn happen(alloc: Global, world: &mut World, event: Event) -> Result<Option<Reply>, AllocError> {
+    let events = alone(alloc, event)?;
+    let replies = run(alloc, world, &events)?;
+    Ok(replies.last().copied())
 }
 
 /// The task of a work that waits, evaluated: none where the process waits for none.

@@ -1,8 +1,8 @@
 //! What happens to a sheet, and what it shows then, as rows of a table.
 
-use crate::calls::{advance, edit, evaluated, finish, settle, whole};
+use crate::calls::{advance, alone, edit, evaluated, finish, settle, whole};
 use crate::mismatch::Mismatch;
-use crate::sheet::{CELLS, small, small_first};
+use crate::sheet::{CELLS, SMALL, SMALL_FIRST, Sheet};
 use crate::shown::{
     expect_point, expect_report, expect_state, expect_text, expect_value, expect_word,
 };
@@ -157,7 +157,7 @@ fn expect_event(
     action: Action,
     wanted: Reply,
 ) -> Result<(), Mismatch> {
-    let events = [action.event(alloc, world)?];
+    let events = alone(alloc, action.event(alloc, world)?)?;
     expect_replies(alloc, world, &events, &[wanted])
 }
 
@@ -306,14 +306,53 @@ pub fn play_on(alloc: Global, world: &mut World, rows: &[Row]) -> Result<(), Fai
     Ok(())
 }
 
-/// The rows are true of a new sheet of two processes, one after the other.
-pub fn play(alloc: Global, rows: &[Row]) -> Result<(), Fail> {
-    let mut world = small(alloc)?;
+/// The row is true of the sheet.
+pub fn expect_row(alloc: Global, world: &mut World, row: Row) -> Result<(), Fail> {
+    match carry_out(alloc, world, row) {
+        Ok(()) => Ok(()),
+        Err(mismatch) => Err(Fail::new(format_args!("{row:?}: {mismatch:?}"))),
+    }
+}
+
+/// The rows are true of this sheet, made new, one after the other.
+pub fn play_of(alloc: Global, sheet: Sheet, rows: &[Row]) -> Result<(), Fail> {
+    let mut world = sheet.make(alloc)?;
     play_on(alloc, &mut world, rows)
 }
 
-/// The rows are true of a new sheet of two processes in the first layout, one after the other.
+/// So of a sheet of two processes.
+pub fn play(alloc: Global, rows: &[Row]) -> Result<(), Fail> {
+    play_of(alloc, SMALL, rows)
+}
+
+/// So of one in the first layout.
 pub fn play_first(alloc: Global, rows: &[Row]) -> Result<(), Fail> {
-    let mut world = small_first(alloc)?;
-    play_on(alloc, &mut world, rows)
+    play_of(alloc, SMALL_FIRST, rows)
+}
+
+/// The rows of these tables are true of the sheet, one table after the other.
+pub fn play_tables(alloc: Global, world: &mut World, tables: &[&[Row]]) -> Result<(), Fail> {
+    for table in tables {
+        play_on(alloc, world, table)?;
+    }
+    Ok(())
+}
+
+/// So of this sheet, made new.
+pub fn play_tables_of(alloc: Global, sheet: Sheet, tables: &[&[Row]]) -> Result<(), Fail> {
+    let mut world = sheet.make(alloc)?;
+    play_tables(alloc, &mut world, tables)
+}
+
+/// So many times the rows of these tables are true of the sheet.
+pub fn play_times(
+    alloc: Global,
+    world: &mut World,
+    count: usize,
+    tables: &[&[Row]],
+) -> Result<(), Fail> {
+    for _ in 0..count {
+        play_tables(alloc, world, tables)?;
+    }
+    Ok(())
 }

@@ -12,7 +12,7 @@ use ds_words::words::Word;
 use std::alloc::{AllocError, Global};
 
 // What a process does: its edit's number, or its next one's, the layout that it noted, and the stage of its call.
-#[derive(Clone, Copy, Debug, PartialEq, Eq)]
+#[derive(Clone, Copy, PartialEq, Eq)]
 enum Doing {
     Idle(Rest),
     Stopped,

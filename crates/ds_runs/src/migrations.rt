@@ -2,8 +2,8 @@
 
 use ds_core::reply::Reply;
 use ds_eval::value::Value;
-use ds_fixtures::row::{Action, Row, play, play_first, play_on};
-use ds_fixtures::sheet::{A1, A2, B1, B2, small_first_of_one};
+use ds_fixtures::row::{Action, Row, play, play_first, play_of, play_tables_of};
+use ds_fixtures::sheet::{A1, A2, B1, B2, SMALL_FIRST, SMALL_FIRST_OF_ONE};
 use ds_formula::fault::{FaultKind, TextFault};
 use ds_layout::place::{Edition, Place};
 use ds_state::answer::{Answer, EditEnd};
@@ -110,10 +110,8 @@ const STEPPED_TO_ITS_END: [Row; 6] = [
 
 #[test]
 fn of_one_process(rt: HostRuntime) -> Result<(), Fail> {
-    let mut world = small_first_of_one(rt.alloc())?;
-    play_on(rt.alloc(), &mut world, &OF_ONE_PROCESS)?;
-    let mut other = small_first_of_one(rt.alloc())?;
-    play_on(rt.alloc(), &mut other, &STEPPED_TO_ITS_END)
+    play_of(rt.alloc(), SMALL_FIRST_OF_ONE, &OF_ONE_PROCESS)?;
+    play_of(rt.alloc(), SMALL_FIRST_OF_ONE, &STEPPED_TO_ITS_END)
 }
 
 // A new sheet has the second layout.
@@ -269,9 +267,9 @@ const TAKES_MORE: [Row; 6] = [
 #[test]
 fn lengths(rt: HostRuntime) -> Result<(), Fail> {
     play(rt.alloc(), &SECOND_LAYOUT)?;
-    let mut rows = Vec::new(rt.alloc());
-    rows.extend_from_slice(&FIRST_LAYOUT)?;
-    rows.extend_from_slice(&WIDENED)?;
-    rows.extend_from_slice(&TAKES_MORE)?;
-    play_first(rt.alloc(), &rows)
+    play_tables_of(
+        rt.alloc(),
+        SMALL_FIRST,
+        &[&FIRST_LAYOUT, &WIDENED, &TAKES_MORE],
+    )
 }

@@ -4,7 +4,7 @@ use ds_core::reply::Reply;
 use ds_eval::value::Value;
 use ds_fixtures::mismatch::Mismatch;
 use ds_fixtures::row::{Action, Row, carry_out};
-use ds_fixtures::sheet::{A1, small};
+use ds_fixtures::sheet::{A1, SMALL};
 use ds_layout::mark::State;
 use ds_layout::place::Place;
 use ds_state::answer::Answer;
@@ -13,6 +13,7 @@ use ds_state::refusal::Refusal;
 use ds_state::stage::Point;
 use ds_state::work::WorkEnd;
 use ds_words::words::Word;
+use std::alloc::Global;
 use std::test::Fail;
 
 const BLANK: Value = Value::Blank;
@@ -77,12 +78,16 @@ const FALSE_ROWS: [(Row, Mismatch); 20] = [
     (Row::Reports(1), Mismatch::Answers(0)),
 ];
 
+// What is found where a row is not true of a new sheet.
+fn found(alloc: Global, row: Row) -> Result<Option<Mismatch>, Fail> {
+    let mut world = SMALL.make(alloc)?;
+    Ok(carry_out(alloc, &mut world, row).err())
+}
+
 #[test]
 fn false_rows(rt: HostRuntime) -> Result<(), Fail> {
     for (row, mismatch) in FALSE_ROWS {
-        let mut world = small(rt.alloc())?;
-        let found = carry_out(rt.alloc(), &mut world, row);
-        assert_eq!(rt; found, Err(mismatch), "{row:?}");
+        assert_eq!(rt; found(rt.alloc(), row)?, Some(mismatch), "{row:?}");
     }
     Ok(())
 }

@@ -1,8 +1,8 @@
 // Refusals, and events that can not happen: the whole sheet is the same before and after.
 
 use ds_core::reply::Reply;
-use ds_fixtures::row::{Action, Row, play, play_on};
-use ds_fixtures::sheet::{A1, A2, small};
+use ds_fixtures::row::{Action, Row, expect_row, play, play_on, play_tables_of, play_times};
+use ds_fixtures::sheet::{A1, A2, SMALL};
 use ds_formula::cells::Cell;
 use ds_formula::fault::{FaultKind, TextFault};
 use ds_layout::place::{Edition, Place};
@@ -58,18 +58,18 @@ const REFUSED_BEHIND_IT: [Row; 4] = [
 
 const BEGUN: [Row; 1] = [Row::Event(Action::Edit(0, A1, "1"), Reply::Begun(0))];
 
+const STEP: [Row; 1] = [Row::Steps(0, 1, Reply::Stepped)];
+
+// Before each step of an edit, and behind it.
 fn refused_at_each_step(alloc: Global, world: &mut World) -> Result<(), Fail> {
     play_on(alloc, world, &BEGUN)?;
-    for _ in 0..19usize {
-        play_on(alloc, world, &REFUSED)?;
-        play_on(alloc, world, &[Row::Steps(0, 1, Reply::Stepped)])?;
-    }
+    play_times(alloc, world, 19, &[&REFUSED, &STEP])?;
     play_on(alloc, world, &REFUSED_BEHIND_IT)
 }
 
 #[test]
 fn refused(rt: HostRuntime) -> Result<(), Fail> {
-    let mut world = small(rt.alloc())?;
+    let mut world = SMALL.make(rt.alloc())?;
     refused_at_each_step(rt.alloc(), &mut world)
 }
 
@@ -90,19 +90,22 @@ fn refused_where_it_is_stopped(rt: HostRuntime) -> Result<(), Fail> {
     play(rt.alloc(), &STOPPED_PROCESS)
 }
 
+// An edit with this number, in so many steps.
+fn spend_record(alloc: Global, world: &mut World, number: usize, steps: usize) -> Result<(), Fail> {
+    let done = Reply::Answered(Answer::Edit(EditEnd::Done(number)));
+    expect_row(
+        alloc,
+        world,
+        Row::Event(Action::Edit(0, A1, "1"), Reply::Begun(number)),
+    )?;
+    expect_row(alloc, world, Row::Steps(0, steps, done))
+}
+
 // Each edit but the first finds the one before it there, and says of it that it counts and is superseded.
 fn spend_records(alloc: Global, world: &mut World) -> Result<(), Fail> {
-    for number in 0..256usize {
-        let count = if number == 0 { 20 } else { 25 };
-        let rows = [
-            Row::Event(Action::Edit(0, A1, "1"), Reply::Begun(number)),
-            Row::Steps(
-                0,
-                count,
-                Reply::Answered(Answer::Edit(EditEnd::Done(number))),
-            ),
-        ];
-        play_on(alloc, world, &rows)?;
+    spend_record(alloc, world, 0, 20)?;
+    for number in 1..256usize {
+        spend_record(alloc, world, number, 25)?;
     }
     Ok(())
 }
@@ -162,7 +165,7 @@ const SPENT: [Row; 15] = [
 
 #[test]
 fn records_full(rt: HostRuntime) -> Result<(), Fail> {
-    let mut world = small(rt.alloc())?;
+    let mut world = SMALL.make(rt.alloc())?;
     spend_records(rt.alloc(), &mut world)?;
     play_on(rt.alloc(), &mut world, &SPENT)
 }
@@ -213,23 +216,35 @@ const NOT_ENABLED: [Row; 17] = [
 
 const IDLE: [Row; 1] = [Row::Still(Action::Step(0), Reply::NotEnabled)];
 
-// Process 0 is idle, at each of its steps, and idle again.
-fn not_enabled_at_each_step(alloc: Global, world: &mut World) -> Result<(), Fail> {
-    play_on(alloc, world, &NOT_ENABLED)?;
-    play_on(alloc, world, &IDLE)?;
+const LAST_STEP: [Row; 1] = [Row::Steps(0, 1, DONE)];
+
+fn none_is_enabled(alloc: Global, world: &mut World) -> Result<(), Fail> {
+    play_on(alloc, world, &NOT_ENABLED)
+}
+
+// Process 0 is at each of its steps.
+fn none_is_enabled_at_steps(alloc: Global, world: &mut World) -> Result<(), Fail> {
     play_on(alloc, world, &BEGUN)?;
-    for step in 0..20usize {
-        play_on(alloc, world, &NOT_ENABLED)?;
-        let wanted = if step < 19 { Reply::Stepped } else { DONE };
-        play_on(alloc, world, &[Row::Steps(0, 1, wanted)])?;
+    for _ in 0..19usize {
+        none_is_enabled(alloc, world)?;
+        play_on(alloc, world, &STEP)?;
     }
-    play_on(alloc, world, &NOT_ENABLED)?;
+    none_is_enabled(alloc, world)?;
+    play_on(alloc, world, &LAST_STEP)
+}
+
+// It is idle, so far, and idle again.
+fn not_enabled_at_each_step(alloc: Global, world: &mut World) -> Result<(), Fail> {
+    none_is_enabled(alloc, world)?;
+    play_on(alloc, world, &IDLE)?;
+    none_is_enabled_at_steps(alloc, world)?;
+    none_is_enabled(alloc, world)?;
     play_on(alloc, world, &IDLE)
 }
 
 #[test]
 fn not_enabled(rt: HostRuntime) -> Result<(), Fail> {
-    let mut world = small(rt.alloc())?;
+    let mut world = SMALL.make(rt.alloc())?;
     not_enabled_at_each_step(rt.alloc(), &mut world)
 }
 
@@ -244,10 +259,7 @@ const SECOND_CALLS: [Row; 5] = [
 
 // They are refused behind these rows.
 fn busy_behind(alloc: Global, first: &[Row]) -> Result<(), Fail> {
-    let mut rows = Vec::new(alloc);
-    rows.extend_from_slice(first)?;
-    rows.extend_from_slice(&SECOND_CALLS)?;
-    play(alloc, &rows)
+    play_tables_of(alloc, SMALL, &[first, &SECOND_CALLS])
 }
 
 const WORKING: [Row; 1] = [Row::Event(Action::Work(0, A1), Reply::Entered)];

@@ -5,7 +5,7 @@ use ds_core::reply::Reply;
 use ds_eval::task::Evaluated;
 use ds_fixtures::calls::evaluated;
 use ds_fixtures::row::{Action, Row, expect_unchanged, play_on};
-use ds_fixtures::sheet::{A1, small};
+use ds_fixtures::sheet::{A1, SMALL};
 use ds_layout::place::Place;
 use ds_state::answer::{Answer, EditEnd};
 use ds_state::work::WorkEnd;
@@ -37,16 +37,21 @@ const ONE_EDIT: [Row; 3] = [
     Row::Steps(0, 10, Reply::Stepped),
 ];
 
-// A new sheet after these rows.
-fn after(alloc: Global, rows: &[Row]) -> Result<World, Fail> {
-    let mut world = small(alloc)?;
-    play_on(alloc, &mut world, rows)?;
-    Ok(world)
-}
-
 // The task of the work of process 0.
 fn task_of(alloc: Global, world: &World) -> Result<Evaluated, Fail> {
     Ok(evaluated(alloc, world, 0)?.ok_or("no task")?)
+}
+
+// So on a new sheet, after these rows.
+fn task_after(alloc: Global, rows: &[Row]) -> Result<Evaluated, Fail> {
+    let mut world = SMALL.make(alloc)?;
+    play_on(alloc, &mut world, rows)?;
+    task_of(alloc, &world)
+}
+
+// The generation in which that work holds its cell.
+fn generation_after(alloc: Global, rows: &[Row]) -> Result<u64, Fail> {
+    Ok(task_after(alloc, rows)?.task().generation)
 }
 
 // A task that no work of the sheet waits for changes nothing.
@@ -55,27 +60,33 @@ fn expect_wrong(alloc: Global, world: &mut World, task: Evaluated) -> Result<(),
     Ok(())
 }
 
+// The task of another sheet is wrong.
+fn expect_other_wrong(alloc: Global, world: &mut World) -> Result<(), Fail> {
+    let task = task_after(alloc, &FIVE_EDITS)?;
+    expect_wrong(alloc, world, task)
+}
+
 const END: [Row; 1] = [Row::End(0, Answer::Work(WorkEnd::Published(true)))];
 
-// The other sheet's task is wrong where no work waits, and where one waits for another task.
-fn expect_other_wrong(alloc: Global, world: &mut World, other: &World) -> Result<(), Fail> {
-    expect_wrong(alloc, world, task_of(alloc, other)?)?;
+// It is wrong where no work waits, and where one waits for another task.
+fn expect_other_wrong_twice(alloc: Global, world: &mut World) -> Result<(), Fail> {
+    expect_other_wrong(alloc, world)?;
     play_on(alloc, world, &ONE_EDIT)?;
-    expect_wrong(alloc, world, task_of(alloc, other)?)?;
+    expect_other_wrong(alloc, world)?;
     play_on(alloc, world, &END)
 }
 
 #[test]
 fn of_another_sheet(rt: HostRuntime) -> Result<(), Fail> {
-    let other = after(rt.alloc(), &FIVE_EDITS)?;
-    assert_eq!(rt; task_of(rt.alloc(), &other)?.task().generation, 9);
-    let mut world = small(rt.alloc())?;
-    expect_other_wrong(rt.alloc(), &mut world, &other)
+    assert_eq!(rt; generation_after(rt.alloc(), &FIVE_EDITS)?, 9);
+    let mut world = SMALL.make(rt.alloc())?;
+    expect_other_wrong_twice(rt.alloc(), &mut world)
 }
 
 const OFFERED: [Row; 1] = [Row::Event(Action::Offer(0), Reply::Stepped)];
 
 fn expect_again_wrong(alloc: Global, world: &mut World) -> Result<(), Fail> {
+    play_on(alloc, world, &ONE_EDIT)?;
     let again = task_of(alloc, world)?;
     play_on(alloc, world, &OFFERED)?;
     expect_wrong(alloc, world, again)?;
@@ -84,6 +95,6 @@ fn expect_again_wrong(alloc: Global, world: &mut World) -> Result<(), Fail> {
 
 #[test]
 fn offered_again(rt: HostRuntime) -> Result<(), Fail> {
-    let mut world = after(rt.alloc(), &ONE_EDIT)?;
+    let mut world = SMALL.make(rt.alloc())?;
     expect_again_wrong(rt.alloc(), &mut world)
 }
