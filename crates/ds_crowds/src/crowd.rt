@@ -158,6 +158,35 @@ fn pair<R: Threads + Sync>(
     )
 }
 
+// Three threads, each with a process that makes drawn calls.
+fn trio<R: Threads + Sync>(
+    rt: &R,
+    alloc: Global,
+    sheet: &SharedSheet,
+    one: Member,
+    two: Member,
+    last: Member,
+    game: Game,
+) -> (Member, (Member, Member))
+    requires { IsOf sheet.now one.pass × IsOf sheet.now two.pass × IsOf sheet.now last.pass }
+    ensures { IsOf sheet.now result.0.pass × IsOf sheet.now result.1.0.pass × IsOf sheet.now result.1.1.pass }
+{
+    join(
+        rt,
+        || -> Member
+            requires { IsOf sheet.now one.pass }
+            ensures { IsOf sheet.entry.now result.pass }
+        {
+            game.gate.pass(4);
+            play(alloc, sheet, one, game.steps, game.possible)
+        },
+        || -> (Member, Member)
+            requires { IsOf sheet.now two.pass × IsOf sheet.now last.pass }
+            ensures { IsOf sheet.entry.now result.0.pass × IsOf sheet.entry.now result.1.pass }
+        { pair(rt, alloc, sheet, two, last, game) },
+    )
+}
+
 // Four threads, each with a process that makes drawn calls.
 fn four<R: Threads + Sync>(
     rt: &R,
@@ -175,16 +204,19 @@ fn four<R: Threads + Sync>(
         third,
         fourth,
     } = members;
-    let ((first, second), (third, fourth)) = join(
+    let (first, (second, (third, fourth))) = join(
         rt,
-        || -> (Member, Member)
-            requires { IsOf sheet.now first.pass × IsOf sheet.now second.pass }
-            ensures { IsOf sheet.entry.now result.0.pass × IsOf sheet.entry.now result.1.pass }
-        { pair(rt, alloc, sheet, first, second, game) },
-        || -> (Member, Member)
-            requires { IsOf sheet.now third.pass × IsOf sheet.now fourth.pass }
-            ensures { IsOf sheet.entry.now result.0.pass × IsOf sheet.entry.now result.1.pass }
-        { pair(rt, alloc, sheet, third, fourth, game) },
+        || -> Member
+            requires { IsOf sheet.now first.pass }
+            ensures { IsOf sheet.entry.now result.pass }
+        {
+            game.gate.pass(4);
+            play(alloc, sheet, first, game.steps, game.possible)
+        },
+        || -> (Member, (Member, Member))
+            requires { IsOf sheet.now second.pass × IsOf sheet.now third.pass × IsOf sheet.now fourth.pass }
+            ensures { IsOf sheet.entry.now result.0.pass × IsOf sheet.entry.now result.1.0.pass × IsOf sheet.entry.now result.1.1.pass }
+        { trio(rt, alloc, sheet, second, third, fourth, game) },
     );
     Members {
         first,
