@@ -11,6 +11,7 @@ ghost use Rattle.ds_work.specs.Reading.{IsReading};
 use crate::board::Board;
 use ds_formula::cells::{Cell, Shape};
 use ds_formula::content::Content;
+use ds_layout::head::Head;
 use ds_layout::place::RECORDS;
 use ds_state::edit::EditCall;
 use ds_state::text::Text;
@@ -110,9 +111,10 @@ impl KeptTexts {
         }
     }
 
-    // What is kept for the record that a head's word names: the word has its process above its number.
+    // What is kept for the record that a head's word names.
     fn named(&self, head: u64) -> Option<&KeptText> {
-        self.records.get((head % 65536) as usize)?.get()
+        let head = Head::parts(head);
+        self.records.get(head.process * RECORDS + head.number)?.get()
     }
 
     /// The work has the content of the text that it has gathered, on a sheet of this shape, and lists the cells written
