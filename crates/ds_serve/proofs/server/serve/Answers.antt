@@ -5,6 +5,6 @@ use Rattle.ds_serve.proofs.server.serve.Goals as goal
 
 pub serve_floor-requires-sync-F : goal.serve_floor-requires-sync-F
 serve_floor-requires-sync-F g c κs within =
-    let row = lts.arg-11-0 g.row.R g.R.laws g.R.Threads g.R.Threads-dict g.R.Wait g.R.Wait-dict g.R.Clock g.R.Clock-dict g.R.Log g.R.Log-dict κs in
+    let row = lts.arg-11-0 g.row.R g.R.laws g.R.Threads-dict g.R.Wait-dict g.R.Clock-dict g.R.Log-dict κs in
     let inside : IsSync row = search (sendable, seats_sync) depth 60 in
     param_sync 0 row inside
