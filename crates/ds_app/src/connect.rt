@@ -1,10 +1,10 @@
 //! `dsheet connect`.
 
-use ds_options::connecting::Connecting;
 use crate::status::{BAD_STORE, NO_MEMORY, STREAM_FAILED};
 use ds_connect::answer::answer_lines;
 use ds_connect::ask::{Ask, read_ask};
 use ds_connect::request::request_line;
+use ds_options::connecting::Connecting;
 use ds_streams::fields::is_skipped;
 use serde_json::Value as Json;
 use std::alloc::Global;

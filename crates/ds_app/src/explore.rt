@@ -1,10 +1,10 @@
 //! `dsheet explore`.
 
-use ds_options::exploring::Exploring;
 use crate::faults::show_line;
 use crate::status::{NO_MEMORY, STREAM_FAILED, explore_status};
 use ds_explore::explore::{ExploreEnd, explore as explore_orders};
 use ds_explore::options::{Options, Watcher};
+use ds_options::exploring::Exploring;
 use ds_streams::input::{InputEnd, read_input};
 use ds_streams::line::INPUT_LIMIT;
 use ds_streams::streams::{Reading, Writing};

@@ -14,9 +14,7 @@ mod status;
 mod stores;
 mod trace;
 
-use ds_options::command_line::{Action, OptionsFault, options};
 use crate::connect::connect;
-use ds_options::connecting::Stopping;
 use crate::copying::Copying;
 use crate::descriptors::stand_ins;
 use crate::explore::explore;
@@ -29,6 +27,8 @@ use crate::stores::{check, compact, export, import};
 use crate::trace::trace;
 use clap::Error;
 use clap::error::ErrorKind;
+use ds_options::command_line::{Action, OptionsFault, options};
+use ds_options::connecting::Stopping;
 use ds_play::script::run_script;
 use ds_stops::range::StopRange;
 use ds_stops::stops::stop_in_range;

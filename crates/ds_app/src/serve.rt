@@ -3,10 +3,10 @@
 ghost use Rattle.ds_options.specs.Servings.{IsWithinLimits};
 
 use crate::control::{Control, Listening, listen};
-use ds_options::serving::Serving;
 use crate::status::{NO_MEMORY, STREAM_FAILED};
 use crate::stores::{Disk, close, tell_fault};
 use ds_layout::layout::Layout;
+use ds_options::serving::Serving;
 use ds_serve::counts::Taken;
 use ds_serve::door::Door;
 use ds_serve::keeping::Keeping;

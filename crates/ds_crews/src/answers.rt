@@ -132,7 +132,11 @@ const MIGRATING: [Row; 6] = [
         Ask::Work(A1),
         Seen::Worked(Worked::Refused(Refusal::Busy)),
     ),
-    (0, Ask::Report, Seen::Reported(Reported::Refused(Refusal::Busy))),
+    (
+        0,
+        Ask::Report,
+        Seen::Reported(Reported::Refused(Refusal::Busy)),
+    ),
     (
         0,
         Ask::Recover,

@@ -114,7 +114,9 @@ impl KeptTexts {
     // What is kept for the record that a head's word names.
     fn named(&self, head: u64) -> Option<&KeptText> {
         let head = Head::parts(head);
-        self.records.get(head.process * RECORDS + head.number)?.get()
+        self.records
+            .get(head.process * RECORDS + head.number)?
+            .get()
     }
 
     /// The work has the content of the text that it has gathered, on a sheet of this shape, and lists the cells written
