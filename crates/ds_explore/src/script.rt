@@ -29,7 +29,7 @@ const POINTS: [PointName; 16] = [
 ];
 
 // Steps of one process, one after another.
-#[derive(Clone, Copy, Debug, PartialEq, Eq)]
+#[derive(Clone, Copy)]
 struct Steps {
     process: usize,
     // The last point that they have come to.
