@@ -61,6 +61,7 @@ just_one p n (x ∷ es) e once there process number = elim (its p n x) [
     later differs (zero, lt, is) = absurd (differs (ap (λ (f : Placed). f.edit.process) is ∙ process) (ap (λ (f : Placed). f.edit.number) is ∙ number))
     later differs (suc k, lt, is) = (k, omega arith, is)
 
+-- the place of an element is below the list's length
 pub within : {A : Type 0} (xs : List A) (k : ℕ) (x : A) → slice_get xs k ≡ Some x → k < length xs
 within [] k x is = absurd (cc)
 within (y ∷ xs) zero x is = omega arith

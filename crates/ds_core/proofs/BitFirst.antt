@@ -91,6 +91,7 @@ module _ (e : PlainEditCall) (head : Head) (f : PlainEdit) (r : PlainRecoverCall
         counts = (there, still_counts there);
       }
 
+-- a recovery that looks at the done bit first and at the head last can find neither, of an edit that counts
 pub finds_neither : (e : PlainEditCall) (head : Head) (f : PlainEdit) (r : PlainRecoverCall) (first last : PlainWorld) → IsSound first → IsRecoveryOf r f → e.process ≢ f.process → e.cell ≡ f.cell
     → Contains first.counted f → HasNoBit first f → TakesOver e head first last → FindsNeither r f first last
 finds_neither e head f r first last sound mine ne cell there none t = finds e head f r first last sound t mine ne cell there none

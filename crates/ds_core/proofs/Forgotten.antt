@@ -326,6 +326,7 @@ module _ (old : WorldValue) (events : List Event) (replies : List Reply) (new : 
         again = again;
       }
 
+-- an edit that a recovery forgets was at no moment announced on the persisted side, and its number is given out again
 pub forgotten_law : (old : WorldValue) (events : List Event) (replies : List Reply) (new : WorldValue) (h : Headline old events replies new) (k p : ℕ) (end : RecoveryEnd)
     → Happens events replies k (Step p) (Answered (Recovery end)) → (f : Forgets (h.run.moment k).ledger p end (h.run.moment (k + 1)).ledger) → IsForgotten h.run.moment events replies k p f.open_edit.it
 forgotten_law old events replies new h k p end happens f = is_forgotten old events replies new h k p end happens f

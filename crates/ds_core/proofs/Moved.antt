@@ -21,6 +21,7 @@ use Rattle.ds_core.specs.declared.reply.Reply.TheVariants.{Begun, Entered, Refus
 abbrev pub IsFresh : ℕ → (PlainEdit → Type 0) → Ledger → ℕ → Open → Type 0
 IsFresh k I old q o = (o.it.place ≡ k) × (o.it.edit.process ≡ q) × I o.it.edit × (o.it.edit.number ≡ next_number (old.told q))
 
+-- the open edit is the one that the process had before
 pub record WasOpen (old : Ledger) (q : ℕ) (now : Open) : Type 0 where
   pub o : Open
   pub was : old.opens q ≡ Some o

@@ -195,6 +195,7 @@ module _ (q : ℕ) (l l' : Ledger) (v v' : WorldValue) (t : Tells l v) (turn : I
 
 -- ---- what a record that stands tells
 
+-- a record whose header stands on both sides tells its cell
 pub recorded_tells : (w : PlainWorld) (edition : Edition) (e : PlainEdit) (size : ℕ) → 0 < size → IsRecorded w edition e size size → e.cell < cells_of w.layout → length e.text ≤ TEXT_MOST
     → (cell_told w.layout (w.memory.cached (Header e.process e.number)) ≡ e.cell) × (cell_told w.layout (w.memory.persisted (Header e.process e.number)) ≡ e.cell)
 recorded_tells w edition e size some r low few =

@@ -10,6 +10,7 @@ use Rattle.ds_formula.proofs.Exists.{answered}
 use Rattle.ds_formula.proofs.Whole.{only_content, only_one}
 use Rattle.ds_eval.specs.Code.{plain_code}
 
+-- that a text has this content is had again from the mere fact of it
 pub reads_had : (shape : Shape) (text : List ℕ) (content : PlainContent) → ∥ Reads shape text content ∥₁ → Reads shape text content
 reads_had shape text content had = by (answered shape text)
   where

@@ -37,12 +37,14 @@ starts_send = search (sendable, crosses) depth 20
 starts_sync : IsSync Starts.the_row
 starts_sync = search (sendable, crosses) depth 20
 
+-- a board may go to another thread
 pub board_send : IsSend Board.the_row
 board_send = declared_send (declared Board.struct _) (
   search (sendable, table_send, right_send, crosses) depth 60 fits 100000,
   (layout_send, (starts_send, (kept_send, tt))),
 )
 
+-- a board may be shared by threads
 pub board_sync : IsSync Board.the_row
 board_sync = declared_sync (declared Board.struct _) (
   search (sendable, table_sync, right_sync, crosses) depth 60 fits 100000,

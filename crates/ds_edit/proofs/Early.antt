@@ -13,6 +13,7 @@ passed : (w : PlainWorld) (by e : PlainEdit) (before after : List PlainEdit) →
 passed w by e before [] parts = record { edit = by; process_is = refl; number_is = refl; before = before; next = e; after = []; parts = parts }
 passed w by e before (x ∷ after) parts = record { edit = by; process_is = refl; number_is = refl; before = before; next = x; after = after ++ e ∷ []; parts = parts }
 
+-- a swap that wins while the done bit of the edit that it replaces is not persisted leaves no sound world
 pub early_swing : (e : PlainEditCall) (head : ℕ) (by : PlainEdit) (old new : PlainWorld) → StandsUndone old e.cell by → Swings e head old new → IsSound new → ⊥
 early_swing e head by old new stands swings sound =
     let cell : by.cell ≡ e.cell = cell_of-middle e.cell old.counted stands.head.before by stands.head.after stands.head.parts in

@@ -30,5 +30,6 @@ names_by e (Some how) w sound fits =
     let one : both.cell ≡ e.cell = sym both.cached.of_cell ∙ ap (λ (h : Header). h.cell) (same_header both.cached.header read.header (sym both.cached.is ∙ read.is)) ∙ read.of_cell in
     (read, subst (λ c. SaysCell w.layout c (w.memory.persisted (place.Header e.process (number_of e)))) one both.persisted)
 
+-- a recovery's answer names the cell that both sides of its record's header say
 pub names_cell : (e : PlainRecoverCall) (how : Option Bool) (w : PlainWorld) → IsSound w → e.process < w.layout.processes → w.situation e.process ≡ Recovering e → e.stage ≡ Answer how → NamesCell w e.process (end_of e how)
 names_cell e how w sound real was last = names_by e how w sound (fits_of (at e (Answer how)) w sound real (was ∙ ap (λ s. Recovering (at e s)) last))

@@ -71,5 +71,6 @@ relies_on p c old new relies a = record {
   alone = λ q issue other is. relies.alone q issue other (sym (a.others q other) ∙ is);
 }
 
+-- an answer that leaves the cell of an undone edit unmarked leaves no sound world
 pub unmarked_answer : (p c : ℕ) (old new : PlainWorld) → ReliesOn old p c → AnswersUnmarked p c old new → IsSound new → ⊥
 unmarked_answer p c old new relies a sound = subst (λ (s : Situation). Excuses new p s c (new.memory.cached (Mark c))) a.answered (relied new p c sound (relies_on p c old new relies a))

@@ -61,5 +61,6 @@ module _ (first last : PlainWorld) (e : PlainEdit) (values : List Value) (apart 
     none = λ es b are. no_time es (one_of_both first.counted es last.counted e apart.counted b.since b.grown b.until b.grows) are;
   }
 
+-- values that are collected half before an edit and half behind it are those of no moment
 pub mixed_of_none : (first last : PlainWorld) (e : PlainEdit) (values : List Value) → AreAnEditApart first last e → AreMixed first last values → AreOfNoMoment first last values
 mixed_of_none first last e values apart mixed = no_moment first last e values apart mixed

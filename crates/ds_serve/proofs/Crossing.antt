@@ -62,6 +62,7 @@ listener_sync = search (sendable, crosses) depth 40
 pub service_send : IsSend Service.the_row
 service_send = search (sendable, crosses) depth 40
 
+-- a queue of seats may be shared by threads
 pub seats_sync : IsSync (ArrayQueue.the_row Seat.the_row Global.the_row ghosts)
 seats_sync = search (sendable, crosses, shared_sync, lease_sync, seat_send) depth 60 fits 100000
 
