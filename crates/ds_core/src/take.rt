@@ -36,8 +36,9 @@ fn edit_takes(alloc: Global, world: &mut World, process: usize, cell: Cell, text
     }
 }
 
-/// A process begins an edit of the cell to the text, or is refused: what `take` does by that event, which would own
-/// the text.
+/// A process begins an edit of the cell to the text: what `take` does by that event, which would own the text. It is
+/// answered by its number, from 0; by a refusal with its cause, want of memory among them; or as not enabled, where the
+/// sheet has no such process or cell. Behind the last two the world is as before.
 pub fn begin_edit(
     alloc: Global,
     world: &mut World,
