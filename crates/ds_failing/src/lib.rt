@@ -1,0 +1,15 @@
+//! What no transcript can have: readers and writers that fail, explorations of too few states, and what a journal keeps.
+#![tactic(auto)]
+
+#[cfg(test)]
+mod explorations;
+#[cfg(test)]
+mod grids;
+#[cfg(test)]
+mod journals;
+#[cfg(test)]
+mod pictures;
+#[cfg(test)]
+mod scripts;
+#[cfg(test)]
+mod stops;

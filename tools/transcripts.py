@@ -1,0 +1,113 @@
+#!/usr/bin/env python3
+"""Plays the rows of transcripts/ by the program: what each is given, and what it has to answer. The last line says how
+many there were.
+    tools/transcripts.py PROGRAM [FILE ..]        all files of transcripts/, where none is named
+A row begins with a line '== WORDS', the words of its command line. Its other lines are
+    > TEXT      a line of standard input
+    < TEXT      a line of standard output; all of them, in their order, are what is answered
+    * TEXT      standard output has this text in it
+    - TEXT      standard output has it nowhere
+    ! TEXT      the first line of standard error
+    ? STATUS    the exit status; where no line says it, it is 0, and nothing is said on standard error
+    # TEXT      a comment, as are lines before the first row
+In a text, \\xHH is a byte, \\\\ a backslash, and \\c at the end of a line of input says that no line feed ends it. A
+picture has to be well-formed XML, too.
+"""
+import os
+import re
+import subprocess
+import sys
+import xml.etree.ElementTree
+from concurrent.futures import ThreadPoolExecutor
+
+TOP = os.path.dirname(os.path.dirname(os.path.realpath(__file__)))
+SECONDS = 120
+ESCAPE = re.compile(rb"\\(x[0-9a-f]{2}|\\|c$)")
+
+
+class Row:
+    """One run of the program, and what it has to come to."""
+
+    def __init__(self, place, words):
+        self.place, self.words, self.status = place, words, 0
+        self.given, self.answers, self.has, self.lacks, self.said = [], [], [], [], None
+
+    def take(self, mark, text):
+        """Takes a line of the row in."""
+        if mark == b">":
+            self.given.append(text)
+        elif mark == b"<":
+            self.answers.append(text + b"\n")
+        elif mark == b"*":
+            self.has.append(text)
+        elif mark == b"-":
+            self.lacks.append(text)
+        elif mark == b"!":
+            self.said = text
+        elif mark == b"?":
+            self.status = int(text)
+        else:
+            sys.exit(f"{self.place}: a line begins with {mark!r}")
+
+    def wrong(self, program):
+        """What the program does otherwise, or nothing."""
+        try:
+            ran = subprocess.run([program, *self.words], input=b"".join(self.given), capture_output=True, timeout=SECONDS)
+        except subprocess.TimeoutExpired:
+            return f"no end after {SECONDS} seconds"
+        out, said = ran.stdout, ran.stderr.split(b"\n")[0] if ran.stderr else None
+        if ran.returncode != self.status:
+            return f"status {ran.returncode}, and not {self.status}; standard error: {ran.stderr[:300]!r}"
+        if said != self.said:
+            return f"standard error begins with {said!r}, and not with {self.said!r}"
+        if not self.has and not self.lacks and out != b"".join(self.answers):
+            return f"answered:\n{out.decode(errors='replace')}"
+        missing = [it for it in self.has if it not in out] + [b"not: " + it for it in self.lacks if it in out]
+        if missing:
+            return f"the answer should have this, or should not: {missing!r}"
+        if out.startswith(b"<svg"):
+            xml.etree.ElementTree.fromstring(out)
+        return None
+
+
+def text_of(text, is_given):
+    """The bytes that a text stands for: of a line of input with its line feed, unless it says that none ends it."""
+    ends = is_given and not text.endswith(b"\\c")
+    plain = ESCAPE.sub(lambda it: {b"\\": b"\\", b"c": b""}.get(it[1]) if it[1][:1] != b"x" else bytes([int(it[1][1:], 16)]), text)
+    return plain + b"\n" * ends
+
+
+def rows_of(path):
+    """The rows of a file."""
+    rows = []
+    with open(path, "rb") as it:
+        for number, line in enumerate(it.read().split(b"\n"), 1):
+            mark, _, text = line.partition(b" ")
+            if mark == b"==":
+                rows.append(Row(f"{os.path.relpath(path, TOP)}:{number}", text.decode().split()))
+            elif line and mark != b"#" and rows:
+                rows[-1].take(mark, text_of(text, mark == b">"))
+    return rows
+
+
+def play(what, program, rows):
+    """Plays the rows beside each other, and tells of those that come to something else: the exit status of the tool."""
+    failed = 0
+    with ThreadPoolExecutor(os.cpu_count()) as pool:
+        for row, wrong in zip(rows, pool.map(lambda row: row.wrong(program), rows)):
+            if wrong:
+                failed += 1
+                print(f"{row.place}: dsheet {' '.join(row.words)}: {wrong}", file=sys.stderr)
+    print(f"{what}: {len(rows) - failed} rows as they have to be, {failed} otherwise")
+    return 1 if failed else 0
+
+
+def main():
+    program = os.path.realpath(sys.argv[1])
+    folder = f"{TOP}/transcripts"
+    rows = [row for path in sys.argv[2:] or sorted(f"{folder}/{it}" for it in os.listdir(folder)) for row in rows_of(path)]
+    return play("transcripts", program, rows)
+
+
+if __name__ == "__main__":
+    sys.exit(main())
