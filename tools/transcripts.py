@@ -3,8 +3,8 @@
 many there were.
     tools/transcripts.py PROGRAM [FILE ..]        all files of transcripts/, where none is named
 A row begins with a line '== WORDS', the words of its command line. Its other lines are
-    > TEXT      a line of standard input
-    < TEXT      a line of standard output; all of them, in their order, are what is answered
+    > TEXT      a line of standard input; with a number behind the >, so many times
+    < TEXT      a line of standard output, or so many; all of them, in their order, are what is answered
     * TEXT      standard output has this text in it
     - TEXT      standard output has it nowhere
     ! TEXT      the first line of standard error
@@ -34,10 +34,11 @@ class Row:
 
     def take(self, mark, text):
         """Takes a line of the row in."""
-        if mark == b">":
-            self.given.append(text)
-        elif mark == b"<":
-            self.answers.append(text + b"\n")
+        times = int(mark[1:] or b"1") if mark[:1] in (b">", b"<") else 1
+        if mark[:1] == b">":
+            self.given += [text] * times
+        elif mark[:1] == b"<":
+            self.answers += [text + b"\n"] * times
         elif mark == b"*":
             self.has.append(text)
         elif mark == b"-":
@@ -86,7 +87,7 @@ def rows_of(path):
             if mark == b"==":
                 rows.append(Row(f"{os.path.relpath(path, TOP)}:{number}", text.decode().split()))
             elif line and mark != b"#" and rows:
-                rows[-1].take(mark, text_of(text, mark == b">"))
+                rows[-1].take(mark, text_of(text, mark[:1] == b">"))
     return rows
 
 
