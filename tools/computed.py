@@ -1,6 +1,6 @@
 #!/usr/bin/env python3
 """Plays by the program what no file should hold: the large sheets of bench/ whose values have closed forms, inputs at
-their limits and over them, and what a crash behind each step of an edit leaves. The last line says how many there were.
+their limits and over them, sessions among them, and what a crash behind each step of an edit leaves. The last line says how many there were.
     tools/computed.py PROGRAM
 """
 import os
@@ -90,6 +90,9 @@ def limits():
     yield row("stops over it", "run --stops", edit, blocks("A1", "7,\n,\n", 13, 20), too_long, 3)
     for words in ("trace", "explore"):
         yield row(f"{words} over the limit", words, b"\n" * (LIMIT + 1), b"", too_long, 3)
+    ten = row("a run of ten edits", "trace", b"set 0 A1 7\n" * 10)
+    ten.has = [b"</svg>"]
+    yield ten
     yield row("a run of too many events", "trace", b"set 0 A1 7\n" * 100, b"", "dsheet: run too long: more than 1000 events", 3)
     full = "".join(f"0 {k} done\n" for k in range(256)) + "0 refused 4 RecordsFull\n0 refused 1 NotWhole 2\nclean\nsettled\n1,\n,\n"
     yield row("256 edits", "run", b"set 0 A1 1\n" * 256 + b"set 0 A1 2\nset 0 A1 =1.5\nsettle 0\nreport 0\n", full.encode())
@@ -124,9 +127,32 @@ def stops():
         yield row(words, words, b"set 0 A1 7\nfly\n", told, "line 2: unknown command", 1)
 
 
+def refusal(code, name):
+    """A refusal of a line of a session."""
+    return b'{"code":%d,"error":"%s"}\n' % (code, name.encode())
+
+
+def sessions():
+    """Lines of 4,096 bytes and of one more, brackets within brackets as deep as the parser reads and one deeper, a
+    session of just so many bytes and one byte more, and the 257th edit of a process."""
+    not_json, unknown, field, long = refusal(1, "not-json"), refusal(2, "unknown-op"), refusal(3, "bad-field"), refusal(5, "line-too-long")
+    for spaces, behind, told in ((4095, b"5\n", field), (4096, b"5\n", long), (4095, b"5\r\n", long), (4094, b"5\r\n", field)):
+        yield row(f"{spaces} spaces", "serve", b" " * spaces + behind + b'{"op":"fly"}\n', told + unknown)
+    fly = b'{"op":"fly","x":'
+    for front, depth, behind, told in ((b"", 127, b"", field), (b"", 128, b"", not_json), (fly, 126, b"}", unknown), (fly, 127, b"}", not_json)):
+        yield row(f"{depth} arrays", "serve", front + b"[" * depth + b" " + b"]" * depth + behind + b"\n", told)
+    lines = (b" " * 1023 + b"\n") * 1024
+    yield row("a session within its limit", "serve", lines, not_json * 1024)
+    yield row("a session over it", "serve", lines + b"\n", not_json * 1024 + refusal(17, "too-long"))
+    join, edit = b'{"op":"join","process":0}\n', b'{"op":"set","cell":"A1","text":"1"}\n'
+    told = b'{"last":null,"ok":"join","process":0}\n' + b"".join(b'{"number":%d,"ok":"done"}\n' % k for k in range(256))
+    last = b'{"last":{"cell":"A1","number":255,"outcome":"done"},"ok":"last"}\n'
+    yield row("257 edits", "serve", join + edit * 257 + b'{"op":"last"}\n', told + refusal(14, "records-full") + last)
+
+
 def main():
     program = os.path.realpath(sys.argv[1])
-    return play("computed", program, [*large(), *limits(), *stops()])
+    return play("computed", program, [*large(), *limits(), *stops(), *sessions()])
 
 
 if __name__ == "__main__":

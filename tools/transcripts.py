@@ -2,11 +2,13 @@
 """Plays the rows of transcripts/ by the program: what each is given, and what it has to answer. The last line says how
 many there were.
     tools/transcripts.py PROGRAM [FILE ..]        all files of transcripts/, where none is named
-A row begins with a line '== WORDS', the words of its command line. Its other lines are
+A row begins with a line '== WORDS', the words of its command line. Where the first one is `serve`, the row is what
+clients of a new server say and are answered, one after the other. Its other lines are
     > TEXT      a line of standard input; with a number behind the >, so many times
     < TEXT      a line of standard output, or so many; all of them, in their order, are what is answered
     * TEXT      standard output has this text in it
     - TEXT      standard output has it nowhere
+    ~           the next client: what was given so far has ended
     ! TEXT      the first line of standard error
     ? STATUS    the exit status; where no line says it, it is 0, and nothing is said on standard error
     # TEXT      a comment, as are lines before the first row
@@ -15,6 +17,7 @@ picture has to be well-formed XML, too.
 """
 import os
 import re
+import socket
 import subprocess
 import sys
 import xml.etree.ElementTree
@@ -22,6 +25,8 @@ from concurrent.futures import ThreadPoolExecutor
 
 TOP = os.path.dirname(os.path.dirname(os.path.realpath(__file__)))
 SECONDS = 120
+# What stands between the texts of two clients: no text has it.
+NEXT = b"\0next\0"
 ESCAPE = re.compile(rb"\\(x[0-9a-f]{2}|\\|c$)")
 
 
@@ -39,6 +44,8 @@ class Row:
             self.given += [text] * times
         elif mark[:1] == b"<":
             self.answers += [text + b"\n"] * times
+        elif mark == b"~":
+            self.given.append(NEXT)
         elif mark == b"*":
             self.has.append(text)
         elif mark == b"-":
@@ -52,6 +59,9 @@ class Row:
 
     def wrong(self, program):
         """What the program does otherwise, or nothing."""
+        if self.words[0] == "serve":
+            out = served(program, self.words, b"".join(self.given))
+            return None if out == b"".join(self.answers) else f"answered:\n{out.decode(errors='replace')}"
         try:
             ran = subprocess.run([program, *self.words], input=b"".join(self.given), capture_output=True, timeout=SECONDS)
         except subprocess.TimeoutExpired:
@@ -69,6 +79,27 @@ class Row:
         if out.startswith(b"<svg"):
             xml.etree.ElementTree.fromstring(out)
         return None
+
+
+def served(program, words, given):
+    """What a server with these words answers to clients that say these texts, one after the other."""
+    words = [program, *words, "--listen", "127.0.0.1:0"]
+    out = b""
+    with subprocess.Popen(words, stdin=subprocess.PIPE, stderr=subprocess.PIPE) as server:
+        try:
+            port = int(server.stderr.readline().rsplit(b":", 1)[1])
+            for text in given.split(NEXT):
+                with socket.create_connection(("127.0.0.1", port), timeout=SECONDS) as client:
+                    client.sendall(text)
+                    client.shutdown(socket.SHUT_WR)
+                    while more := client.recv(65536):
+                        out += more
+            server.stdin.write(b"stop\n")
+            server.stdin.close()
+            server.wait(timeout=SECONDS)
+        finally:
+            server.kill()
+    return out
 
 
 def text_of(text, is_given):

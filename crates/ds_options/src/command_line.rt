@@ -2,7 +2,7 @@
 
 ghost use Rattle.std.specs.Prelude.{◌≡◌, ◌↔◌, IfErr, IfOk, IsTrue, None, Some, [], codes, false, map};
 ghost use Rattle.std.specs.String.{string_bytes};
-ghost use Rattle.clap.specs.Words.{App, app_of, fault_of, new_app, first_of, found_of, one_of, rows_of, rule_of, with_subcommand};
+ghost use Rattle.clap.specs.Words.{App, Rule, app_of, fault_of, new_app, first_of, found_of, one_of, rows_of, rule_of, with_rule, with_subcommand};
 ghost use Rattle.ds_options.specs.declared.command_line.OptionsFault.TheVariants.{CommandLine, NoFile};
 ghost use Rattle.ds_options.specs.CommandLines.{Asks, AsksNothing, AsksOfStore, IsAskedBy, IsCommand, IsRefusedFor, IsWanting, Names, compact_command as compact_app, connect_command as connect_app, dsheet, dsheet_alone, explore_command as explore_app, file as file_rule, flag as flag_rule, file_command as file_app, listen as listen_rule, log_option as log_rule, number_option as number_rule, report_command as report_app, run_command as run_app, serve_command as serve_app, shared_command as shared_app, sheet_command as sheet_app, store as store_rule, trace_command as trace_app, with_stores};
 
@@ -308,17 +308,50 @@ fn connect_alone<'a>(alloc: Global) -> Command<'a>
     described(alloc, "connect", CONNECT_ABOUT, CONNECT_HELP)
 }
 
+// A command with one argument more.
+fn with_argument<'a>(
+    command: Result<Command<'a>, AllocError>,
+    argument: Arg<'a>,
+) -> Result<Command<'a>, AllocError>
+    ensures { (app : App) → (rule : Rule) → IfOk command.entry (IsCommand app) → rule_of argument.entry ≡ rule → argument.entry.global ≡ false → IfOk result (IsCommand (with_rule app rule)) }
+{
+    let command = command?;
+    command.arg(argument)
+}
+
+// A command with one more below it.
+fn with_command<'a>(
+    command: Result<Command<'a>, AllocError>,
+    below: Result<Command<'a>, AllocError>,
+) -> Result<Command<'a>, AllocError>
+    ensures { (app under : App) → IfOk command.entry (IsCommand app) → IfOk below.entry (IsCommand under) → IfOk result (IsCommand (with_subcommand app under.top)) }
+{
+    let below = below?;
+    let command = command?;
+    command.subcommand(below)
+}
+
+// A command that its help calls by this name.
+fn called<'a>(
+    command: Result<Command<'a>, AllocError>,
+    name: &str,
+) -> Result<Command<'a>, AllocError>
+    ensures { (app : App) → IfOk command.entry (IsCommand app) → IfOk result (IsCommand app) }
+{
+    let command = command?;
+    command.bin_name(name)
+}
+
 fn run_command<'a>(alloc: Global) -> Result<Command<'a>, AllocError>
     ensures { IfOk result (IsCommand run_app) }
 {
-    let command = run_alone(alloc);
     let stops_help = "Crashes the sheet behind each step, and writes what is told then";
-    let one = command.arg(flag(alloc, STOPS, stops_help))?;
+    let one = with_argument(Ok(run_alone(alloc)), flag(alloc, STOPS, stops_help));
     let from_help = "With --stops: the first step behind which it is crashed";
-    let two = one.arg(number_option(alloc, "from", "1", from_help))?;
+    let two = with_argument(one, number_option(alloc, "from", "1", from_help));
     let to_help = "With --stops: the last one; 0: to the end";
-    let three = two.arg(number_option(alloc, "to", "0", to_help))?;
-    three.bin_name("dsheet run")
+    let three = with_argument(two, number_option(alloc, "to", "0", to_help));
+    called(three, "dsheet run")
 }
 
 // A flag.
@@ -335,16 +368,15 @@ fn flag<'a>(alloc: Global, name: &'a str, help: &'a str) -> Arg<'a>
 fn explore_command<'a>(alloc: Global) -> Result<Command<'a>, AllocError>
     ensures { IfOk result (IsCommand explore_app) }
 {
-    let command = explore_alone(alloc);
     let crashes_help = "A crash at each state, which ends the order";
-    let one = command.arg(flag(alloc, "crashes", crashes_help))?;
+    let crashes = flag(alloc, "crashes", crashes_help);
+    let one = with_argument(Ok(explore_alone(alloc)), crashes);
     let stops_help = "A stop of each process that is in a call, at each state";
-    let two = one.arg(flag(alloc, STOPS, stops_help))?;
+    let two = with_argument(one, flag(alloc, STOPS, stops_help));
     let evictions_help = "An eviction of each word whose sides differ";
-    let three = two.arg(flag(alloc, "evictions", evictions_help))?;
+    let three = with_argument(two, flag(alloc, "evictions", evictions_help));
     let most_help = "Thousands of states that are gone through at most";
-    let four = three.arg(number_option(alloc, "most", "1000", most_help))?;
-    Ok(four)
+    with_argument(three, number_option(alloc, "most", "1000", most_help))
 }
 
 fn trace_command<'a>(alloc: Global) -> Command<'a>
@@ -356,7 +388,8 @@ fn trace_command<'a>(alloc: Global) -> Command<'a>
 fn report_command<'a>(alloc: Global) -> Result<Command<'a>, AllocError>
     ensures { IfOk result (IsCommand report_app) }
 {
-    described(alloc, "report", REPORT_ABOUT, REPORT_HELP).bin_name("dsheet report")
+    let alone = described(alloc, "report", REPORT_ABOUT, REPORT_HELP);
+    called(Ok(alone), "dsheet report")
 }
 
 // An option with a number from 0 to 65,535.
@@ -430,93 +463,80 @@ fn file_command<'a>(
     ensures { IfOk result (IsCommand (file_app name.now)) }
 {
     let file = file_argument(alloc, "file", "FILE", "The file of the store");
-    described(alloc, name, about, after).arg(file)
+    with_argument(Ok(described(alloc, name, about, after)), file)
 }
 
 // `dsheet compact`.
 fn compact_command<'a>(alloc: Global) -> Result<Command<'a>, AllocError>
     ensures { IfOk result (IsCommand compact_app) }
 {
+    let command = file_command(alloc, "compact", COMPACT_ABOUT, COMPACT_HELP);
     let new = file_argument(alloc, "new", "NEW", "The file of the new store");
-    let command = file_command(alloc, "compact", COMPACT_ABOUT, COMPACT_HELP)?;
-    command.arg(new)
-}
-
-// A command with one on a store below it. That is made here: what an error has to drop is dear to prove.
-fn with_store<'a>(
-    alloc: Global,
-    command: Command<'a>,
-    name: &'a str,
-    about: &'a str,
-    after: &'a str,
-) -> Result<Command<'a>, AllocError>
-    ensures { (app : App) → IsCommand app command.entry → IfOk result (IsCommand (with_subcommand app (file_app name.now).top)) }
-{
-    let store = file_command(alloc, name, about, after)?;
-    command.subcommand(store)
+    with_argument(command, new)
 }
 
 // A command with those on stores below it.
-fn with_stores<'a>(alloc: Global, command: Command<'a>) -> Result<Command<'a>, AllocError>
-    ensures { (app : App) → IsCommand app command.entry → IfOk result (IsCommand (with_stores app)) }
+fn with_stores<'a>(
+    alloc: Global,
+    command: Result<Command<'a>, AllocError>,
+) -> Result<Command<'a>, AllocError>
+    ensures { (app : App) → IfOk command.entry (IsCommand app) → IfOk result (IsCommand (with_stores app)) }
 {
-    let one = with_store(alloc, command, "check", CHECK_ABOUT, CHECK_HELP)?;
-    let two = with_store(alloc, one, "export", EXPORT_ABOUT, EXPORT_HELP)?;
-    let three = with_store(alloc, two, "import", IMPORT_ABOUT, IMPORT_HELP)?;
-    let compact = compact_command(alloc)?;
-    three.subcommand(compact)
+    let check = file_command(alloc, "check", CHECK_ABOUT, CHECK_HELP);
+    let one = with_command(command, check);
+    let export = file_command(alloc, "export", EXPORT_ABOUT, EXPORT_HELP);
+    let two = with_command(one, export);
+    let import = file_command(alloc, "import", IMPORT_ABOUT, IMPORT_HELP);
+    let three = with_command(two, import);
+    with_command(three, compact_command(alloc))
 }
 
 // `dsheet serve` with its sheet.
 fn sheet_command<'a>(alloc: Global) -> Result<Command<'a>, AllocError>
     ensures { IfOk result (IsCommand sheet_app) }
 {
-    let command = serve_alone(alloc);
-    let one = command.arg(listen_option(alloc))?;
+    let one = with_argument(Ok(serve_alone(alloc)), listen_option(alloc));
     let columns_help = "Columns of the sheet, 1 to 26";
-    let two = one.arg(number_option(alloc, "columns", "2", columns_help))?;
+    let two = with_argument(one, number_option(alloc, "columns", "2", columns_help));
     let rows_help = "Rows of the sheet, 1 to 64";
-    let three = two.arg(number_option(alloc, "rows", "2", rows_help))?;
-    Ok(three)
+    with_argument(two, number_option(alloc, "rows", "2", rows_help))
 }
 
 // The same with its processes and its sessions.
 fn shared_command<'a>(alloc: Global) -> Result<Command<'a>, AllocError>
     ensures { IfOk result (IsCommand shared_app) }
 {
-    let command = sheet_command(alloc)?;
     let processes_help = "Processes, 1 to 8";
-    let one = command.arg(number_option(alloc, "processes", "2", processes_help))?;
+    let processes = number_option(alloc, "processes", "2", processes_help);
+    let one = with_argument(sheet_command(alloc), processes);
     let workers_help = "Workers, fewer than the processes";
-    let two = one.arg(number_option(alloc, "workers", "0", workers_help))?;
+    let two = with_argument(one, number_option(alloc, "workers", "0", workers_help));
     let sessions_help =
         "Sessions that join a process before the server ends; 0: until it is told to stop";
-    let three = two.arg(number_option(alloc, "sessions", "0", sessions_help))?;
-    Ok(three)
+    with_argument(two, number_option(alloc, "sessions", "0", sessions_help))
 }
 
 fn serve_command<'a>(alloc: Global) -> Result<Command<'a>, AllocError>
     ensures { IfOk result (IsCommand serve_app) }
 {
-    let command = shared_command(alloc)?;
     let at_once_help = "Sessions at once, at least 1; a connection beyond them is refused";
-    let one = command.arg(number_option(alloc, "at-once", "64", at_once_help))?;
+    let at_once = number_option(alloc, "at-once", "64", at_once_help);
+    let one = with_argument(shared_command(alloc), at_once);
     let idle_help = "Seconds for which a client may say or take nothing; 0: for ever";
-    let two = one.arg(number_option(alloc, "idle", "300", idle_help))?;
-    let three = two.arg(store_option(alloc))?;
-    let four = three.arg(log_option(alloc))?;
-    four.bin_name("dsheet serve")
+    let two = with_argument(one, number_option(alloc, "idle", "300", idle_help));
+    let three = with_argument(two, store_option(alloc));
+    let four = with_argument(three, log_option(alloc));
+    called(four, "dsheet serve")
 }
 
 fn connect_command<'a>(alloc: Global) -> Result<Command<'a>, AllocError>
     ensures { IfOk result (IsCommand connect_app) }
 {
-    let command = connect_alone(alloc);
     let server_help = "The address and the port of the server, as 127.0.0.1:8080";
-    let one = command.arg(file_argument(alloc, "server", "SERVER", server_help))?;
+    let server = file_argument(alloc, "server", "SERVER", server_help);
+    let one = with_argument(Ok(connect_alone(alloc)), server);
     let process_help = "The process that is joined, 0 to 7";
-    let two = one.arg(number_option(alloc, "process", "0", process_help))?;
-    Ok(two)
+    with_argument(one, number_option(alloc, "process", "0", process_help))
 }
 
 // The program wants one of its subcommands, and tells its version.
@@ -539,16 +559,13 @@ fn program_alone<'a>(alloc: Global) -> Command<'a>
 fn program<'a>(alloc: Global) -> Result<Command<'a>, AllocError>
     ensures { IfOk result (IsCommand dsheet) }
 {
-    let command = program_alone(alloc);
-    let (run, report) = (run_command(alloc)?, report_command(alloc)?);
-    let serve = serve_command(alloc)?;
-    let two = command.subcommand(run)?.subcommand(report)?;
-    let three = two.subcommand(serve)?;
-    let explore = explore_command(alloc)?;
-    let four = three.subcommand(explore)?;
-    let five = four.subcommand(trace_command(alloc))?;
-    let six = five.subcommand(connect_command(alloc)?)?;
-    with_stores(alloc, six)?.bin_name("dsheet")
+    let one = with_command(Ok(program_alone(alloc)), run_command(alloc));
+    let two = with_command(one, report_command(alloc));
+    let three = with_command(two, serve_command(alloc));
+    let four = with_command(three, explore_command(alloc));
+    let five = with_command(four, Ok(trace_command(alloc)));
+    let six = with_command(five, connect_command(alloc));
+    called(with_stores(alloc, six), "dsheet")
 }
 
 impl From<Error> for OptionsFault {

@@ -1,13 +1,11 @@
-//! Sessions and what they answer, as tables.
+//! Sessions beside calls under way, with readers and writers that fail, and answers that a sheet alone never gives.
 #![tactic(auto)]
 
 #[cfg(test)]
 mod answers;
 #[cfg(test)]
+mod beside;
+#[cfg(test)]
 mod failing;
-#[cfg(test)]
-mod limits;
-#[cfg(test)]
-mod rows;
 #[cfg(test)]
 mod talking;

@@ -1,7 +1,5 @@
-use Rattle.std.proofs.lemmas.Result.{IfOk-weaker}
-use Rattle.ds_options.proofs.Grown.{grown}
 use Rattle.ds_options.proofs.command_line.compact_command.Goals as goal
 
 pub returns : goal.returns
 returns c =
-    IfOk-weaker c.arg.result _ _ (λ new adds. grown _ _ _ _ _ adds c.in_ok-command.ensures c.file_argument-new.ensures.rule c.file_argument-new.ensures.local) c.arg.ensures
+    c.with_argument.ensures _ _ c.file_command-command.ensures c.file_argument-new.ensures.rule c.file_argument-new.ensures.local

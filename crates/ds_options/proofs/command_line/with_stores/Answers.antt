@@ -1,8 +1,8 @@
-use Rattle.std.proofs.lemmas.Result.{IfOk-weaker}
-use Rattle.ds_options.proofs.Grown.{grown_below}
 use Rattle.ds_options.proofs.command_line.with_stores.Goals as goal
 
 pub returns : goal.returns
 returns c app is =
-    let three = c.in_ok-three.ensures _ (c.in_ok-two.ensures _ (c.in_ok-one.ensures _ is)) in
-    IfOk-weaker c.subcommand.result _ _ (λ new adds. grown_below _ _ _ _ _ adds three c.in_ok-compact.ensures) c.subcommand.ensures
+    let one = c.with_command-one.ensures _ _ is c.file_command-check.ensures in
+    let two = c.with_command-two.ensures _ _ one c.file_command-export.ensures in
+    let three = c.with_command-three.ensures _ _ two c.file_command-import.ensures in
+    c.with_command.ensures _ _ three c.compact_command.ensures
