@@ -16,6 +16,8 @@ mod grid;
 #[cfg(test)]
 mod hand;
 #[cfg(test)]
+mod pairs;
+#[cfg(test)]
 mod rounds;
 #[cfg(test)]
 mod single;

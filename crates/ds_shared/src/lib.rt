@@ -10,6 +10,4 @@ pub mod reopen;
 pub mod report;
 pub mod seats;
 pub mod sheet;
-#[cfg(test)]
-mod tests;
 pub mod work;

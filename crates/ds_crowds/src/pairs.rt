@@ -1,3 +1,5 @@
+// Two passes of a small sheet, in threads and one after the other: edits, works, reports, crashes and what is told.
+
 ghost use Rattle.std.specs.Prelude.{◌≡◌, ◌+◌, ◌<◌, All, IfSome};
 ghost use Rattle.std.specs.Mem.Slots.{slots_items};
 ghost use Rattle.ds_drives.specs.Rule.{AreTrue, AtRest, Behind};
@@ -5,15 +7,15 @@ ghost use Rattle.ds_drives.specs.Views.{past_of};
 ghost use Rattle.ds_formula.specs.Cells.{IsInside};
 ghost use Rattle.ds_shared.specs.Answers.{IsOf, IsPastOf};
 
-use crate::ended::Ended;
-use crate::pass::{Pass, Past};
-use crate::sheet::{ClosedSheet, SharedSheet};
 use ds_drives::fuse::{Fuse, Whole};
 use ds_eval::value::Value;
 use ds_formula::cells::{Cell, Shape};
 use ds_formula::fault::{FaultKind, TextFault};
 use ds_layout::layout::Layout;
 use ds_layout::place::Place;
+use ds_shared::ended::Ended;
+use ds_shared::pass::{Pass, Past};
+use ds_shared::sheet::{ClosedSheet, SharedSheet};
 use ds_state::answer::EditEnd;
 use ds_state::recovery::{RecoveryEnd, Told};
 use ds_state::refusal::Refusal;
@@ -266,7 +268,7 @@ fn broken_off(
 ) -> Option<(Ended<EditEnd>, Ended<RecoveryEnd>, Ended<RecoveryEnd>)> {
     let (sheet, past, mut first, second, a, _b) = opened(alloc)?;
     let edited = sheet.edit(alloc, &mut first, a, b"7", &mut Times { left: steps });
-    let count = sheet.board.layout.words();
+    let count = sheet.layout().words();
     let choice: Vec<bool, Global> = match vec![in alloc; cached; count] {
         Ok(choice) => choice,
         Err(_) => return None,
@@ -332,7 +334,7 @@ fn kept(alloc: Global, text: &[u8]) -> Option<Outcome> {
     let (sheet, past, mut first, second, a, _b) = opened(alloc)?;
     let edited = sheet.edit(alloc, &mut first, a, text, &mut Whole);
     let _worked = sheet.work(alloc, &mut first, a, &mut Whole);
-    let count = sheet.board.layout.words();
+    let count = sheet.layout().words();
     let choice: Vec<bool, Global> = match vec![in alloc; false; count] {
         Ok(choice) => choice,
         Err(_) => return None,
