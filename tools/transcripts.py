@@ -63,7 +63,8 @@ class Row:
             out = served(program, self.words, b"".join(self.given))
             return None if out == b"".join(self.answers) else f"answered:\n{out.decode(errors='replace')}"
         try:
-            ran = subprocess.run([program, *self.words], input=b"".join(self.given), capture_output=True, timeout=SECONDS)
+            given = b"".join(self.given)
+            ran = subprocess.run([program, *self.words], input=given, capture_output=True, timeout=SECONDS)
         except subprocess.TimeoutExpired:
             return f"no end after {SECONDS} seconds"
         out, said = ran.stdout, ran.stderr.split(b"\n")[0] if ran.stderr else None

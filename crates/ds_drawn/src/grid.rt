@@ -1,8 +1,6 @@
 //! The sheets that lists are drawn for.
 
-use ds_fixtures::sheet::{
-    column_first_of_three, column_of_three, small_first_of_three, small_of_three,
-};
+use ds_fixtures::sheet::sheet;
 use ds_formula::cells::Cell;
 use ds_layout::place::Edition;
 use ds_state::world::World;
@@ -59,11 +57,9 @@ impl Grid {
 
     /// New, in a layout.
     pub fn world(self, alloc: Global, edition: Edition) -> Result<World, Fail> {
-        match (self, edition) {
-            (Grid::Square, Edition::First) => small_first_of_three(alloc),
-            (Grid::Column, Edition::First) => column_first_of_three(alloc),
-            (Grid::Square, Edition::Second) => small_of_three(alloc),
-            (Grid::Column, Edition::Second) => column_of_three(alloc),
+        match self {
+            Grid::Square => sheet(alloc, 2, 2, 3, edition),
+            Grid::Column => sheet(alloc, 1, 3, 3, edition),
         }
     }
 }

@@ -3,7 +3,7 @@
 use crate::mismatch::Mismatch;
 use ds_core::event::{Event, Request};
 use ds_core::reply::Reply;
-use ds_core::take::{run, take};
+use ds_core::take::take;
 use ds_eval::task::{Evaluated, evaluate};
 use ds_formula::cells::Cell;
 use ds_layout::mark::State;
@@ -21,20 +21,6 @@ pub fn edit(alloc: Global, process: usize, cell: Cell, text: &str) -> Result<Eve
     }))
 }
 
-/// A list of this event alone.
-pub fn alone(alloc: Global, event: Event) -> Result<Vec<Event>, AllocError> {
-    let mut events = Vec::new(alloc);
-    events.push(event)?;
-    Ok(events)
-}
-
-/// An event happens; the reply to it.
-pub fn happen(alloc: Global, world: &mut World, event: Event) -> Result<Option<Reply>, AllocError> {
-    let events = alone(alloc, event)?;
-    let replies = run(alloc, world, &events)?;
-    Ok(replies.last().copied())
-}
-
 /// The task of a work that waits, evaluated: none where the process waits for none.
 pub fn evaluated(
     alloc: Global,
@@ -48,8 +34,8 @@ pub fn evaluated(
     }
 }
 
-/// A work that waits is offered the entry of its task; whether it waits.
-pub fn offer(alloc: Global, world: &mut World, process: usize) -> Result<bool, Mismatch> {
+// A work that waits is offered the entry of its task; whether it waits.
+fn offer(alloc: Global, world: &mut World, process: usize) -> Result<bool, Mismatch> {
     let Some(entry) = evaluated(alloc, world, process)? else {
         return Ok(false);
     };
@@ -59,8 +45,8 @@ pub fn offer(alloc: Global, world: &mut World, process: usize) -> Result<bool, M
     }
 }
 
-/// A process makes its next step, with an offer before it where its work waits for one.
-pub fn advance(alloc: Global, world: &mut World, process: usize) -> Result<Reply, Mismatch> {
+// A process makes its next step, with an offer before it where its work waits for one.
+fn advance(alloc: Global, world: &mut World, process: usize) -> Result<Reply, Mismatch> {
     offer(alloc, world, process)?;
     Ok(take(alloc, world, &Event::Step(process)))
 }
@@ -80,8 +66,8 @@ pub fn finish(alloc: Global, world: &mut World, process: usize) -> Result<Reply,
     Err(Mismatch::NoEnd)
 }
 
-/// A process begins a call, and steps to its end. How it ended, or why it did not begin.
-pub fn whole(
+// A process begins a call, and steps to its end. How it ended, or why it did not begin.
+fn whole(
     alloc: Global,
     world: &mut World,
     process: usize,

@@ -1,10 +1,8 @@
-//! What the tests of runs share: a small sheet, calls from begin to end, all that is seen of a sheet, and rows that say
-//! what happens to it and what it shows then.
+//! What the tests of events share: small sheets, calls from begin to end, and rows that say what happens to a sheet, and
+//! what is counted then.
 #![tactic(auto)]
 
 pub mod calls;
 pub mod mismatch;
 pub mod row;
 pub mod sheet;
-pub mod shown;
-pub mod snapshot;

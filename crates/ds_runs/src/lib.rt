@@ -1,17 +1,11 @@
-//! Runs of edits, works, reports and migrations by events, step by step, and the words that they leave.
+//! Events that scripts can not say, and what is counted.
 #![tactic(auto)]
 
 #[cfg(test)]
-mod edits;
+mod absent;
 #[cfg(test)]
-mod migrations;
+mod counts;
 #[cfg(test)]
 mod mismatches;
 #[cfg(test)]
-mod refusals;
-#[cfg(test)]
-mod reports;
-#[cfg(test)]
 mod tasks;
-#[cfg(test)]
-mod works;
