@@ -48,6 +48,13 @@ fn texts(alloc: Global, world: &World) -> Result<Vec<Vec<u8>>, AllocError> {
     Ok(texts)
 }
 
+// So behind a crash.
+fn crashed_texts(alloc: Global, world: &World) -> Result<Vec<Vec<u8>>, AllocError> {
+    let mut copy = world.copy(alloc)?;
+    let _crashed = take(alloc, &mut copy, &Event::Crash);
+    texts(alloc, &copy)
+}
+
 // The edit of a situation.
 fn edit_of(alloc: Global, situation: &Situation) -> Result<Option<Asked>, AllocError> {
     match situation {
@@ -109,15 +116,15 @@ fn recovery_flaw(answer: Option<Answer>, again: Option<&Result<RecoveryEnd, Refu
 }
 
 impl Judge {
-    /// The judge of orders that begin in this world, which is lost to it.
-    pub(crate) fn new(alloc: Global, mut world: World) -> Result<Judge, AllocError> {
-        let asked = all_asked(alloc, &world)?;
-        let now = texts(alloc, &world)?;
-        let _crashed = take(alloc, &mut world, &Event::Crash);
+    /// The judge of orders that begin in this world.
+    pub(crate) fn new(alloc: Global, world: &World) -> Result<Judge, AllocError> {
+        let asked = all_asked(alloc, world)?;
+        let now = texts(alloc, world)?;
+        let crashed = crashed_texts(alloc, world)?;
         Ok(Judge {
             asked,
             texts: now,
-            crashed: texts(alloc, &world)?,
+            crashed,
         })
     }
 

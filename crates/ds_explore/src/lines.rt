@@ -10,7 +10,7 @@ use ds_streams::answer::cell_at;
 use std::alloc::{AllocError, Global};
 
 /// A line that a script goes on with.
-#[derive(Clone, Copy, Debug, PartialEq, Eq)]
+#[derive(Clone, Copy)]
 pub enum FoundLine {
     /// One step of the process.
     Step(usize),

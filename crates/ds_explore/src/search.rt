@@ -46,6 +46,24 @@ struct Frame {
 }
 
 impl Frame {
+    // With the state itself.
+    fn with(self, position: Position) -> Frame {
+        Frame {
+            position: Some(position),
+            ..self
+        }
+    }
+
+    // What is kept of it behind all that may happen in it.
+    fn node(self) -> Node {
+        Node {
+            state: self.state,
+            edges: self.edges,
+            end: self.end,
+            crash: self.crash,
+        }
+    }
+
     // The state, for what happens next in it: a copy as long as more has not happened.
     fn position(&mut self, alloc: Global) -> Result<Option<Position>, AllocError> {
         if self.ahead.is_empty() && self.crashes.is_none() {
@@ -113,13 +131,18 @@ fn moves(alloc: Global, processes: usize, touched: &Touched) -> Result<Vec<Move>
     Ok(moves)
 }
 
+// The words that orders may touch, what may happen in them, and who judges them.
+fn prepared(alloc: Global, world: &World) -> Result<(Touched, Vec<Move>, Judge), AllocError> {
+    let judge = Judge::new(alloc, world)?;
+    let touched = Touched::of(alloc, world)?;
+    let moves = moves(alloc, world.words.layout().processes, &touched)?;
+    Ok((touched, moves, judge))
+}
+
 impl Start {
-    // The orders of the calls that are under way in this world. An error is a want of memory.
-    fn of(alloc: Global, world: World, options: Options) -> Result<Start, AllocError> {
-        let touched = Touched::of(alloc, &world)?;
-        let moves = moves(alloc, world.words.layout().processes, &touched)?;
-        let judge = Judge::new(alloc, world.copy(alloc)?)?;
-        let first = Position::new(alloc, world)?;
+    // The orders that begin in this state. An error is a want of memory.
+    fn of(alloc: Global, first: Position, options: Options) -> Result<Start, AllocError> {
+        let (touched, moves, judge) = prepared(alloc, &first.world)?;
         Ok(Start {
             options,
             first,
@@ -129,12 +152,18 @@ impl Start {
         })
     }
 
+    // The orders of the calls that are under way in this world.
+    fn within(alloc: Global, world: World, options: Options) -> Result<Start, AllocError> {
+        let first = Position::new(alloc, world)?;
+        Start::of(alloc, first, options)
+    }
+
     /// The orders of the calls that are under way where the script ends. An error is why it does not end.
     pub(crate) fn new(alloc: Global, script: &[u8], options: Options) -> Result<Start, Short>
         ensures { IfErr result (FallsShort true script.now (2 ^ 64 - 1)) }
     {
         let world = start(alloc, script)?;
-        memory(Start::of(alloc, world, options))
+        memory(Start::within(alloc, world, options))
     }
 
     /// The shape of the sheet.
@@ -208,16 +237,37 @@ impl Start {
         Ok(())
     }
 
+    // The calls are carried out one after another, in the order of their processes: what happens on the way.
+    fn carry(&self, alloc: Global, position: &mut Position) -> Result<Vec<u32>, AllocError> {
+        let mut path = Vec::new(alloc);
+        for process in 0..position.seats.len() {
+            self.finish(alloc, position, process, &mut path)?;
+        }
+        Ok(path)
+    }
+
+    // So from this state on, and what that comes to.
+    fn straight_from(
+        &self,
+        alloc: Global,
+        position: &mut Position,
+    ) -> Result<(Finding, Vec<u32>), AllocError> {
+        let path = self.carry(alloc, position)?;
+        let outcome = self.outcome(alloc, position, false)?;
+        Ok((outcome, path))
+    }
+
     /// The calls are carried out one after another, in the order of their processes: what that comes to, and what
     /// happens on the way.
     pub(crate) fn straight(&self, alloc: Global) -> Result<(Finding, Vec<u32>), AllocError> {
         let mut position = self.position(alloc)?;
-        let mut path = Vec::new(alloc);
-        for process in 0..position.seats.len() {
-            self.finish(alloc, &mut position, process, &mut path)?;
-        }
-        let outcome = self.outcome(alloc, &mut position, false)?;
-        Ok((outcome, path))
+        self.straight_from(alloc, &mut position)
+    }
+
+    // What an order comes to that ends in this state.
+    fn ended(&self, alloc: Global, position: &Position) -> Result<Finding, AllocError> {
+        let mut last = position.copy(alloc)?;
+        self.outcome(alloc, &mut last, false)
     }
 
     // What an order comes to that ends here.
@@ -289,6 +339,42 @@ impl Search {
         }
     }
 
+    // The outcome of the orders that end in this state; none where a call is under way.
+    fn end_of(
+        &mut self,
+        alloc: Global,
+        start: &Start,
+        position: &Position,
+    ) -> Result<Option<usize>, AllocError> {
+        if position.is_under_way() {
+            return Ok(None);
+        }
+        let outcome = start.ended(alloc, position)?;
+        Ok(Some(self.outcomes.number(alloc, outcome)?))
+    }
+
+    // What there is to a state that was not found before, but for the state itself.
+    fn frame(
+        &mut self,
+        alloc: Global,
+        start: &Start,
+        state: u32,
+        position: &Position,
+    ) -> Result<Frame, AllocError> {
+        let end = self.end_of(alloc, start, position)?;
+        let (crash, crashes) = self.crash_of(alloc, start, position)?;
+        let ahead = start.ahead(alloc, position)?;
+        Ok(Frame {
+            state,
+            ahead,
+            edges: Vec::new(alloc),
+            end,
+            crash,
+            crashes,
+            position: None,
+        })
+    }
+
     // A state that was not found before is gone through from now on.
     fn open(
         &mut self,
@@ -297,25 +383,50 @@ impl Search {
         state: u32,
         position: Position,
     ) -> Result<(), AllocError> {
-        let (crash, crashes) = self.crash_of(alloc, start, &position)?;
-        let ahead = start.ahead(alloc, &position)?;
-        let end = if position.is_under_way() {
-            None
-        } else {
-            let mut last = position.copy(alloc)?;
-            let outcome = start.outcome(alloc, &mut last, false)?;
-            Some(self.outcomes.number(alloc, outcome)?)
-        };
-        self.frames.push(Frame {
-            state,
-            ahead,
-            edges: Vec::new(alloc),
-            end,
-            crash,
-            crashes,
-            position: Some(position),
-        })?;
+        let frame = self.frame(alloc, start, state, &position)?;
+        self.frames.push(frame.with(position))?;
         Ok(())
+    }
+
+    // The number of a state that is found now; none where there are as many states as there may be.
+    fn next_number(&mut self, start: &Start) -> Option<u32> {
+        let count = self.left.len();
+        match u32::try_from(count) {
+            Ok(state) if count < start.options.most => Some(state),
+            _ => {
+                self.is_cut = true;
+                None
+            }
+        }
+    }
+
+    // The state with this key has this number.
+    fn keep(&mut self, key: Vec<u8>, state: u32) -> Result<(), AllocError> {
+        self.seen.insert(key, state)?;
+        self.left.push(false)?;
+        Ok(())
+    }
+
+    // The number of the state that an event has led to, if it was not found before.
+    fn found(
+        &mut self,
+        alloc: Global,
+        start: &Start,
+        by: u32,
+        position: &Position,
+    ) -> Result<Option<u32>, AllocError> {
+        let key = self.numbers.state(alloc, position, &start.touched)?;
+        if let Some(state) = self.seen.get(key.as_slice()) {
+            let state = *state;
+            self.meet(by, state)?;
+            return Ok(None);
+        }
+        let Some(state) = self.next_number(start) else {
+            return Ok(None);
+        };
+        self.keep(key, state)?;
+        self.lead(by, state)?;
+        Ok(Some(state))
     }
 
     // The state that an event has led to.
@@ -326,24 +437,10 @@ impl Search {
         by: u32,
         position: Position,
     ) -> Result<(), AllocError> {
-        let key = self.numbers.state(alloc, &position, &start.touched)?;
-        if let Some(state) = self.seen.get(key.as_slice()) {
-            let state = *state;
-            return self.meet(by, state);
+        match self.found(alloc, start, by, &position)? {
+            Some(state) => self.open(alloc, start, state, position),
+            None => Ok(()),
         }
-        let count = self.left.len();
-        let Ok(state) = u32::try_from(count) else {
-            self.is_cut = true;
-            return Ok(());
-        };
-        if count >= start.options.most {
-            self.is_cut = true;
-            return Ok(());
-        }
-        self.lead(by, state)?;
-        self.seen.insert(key, state)?;
-        self.left.push(false)?;
-        self.open(alloc, start, state, position)
     }
 
     // What is done next.
@@ -369,40 +466,44 @@ impl Search {
         let Some(frame) = self.frames.pop() else {
             return Ok(());
         };
-        if let Some(left) = self.left.get_mut(frame.state as usize) {
+        let node = frame.node();
+        if let Some(left) = self.left.get_mut(node.state as usize) {
             *left = true;
         }
-        self.nodes.push(Node {
-            state: frame.state,
-            edges: frame.edges,
-            end: frame.end,
-            crash: frame.crash,
-        })?;
-        Ok(())
-    }
-
-    // A crash comes in the last state, and leaves this.
-    fn crash(&mut self, alloc: Global, start: &Start, key: Vec<u8>) -> Result<(), AllocError> {
-        let number = match self.crashes.get(key.as_slice()) {
-            Some(number) => *number,
-            None => {
-                let number = self.crash_anew(alloc, start)?;
-                self.crashes.insert(key, number)?;
-                number
-            }
-        };
-        if let Some(frame) = self.frames.last_mut() {
-            frame.crash = Some(number);
-        }
+        self.nodes.push(node)?;
         Ok(())
     }
 
     // What an order comes to that ends with a crash in the last state.
-    fn crash_anew(&mut self, alloc: Global, start: &Start) -> Result<usize, AllocError> {
+    fn crashed(&mut self, alloc: Global, start: &Start) -> Result<Finding, AllocError> {
         let mut position = self.position(alloc)?;
         let _crashed = take(alloc, &mut position.world, &Event::Crash);
-        let outcome = start.outcome(alloc, &mut position, true)?;
-        self.outcomes.number(alloc, outcome)
+        start.outcome(alloc, &mut position, true)
+    }
+
+    // The outcome of a crash in the last state, by what it leaves.
+    fn crash_number(
+        &mut self,
+        alloc: Global,
+        start: &Start,
+        key: Vec<u8>,
+    ) -> Result<usize, AllocError> {
+        if let Some(number) = self.crashes.get(key.as_slice()) {
+            return Ok(*number);
+        }
+        let outcome = self.crashed(alloc, start)?;
+        let number = self.outcomes.number(alloc, outcome)?;
+        self.crashes.insert(key, number)?;
+        Ok(number)
+    }
+
+    // A crash comes in the last state, and leaves this.
+    fn crash(&mut self, alloc: Global, start: &Start, key: Vec<u8>) -> Result<(), AllocError> {
+        let number = self.crash_number(alloc, start, key)?;
+        if let Some(frame) = self.frames.last_mut() {
+            frame.crash = Some(number);
+        }
+        Ok(())
     }
 
     // The last state, for what happens next in it. It is there until all has happened.
@@ -427,8 +528,7 @@ impl Search {
     fn begin(&mut self, alloc: Global, start: &Start) -> Result<(), AllocError> {
         let position = start.position(alloc)?;
         let key = self.numbers.state(alloc, &position, &start.touched)?;
-        self.seen.insert(key, 0)?;
-        self.left.push(false)?;
+        self.keep(key, 0)?;
         self.open(alloc, start, 0, position)
     }
 
