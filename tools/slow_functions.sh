@@ -1,7 +1,9 @@
 #!/usr/bin/env bash
-# Tells how many seconds the check of each function of a crate takes, the slowest first: a check of the crate from
-# nothing by one job, in a copy of the repository, over the libraries that are built here.
-#   tools/slow_functions.sh NAME
+# Tells how many seconds each part of a crate's proof takes, the slowest first, and their sum: a check of the crate from
+# nothing by one job, in a copy of the repository, over the libraries that are built here. It goes by the times of the
+# files that the check keeps, one a module. Of a function F, F.Lts is what its borrows and drops cost, F.Proof its goals;
+# a page of proofs/ or specs/ has its own name.
+#   tools/slow_functions.sh NAME [--test]
 set -euo pipefail
 cd "$(dirname "$0")/.."
 room=$(mktemp -d)
@@ -19,10 +21,8 @@ for crate in crates/*; do
     fi
 done
 cd "$room/crates/$1"
-rt check --jobs 1 2>&1 | while IFS= read -r line; do
-    now=${EPOCHREALTIME/[.,]/}
-    if [[ $line =~ ^checked\ ([^,]*), ]]; then
-        echo "$(((now - ${last:-$now}) / 1000)) ${BASH_REMATCH[1]}"
-        last=$now
-    fi
-done | sort -rn | awk '{ printf "%7.1f  %s\n", $1 / 1000, $2 }'
+rt check --jobs 1 "${@:2}" >&2
+find out/incremental -type f -name '*.oantt' -printf '%T@ %f\n' | sort -n \
+    | awk 'NR > 1 { printf "%.2f %s\n", $1 - last, $2; sum += $1 - last } { last = $1 }
+        END { printf "%.2f in all\n", sum }' \
+    | sed -e 's/\.decls\.oantt$//' -e 's/\.oantt$//' | sort -rn

@@ -202,6 +202,10 @@ def check_commands(program, folder, store):
     for name, text, words in (
         ("no sheet", "set 0 A1 1\n", "line 1: the first line is no sheet"),
         ("a cell beyond", "sheet 2 2 2\nset 0 C1 1\n", "line 2"),
+        ("a process beyond", "sheet 1 1 1\nset 1 A1 5\n", "line 2"),
+        ("no shape", "sheet 0 1 1\n", "line 1"),
+        ("two sheets", "sheet 1 1 1\nsheet 1 1 1\n", "line 2"),
+        ("a begin", "sheet 1 1 1\nbegin 0 set A1 5\n", "line 2: not an edit of the sheet"),
         ("no edit", "sheet 2 2 2\nset 0 A1 1\ncrash\n", "line 3: not an edit of the sheet"),
         ("a text with a fault", "sheet 2 2 2\nset 0 A1 =7.5\n", "line 2: its text is refused"),
     ):

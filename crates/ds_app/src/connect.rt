@@ -7,7 +7,7 @@ use ds_connect::request::request_line;
 use ds_options::connecting::Connecting;
 use ds_streams::fields::is_skipped;
 use serde_json::Value as Json;
-use std::alloc::Global;
+use std::alloc::{AllocError, Global};
 use std::io::{self, ErrorKind, Read, Write};
 use std::net::{Net, TcpStream};
 use std::thread;
@@ -33,37 +33,64 @@ struct Joined {
     said: Json,
 }
 
+// A line of standard input, without its end, and its number.
+#[derive(Clone, Copy)]
+struct Line<'a> {
+    number: u64,
+    text: &'a [u8],
+}
+
+// Adds what stands before the first line feed to what was said: whether there is one.
+fn add_line(said: &mut Vec<u8>, part: &[u8]) -> Result<bool, AllocError> {
+    match part.iter().position(|byte| *byte == b'\n') {
+        Some(end) => {
+            said.extend_from_slice(part.get(..end).unwrap_or(part))?;
+            Ok(true)
+        }
+        None => {
+            said.extend_from_slice(part)?;
+            Ok(false)
+        }
+    }
+}
+
 // The first line of what the server says.
 fn read_answer(alloc: Global, stream: &mut TcpStream) -> io::Result<Vec<u8>> {
     let mut chunk = [0u8; CHUNK];
     let mut said = Vec::new(alloc);
     for _ in 0..READS {
         let count = stream.read(&mut chunk)?;
-        let Some(part) = chunk.get(..count) else {
-            break;
-        };
+        let part = chunk.get(..count).unwrap_or(b"");
         if part.is_empty() {
             break;
         }
-        if let Some(end) = part.iter().position(|byte| *byte == b'\n') {
-            said.extend_from_slice(part.get(..end).unwrap_or(part))?;
+        if add_line(&mut said, part)? {
             return Ok(said);
         }
-        said.extend_from_slice(part)?;
     }
     Err(io::Error::from(ErrorKind::UnexpectedEof))
 }
 
-// Asks the server, and reads what it says.
-fn exchange(alloc: Global, stream: &mut TcpStream, ask: Ask<'_>) -> io::Result<Json> {
-    let request = request_line(alloc, ask)?;
-    stream.write_all(&request)?;
-    let said = read_answer(alloc, stream)?;
-    match Json::from_slice(alloc, &said) {
+// What the server said, as JSON.
+fn understood(alloc: Global, said: &[u8]) -> io::Result<Json> {
+    match Json::from_slice(alloc, said) {
         Ok(said) => Ok(said),
         Err(error) if error.is_memory() => Err(io::Error::from(ErrorKind::OutOfMemory)),
         Err(_) => Err(io::Error::from(ErrorKind::InvalidData)),
     }
+}
+
+// Asks the server.
+fn send(alloc: Global, stream: &mut TcpStream, ask: Ask<'_>) -> io::Result<()> {
+    let request = request_line(alloc, ask)?;
+    stream.write_all(&request)
+}
+
+// Asks the server, and reads what it says.
+fn exchange(alloc: Global, stream: &mut TcpStream, ask: Ask<'_>) -> io::Result<Json> {
+    send(alloc, stream, ask)?;
+    let said = read_answer(alloc, stream)?;
+    understood(alloc, &said)
 }
 
 // Connects, and joins the process.
@@ -124,6 +151,50 @@ fn tell_error(rt: &impl Eprint, connecting: Connecting, error: &io::Error) -> u8
     }
 }
 
+// A new connection in the place of a broken one: what the server says to the join. An error is the status.
+fn renew<R: AllocGlobal + Eprint + Clock + Net<Stream = TcpStream>>(
+    rt: &R,
+    connecting: Connecting,
+    stream: &mut TcpStream,
+) -> Result<Json, u8> {
+    match join_anew(rt, connecting) {
+        Ok(joined) => {
+            *stream = joined.stream;
+            Ok(joined.said)
+        }
+        Err(error) => Err(tell_error(rt, connecting, &error)),
+    }
+}
+
+// A report, on a new connection. An error is the status.
+fn report_again<R: AllocGlobal + Print + Eprint>(
+    rt: &R,
+    connecting: Connecting,
+    stream: &mut TcpStream,
+) -> Result<(), u8> {
+    match exchange(rt.alloc(), stream, Ask::Report) {
+        Ok(said) => show(rt, connecting.process, &said),
+        Err(error) => Err(tell_error(rt, connecting, &error)),
+    }
+}
+
+// A call whose connection is broken: what the join of a new one tells is shown, and a report is asked for again, but no
+// edit. An error is the status.
+fn call_anew<R: AllocGlobal + Print + Eprint + Clock + Net<Stream = TcpStream>>(
+    rt: &R,
+    connecting: Connecting,
+    stream: &mut TcpStream,
+    ask: Ask<'_>,
+) -> Result<(), u8> {
+    let _told = eprintln!(rt; "dsheet: the connection is broken; joining anew");
+    let said = renew(rt, connecting, stream)?;
+    show(rt, connecting.process, &said)?;
+    match ask {
+        Ask::Report => report_again(rt, connecting, stream),
+        _ => Ok(()),
+    }
+}
+
 // One call, on this connection, or on a new one where it is broken: what the new join tells is shown then, and an edit is
 // not sent again. An error is the status.
 fn call<R: AllocGlobal + Print + Eprint + Clock + Net<Stream = TcpStream>>(
@@ -132,29 +203,34 @@ fn call<R: AllocGlobal + Print + Eprint + Clock + Net<Stream = TcpStream>>(
     stream: &mut TcpStream,
     ask: Ask<'_>,
 ) -> Result<(), u8> {
-    if let Ok(said) = exchange(rt.alloc(), stream, ask) {
-        return show(rt, connecting.process, &said);
+    match exchange(rt.alloc(), stream, ask) {
+        Ok(said) => show(rt, connecting.process, &said),
+        Err(_) => call_anew(rt, connecting, stream, ask),
     }
-    let _told = eprintln!(rt; "dsheet: the connection is broken; joining anew");
-    let joined = match join_anew(rt, connecting) {
-        Ok(joined) => joined,
-        Err(error) => return Err(tell_error(rt, connecting, &error)),
-    };
-    *stream = joined.stream;
-    show(rt, connecting.process, &joined.said)?;
-    if let Ask::Report = ask {
-        return match exchange(rt.alloc(), stream, ask) {
-            Ok(said) => show(rt, connecting.process, &said),
-            Err(error) => Err(tell_error(rt, connecting, &error)),
-        };
-    }
-    Ok(())
 }
 
 // A line without its end.
 fn without_end(line: &str) -> &str {
     let line = line.strip_suffix('\n').unwrap_or(line);
     line.strip_suffix('\r').unwrap_or(line)
+}
+
+// The call that a line asks for; a line with a fault is told, and ends nothing where there are prompts. An error is the
+// status.
+fn obey<R: AllocGlobal + Print + Eprint + Clock + Net<Stream = TcpStream>>(
+    rt: &R,
+    connecting: Connecting,
+    stream: &mut TcpStream,
+    line: Line<'_>,
+    prompts: bool,
+) -> Result<(), u8> {
+    match read_ask(line.text) {
+        Ok(ask) => call(rt, connecting, stream, ask),
+        Err(fault) => {
+            let _told = eprintln!(rt; "line {}: {fault}", line.number);
+            if prompts { Ok(()) } else { Err(REFUSED) }
+        }
+    }
 }
 
 // The calls of the lines of standard input, up to its end. An error is the status.
@@ -175,18 +251,12 @@ fn talk<R: AllocGlobal + Input + Print + Eprint + Clock + Net<Stream = TcpStream
             Ok(_) => {}
             Err(_) => return Err(STREAM_FAILED),
         }
-        let line = without_end(&text).as_bytes();
-        if is_skipped(line) {
-            continue;
-        }
-        match read_ask(line) {
-            Ok(ask) => call(rt, connecting, stream, ask)?,
-            Err(fault) => {
-                let _told = eprintln!(rt; "line {number}: {fault}");
-                if !prompts {
-                    return Err(REFUSED);
-                }
-            }
+        let line = Line {
+            number,
+            text: without_end(&text).as_bytes(),
+        };
+        if !is_skipped(line.text) {
+            obey(rt, connecting, stream, line, prompts)?;
         }
     }
     Ok(())
