@@ -2,7 +2,8 @@
 # Tells how many seconds each part of a crate's proof takes, the slowest first, and their sum: a check of the crate from
 # nothing by one job, in a copy of the repository, over the libraries that are built here. It goes by the times of the
 # files that the check keeps, one a module. Of a function F, F.Lts is what its borrows and drops cost, F.Proof its goals;
-# a page of proofs/ or specs/ has its own name.
+# a page of proofs/ or specs/ has its own name. What rt takes from another copy's check is left out: it says so, and
+# where it does, that copy's out/ is to be removed first.
 #   tools/slow_functions.sh NAME [--test]
 set -euo pipefail
 cd "$(dirname "$0")/.."
@@ -21,8 +22,9 @@ for crate in crates/*; do
     fi
 done
 cd "$room/crates/$1"
+touch "$room/begun"
 rt check --jobs 1 "${@:2}" >&2
-find out/incremental -type f -name '*.oantt' -printf '%T@ %f\n' | sort -n \
+find out/incremental -type f -name '*.oantt' -newer "$room/begun" -printf '%T@ %f\n' | sort -n \
     | awk 'NR > 1 { printf "%.2f %s\n", $1 - last, $2; sum += $1 - last } { last = $1 }
         END { printf "%.2f in all\n", sum }' \
     | sed -e 's/\.decls\.oantt$//' -e 's/\.oantt$//' | sort -rn
