@@ -4,10 +4,6 @@
 #[cfg(test)]
 mod packed;
 #[cfg(test)]
-mod recoveries;
-#[cfg(test)]
-mod reports;
-#[cfg(test)]
 mod words;
 #[cfg(test)]
 mod worlds;

@@ -1,35 +1,16 @@
-//! A new sheet of two columns, two rows and two processes, and words by hand.
+//! Texts at their limit, and records of a sheet of two columns, two rows and two processes, by hand.
 
-use ds_eval::value::Value;
-use ds_formula::cells::{Cell, Shape};
+use ds_formula::cells::Shape;
 use ds_layout::header::Header;
 use ds_layout::layout::Layout;
-use ds_layout::mark::State;
 use ds_layout::place::{Edition, Place};
 use ds_layout::sheet_words::SheetWords;
 use ds_layout::text::part_word;
 use ds_state::shown;
 use ds_state::text::Text;
-use ds_state::world::World;
 use ds_words::access::Access;
 use std::alloc::{AllocError, Global};
 use std::test::Fail;
-
-#[test]
-fn new_sheet(rt: HostRuntime) -> Result<(), Fail> {
-    let cell = Cell { column: 1, row: 1 };
-    if let Some(shape) = Shape::new(2, 2) {
-        let world = World::new(rt.alloc(), shape, 2)?;
-        if shape.contains(cell) {
-            assert_eq!(rt; world.mark_of(cell).state(), State::Clean);
-            assert_eq!(rt; world.value_of(cell), Value::Blank);
-            assert_eq!(rt; world.text_of(rt.alloc(), cell)?.len(), 0);
-        }
-        assert_eq!(rt; world.is_quiet(), true);
-        assert_eq!(rt; world.done, 0);
-    }
-    Ok(())
-}
 
 #[test]
 fn texts(rt: HostRuntime) {
