@@ -46,10 +46,10 @@ fn too_few_states(rt: HostRuntime) {
     }
 }
 
-// A writer that fails at its k-th byte, for each k of a text of 152 bytes and a flush.
+// A writer that fails at its k-th byte, for some of a text of 152 bytes, and at its flush.
 #[test]
 fn failing_writers(rt: HostRuntime) {
-    for room in 0..154usize {
+    for room in [0, 1, 7, 70, 151, 152, 153] {
         let mut writer = Writing::new(Full { room });
         let mut last = Last { states: 0 };
         let end = explore(rt.alloc(), b"set 0 A1 7\n", STEPS, &mut writer, &mut last);
