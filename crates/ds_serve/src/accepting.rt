@@ -1,6 +1,6 @@
 //! The connections that a server takes, and when it takes no more.
 
-ghost use Rattle.std.specs.Prelude.{◌≡◌, IfSome};
+ghost use Rattle.std.specs.Prelude.{◌≡◌, ℕ, IfSome};
 ghost use Rattle.ds_serve.specs.Accepting.{HasEnded, IsStep, Waits, passes};
 
 use crate::counts::{Counts, Ending, Taken};
@@ -107,6 +107,24 @@ fn ending(door: &Door, most: u64) -> Option<Ending>
     }
 }
 
+// A failure of an accept in the log.
+fn say<R: Log>(rt: &R, error: &io::Error) {
+    warn!(rt; "accept: {error}");
+}
+
+// Rests behind a failure that passes, where descriptors or memory are wanting. Whether they are, or were: then the log
+// has said so.
+fn wait_out<R: Wait + Clock + Log>(rt: &R, error: &io::Error, wanted: bool) -> bool {
+    if !is_want(error.kind()) {
+        return wanted;
+    }
+    if !wanted {
+        say(rt, error);
+    }
+    thread::sleep(rt, Duration::from_millis(REST));
+    true
+}
+
 // Waits for a connection, until no more are taken. A failure that passes is waited out; want of descriptors is one line
 // in the log, however long it lasts. Any other failure is a line in the log and a rest; behind 100 of them one behind
 // another the listener has failed for good.
@@ -124,16 +142,10 @@ fn wait<R: Wait + Clock + Log>(rt: &R, listener: &TcpListener, door: &Door, most
             Err(error) => error,
         };
         if passes(error.kind()) {
-            if is_want(error.kind()) {
-                if !wants {
-                    warn!(rt; "accept: {error}");
-                }
-                wants = true;
-                thread::sleep(rt, Duration::from_millis(REST));
-            }
+            wants = wait_out(rt, &error, wants);
             continue;
         }
-        warn!(rt; "accept: {error}");
+        say(rt, &error);
         if left == 0 {
             return Waited::Failed(error);
         }
@@ -141,6 +153,25 @@ fn wait<R: Wait + Clock + Log>(rt: &R, listener: &TcpListener, door: &Door, most
         thread::sleep(rt, Duration::from_millis(REST));
     }
     unreachable!()
+}
+
+// A connection as the next session, where fewer than `at_once` are there. Else it is refused, and there is none yet; the
+// client is told that the server is busy.
+fn received(door: &Door, counts: &mut Counts, stream: TcpStream, at_once: u64) -> Option<Step>
+    requires { counts.old.pending ≡ 0 }
+    ensures pending { counts.new.pending ≡ 0 }
+    ensures step { IfSome result (λ step. (most : ℕ) → IsStep most step) }
+{
+    let Some(arrival) = counts.arrive(stream) else {
+        let error = io::Error::from(ErrorKind::QuotaExceeded);
+        return Some(Step::Ended(Err(ServeError::Listener(error))));
+    };
+    if door.running() < at_once {
+        door.enter();
+        return Some(Step::Session(counts.begin(arrival)));
+    }
+    refuse(&counts.refuse(arrival), Farewell::Busy);
+    None
 }
 
 /// The next connection that becomes a session, where fewer than `at_once` are there. Those before it are refused: they
@@ -158,8 +189,12 @@ pub(crate) fn next_session<R: Wait + Clock + Log>(
     ensures step { IsStep most result }
 {
     for _ in rt.forever() {
-        let stream = match wait(rt, listener, door, most) {
-            Waited::Connected(stream) => stream,
+        match wait(rt, listener, door, most) {
+            Waited::Connected(stream) => {
+                if let Some(step) = received(door, counts, stream, at_once) {
+                    return step;
+                }
+            }
             Waited::Over(ending) => {
                 door.shut();
                 return Step::Ended(Ok(counts.taken(ending)));
@@ -168,16 +203,7 @@ pub(crate) fn next_session<R: Wait + Clock + Log>(
                 door.shut();
                 return Step::Ended(Err(ServeError::Listener(error)));
             }
-        };
-        let Some(arrival) = counts.arrive(stream) else {
-            let error = io::Error::from(ErrorKind::QuotaExceeded);
-            return Step::Ended(Err(ServeError::Listener(error)));
-        };
-        if door.running() < at_once {
-            door.enter();
-            return Step::Session(counts.begin(arrival));
         }
-        refuse(&counts.refuse(arrival), Farewell::Busy);
     }
     unreachable!()
 }

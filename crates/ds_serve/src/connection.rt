@@ -104,6 +104,16 @@ fn date<R: Clock>(rt: &R) -> Option<HttpDate> {
     HttpDate::try_from(now).ok()
 }
 
+// The line of a session that has joined a process.
+fn write_joined<R: Log>(rt: &R, date: HttpDate, peer: &SocketAddr, process: u64, how: &str) {
+    warn!(rt; "{date}: {peer}, process {process}: {how}")
+}
+
+// The line of a session that has joined none.
+fn write_unjoined<R: Log>(rt: &R, date: HttpDate, peer: &SocketAddr, how: &str) {
+    warn!(rt; "{date}: {peer}, no process: {how}")
+}
+
 // A line in the log: when, which session, of which client, which process, and how it ended.
 fn write_line<R: Clock + Log>(
     rt: &R,
@@ -114,10 +124,8 @@ fn write_line<R: Clock + Log>(
 ) {
     let rt = rt.span("session").with("number", number);
     match (date(&rt), peer, process) {
-        (Some(date), Ok(peer), Some(process)) => {
-            warn!(rt; "{date}: {peer}, process {process}: {how}")
-        }
-        (Some(date), Ok(peer), None) => warn!(rt; "{date}: {peer}, no process: {how}"),
+        (Some(date), Ok(peer), Some(process)) => write_joined(&rt, date, peer, process, how),
+        (Some(date), Ok(peer), None) => write_unjoined(&rt, date, peer, how),
         _ => warn!(rt; "{how}"),
     }
 }

@@ -1,6 +1,6 @@
 //! A board that is a locked sheet.
 
-ghost use Rattle.std.specs.Prelude.{◌≡◌, ◌<◌, ◌≤◌, ℕ, List, length, vec_capacity, Some};
+ghost use Rattle.std.specs.Prelude.{◌≡◌, ◌<◌, ◌≤◌, ℕ, List, length, vec_capacity, IfSome, Some};
 ghost use Rattle.ds_crew.specs.Passes.{PlainPass};
 ghost use Rattle.ds_crew.specs.Ends.{after_edit, after_recovery, recovery_reply};
 ghost use Rattle.ds_server.specs.BoardCalls.{Last, Set, Report};
@@ -8,6 +8,7 @@ ghost use Rattle.ds_server.specs.Replies.{last_view, set_view, report_view};
 ghost use Rattle.ds_serve.specs.Desks.{Deals, IsToldBy};
 
 use crate::keeping::Keeping;
+use crate::queues::put_back;
 use crate::settle::settle;
 use crate::visit::Visit;
 use crossbeam_queue::ArrayQueue;
@@ -161,6 +162,22 @@ fn reported<L: Ledger, M: Ledger, R: Wait + Clock>(
     }
 }
 
+// The pass of a process, out of its queue. None where it is not there.
+fn popped<L: Ledger, M: Ledger, R: Wait>(
+    rt: &R,
+    queue: &ArrayQueue<Pass<L, M>>,
+    process: usize,
+) -> Option<Pass<L, M>>
+    ensures { IfSome result (λ pass. pass.process ≡ process) }
+{
+    let pass = queue.pop(rt)?;
+    if pass.process() == process {
+        Some(pass)
+    } else {
+        None
+    }
+}
+
 /// A session over a locked sheet has the pass of the process that it has joined.
 impl<'a, L: Ledger, M: Ledger, R: Wait + Clock> Board for LockedDesk<'a, L, M, R> {
     ghost use Rattle.ds_serve.specs.Desks.{IsPassOf, Deals};
@@ -185,8 +202,8 @@ impl<'a, L: Ledger, M: Ledger, R: Wait + Clock> Board for LockedDesk<'a, L, M, R
         if self.pass.is_some() || process >= self.open {
             return Err(CallRefusal::ProcessTaken);
         }
-        match self.queues[process].pop(self.rt) {
-            Some(mut pass) if pass.process() == process => {
+        match popped(self.rt, &self.queues[process], process) {
+            Some(mut pass) => {
                 let recovered = self.sheet.recover(self.rt, alloc, &mut pass);
                 match told(recovered) {
                     Ok(last) => {
@@ -195,12 +212,12 @@ impl<'a, L: Ledger, M: Ledger, R: Wait + Clock> Board for LockedDesk<'a, L, M, R
                         Ok(last)
                     }
                     Err(why) => {
-                        let _ = self.queues[process].push(self.rt, pass);
+                        put_back(self.rt, self.queues, process, pass);
                         Err(why)
                     }
                 }
             }
-            _ => Err(CallRefusal::ProcessTaken),
+            None => Err(CallRefusal::ProcessTaken),
         }
     }
 
@@ -242,9 +259,7 @@ impl<'a, L: Ledger, M: Ledger, R: Wait + Clock> Board for LockedDesk<'a, L, M, R
 
     fn leave(&mut self, process: usize) {
         if let Some(pass) = self.pass.take() {
-            if process < self.queues.len() {
-                let _ = self.queues[process].push(self.rt, pass);
-            }
+            put_back(self.rt, self.queues, process, pass);
         }
     }
 }

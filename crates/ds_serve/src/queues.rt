@@ -19,6 +19,13 @@ pub fn queues<T: Drop, R: Wait>(
     Ok(queues)
 }
 
+/// Puts what acts for a process into the queue at its place, if there is one, while nobody has it.
+pub(crate) fn put_back<T: Drop, R: Wait>(rt: &R, queues: &[ArrayQueue<T>], place: usize, item: T) {
+    if let Some(queue) = queues.get(place) {
+        let _ = queue.push(rt, item);
+    }
+}
+
 /// What stands in the queues, in their order: of all processes where nobody has any of it.
 pub fn gathered<T: Drop, R: Wait>(
     rt: &R,

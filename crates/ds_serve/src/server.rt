@@ -207,16 +207,52 @@ pub(crate) fn sum_up<R: Log>(rt: &R, taken: &Taken, door: &Door) {
         taken.connections(), taken.refused(), totals.joined, totals.done, totals.overtaken, totals.refused, totals.reports);
 }
 
-// Closes the sheet with the seats of all its processes, and says in the log where one is lost.
-fn close<R: Wait + Log>(rt: &R, alloc: Global, sheet: OpenSheet, queues: &[ArrayQueue<Seat>]) {
+// Gives the seats of all processes back to their sheet.
+fn give_back<R: Wait>(rt: &R, queues: &[ArrayQueue<Seat>]) {
     for queue in queues {
         if let Some(seat) = queue.pop(rt) {
             seat.give_back();
         }
     }
-    match sheet.close(alloc) {
-        Ok(_closed) => {}
-        Err(_) => error!(rt; "a process was lost"),
+}
+
+// Closes the sheet. Whether it could be closed.
+fn is_closed(alloc: Global, sheet: OpenSheet) -> bool {
+    sheet.close(alloc).is_ok()
+}
+
+// Closes the sheet with the seats of all its processes, and says in the log where one is lost.
+fn close<R: Wait + Log>(rt: &R, alloc: Global, sheet: OpenSheet, queues: &[ArrayQueue<Seat>]) {
+    give_back(rt, queues);
+    if !is_closed(alloc, sheet) {
+        error!(rt; "a process was lost");
+    }
+}
+
+// A new sheet of this layout, and a queue for the seat of each process. None where memory is wanting.
+fn opened<R: Wait>(
+    rt: &R,
+    alloc: Global,
+    layout: Layout,
+) -> Option<(OpenSheet, Vec<ArrayQueue<Seat>>)> {
+    let mut sheet = OpenSheet::make(alloc, layout).ok()?;
+    let seats = all_seats(alloc, &mut sheet)?;
+    let queues = own_queues(rt, alloc, seats).ok()?;
+    Some((sheet, queues))
+}
+
+// Closes the sheet of a server that has ended well, and sums up in the log what its sessions came to.
+fn end<R: Wait + Log>(
+    rt: &R,
+    alloc: Global,
+    sheet: OpenSheet,
+    queues: &[ArrayQueue<Seat>],
+    taken: &Result<Taken, ServeError>,
+    door: &Door,
+) {
+    if let Ok(taken) = taken {
+        close(rt, alloc, sheet, queues);
+        sum_up(rt, taken, door);
     }
 }
 
@@ -235,15 +271,12 @@ pub fn serve<R: Threads + Wait + Clock + Log + Sync>(
     ensures served { IfOk result (IsServed service.sessions) }
     ensures lasting { IfErr result IsLasting }
 {
-    let mut sheet = OpenSheet::make(alloc, layout)?;
-    let Some(seats) = all_seats(alloc, &mut sheet) else {
+    let Some((sheet, queues)) = opened(rt, alloc, layout) else {
         return Err(ServeError::NoMemory);
     };
-    let queues = own_queues(rt, alloc, seats)?;
     let queues = queues.as_slice();
     let floor = SharedFloor::new(layout.shape, queues, service.workers);
-    let taken = serve_floor(rt, alloc, listener, &floor, door, service)?;
-    close(rt, alloc, sheet, queues);
-    sum_up(rt, &taken, door);
-    Ok(taken)
+    let taken = serve_floor(rt, alloc, listener, &floor, door, service);
+    end(rt, alloc, sheet, queues, &taken, door);
+    taken
 }

@@ -1,10 +1,11 @@
 //! A board that is a sheet which threads share, with no lock.
 
-ghost use Rattle.std.specs.Prelude.{◌≡◌, Some};
+ghost use Rattle.std.specs.Prelude.{◌≡◌, IfSome, Some};
 ghost use Rattle.ds_seats.specs.Sheets.{IsSeatOf};
 ghost use Rattle.ds_server.specs.Replies.{last_view, set_view, report_view};
 ghost use Rattle.ds_serve.specs.SharedDesks.{HasSet, HasReported, HasRecovered, set_said, last_said, report_said, sheet_of};
 
+use crate::queues::put_back;
 use crate::shared_settle::{STEPS_MOST, shared_settle};
 use crate::visit::Visit;
 use crossbeam_queue::ArrayQueue;
@@ -123,6 +124,18 @@ fn recovered(alloc: Global, seat: &mut Seat) -> Result<Option<Told>, CallRefusal
     told(seat.recover(alloc, STEPS_MOST))
 }
 
+// The seat of a process, out of its queue. None where it is not there.
+fn popped<R: Wait>(rt: &R, queue: &ArrayQueue<Seat>, process: usize) -> Option<Seat>
+    ensures { IfSome result (λ seat. seat.pass.process ≡ process) }
+{
+    let seat = queue.pop(rt)?;
+    if seat.process() == process {
+        Some(seat)
+    } else {
+        None
+    }
+}
+
 /// A session over a shared sheet has the seat of the process that it has joined.
 impl<'a, R: Wait + Clock> Board for SharedDesk<'a, R> {
     ghost use Rattle.ds_serve.specs.SharedDesks.{IsSeatAt, SharedDeals};
@@ -147,8 +160,8 @@ impl<'a, R: Wait + Clock> Board for SharedDesk<'a, R> {
         if self.seat.is_some() || process >= self.open {
             return Err(CallRefusal::ProcessTaken);
         }
-        match self.queues[process].pop(self.rt) {
-            Some(mut seat) if seat.process() == process => {
+        match popped(self.rt, &self.queues[process], process) {
+            Some(mut seat) => {
                 match recovered(alloc, &mut seat) {
                     Ok(last) => {
                         self.seat = Some(seat);
@@ -156,12 +169,12 @@ impl<'a, R: Wait + Clock> Board for SharedDesk<'a, R> {
                         Ok(last)
                     }
                     Err(why) => {
-                        let _ = self.queues[process].push(self.rt, seat);
+                        put_back(self.rt, self.queues, process, seat);
                         Err(why)
                     }
                 }
             }
-            _ => Err(CallRefusal::ProcessTaken),
+            None => Err(CallRefusal::ProcessTaken),
         }
     }
 
@@ -198,9 +211,7 @@ impl<'a, R: Wait + Clock> Board for SharedDesk<'a, R> {
 
     fn leave(&mut self, process: usize) {
         if let Some(seat) = self.seat.take() {
-            if process < self.queues.len() {
-                let _ = self.queues[process].push(self.rt, seat);
-            }
+            put_back(self.rt, self.queues, process, seat);
         }
     }
 }

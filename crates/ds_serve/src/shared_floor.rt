@@ -1,6 +1,7 @@
 //! A sheet that threads share, as a server serves it.
 
 use crate::floor::Floor;
+use crate::queues::put_back;
 use crate::settle::{REST, Round};
 use crate::shared_desk::SharedDesk;
 use crate::shared_settle::{STEPS_MOST, shared_round};
@@ -61,6 +62,18 @@ fn round(alloc: Global, seat: &mut Seat) -> bool {
     }
 }
 
+// Goes round the cells until it is told to stop, and rests where there was no work.
+fn go_round<R: Wait + Clock>(rt: &R, alloc: Global, seat: &mut Seat, stop: &Mutex<bool>) {
+    for _ in rt.forever() {
+        if *stop.lock(rt) {
+            break;
+        }
+        if !round(alloc, seat) {
+            thread::sleep(rt, Duration::from_millis(REST));
+        }
+    }
+}
+
 impl<'a> Floor for SharedFloor<'a> {
     fn processes(&self) -> usize {
         self.queues.len()
@@ -85,14 +98,7 @@ impl<'a> Floor for SharedFloor<'a> {
         let Some(mut seat) = queue.pop(rt) else {
             return;
         };
-        for _ in rt.forever() {
-            if *stop.lock(rt) {
-                break;
-            }
-            if !round(alloc, &mut seat) {
-                thread::sleep(rt, Duration::from_millis(REST));
-            }
-        }
-        let _ = queue.push(rt, seat);
+        go_round(rt, alloc, &mut seat, stop);
+        put_back(rt, self.queues, process, seat);
     }
 }

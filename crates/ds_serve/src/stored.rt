@@ -1,6 +1,6 @@
 //! A server with a store: sessions in threads beside the keeper, which keeps what they have done.
 
-ghost use Rattle.std.specs.Prelude.{◌≡◌, IfErr, IfOk, IfSome};
+ghost use Rattle.std.specs.Prelude.{◌≡◌, ◌<◌, IfErr, IfOk, IfSome, length};
 ghost use Rattle.ds_serve.specs.Accepting.{IsLasting, IsServed, IsStoredLasting};
 
 use crate::counts::Taken;
@@ -118,6 +118,44 @@ fn serve_beside<
     )
 }
 
+// The passes of all processes, so many. None where one is lost, or memory is wanting.
+fn all_passes<L: Ledger, M: Ledger, R: Wait>(
+    rt: &R,
+    alloc: Global,
+    queues: &[ArrayQueue<Pass<L, M>>],
+    processes: usize,
+) -> Option<Vec<Pass<L, M>>>
+    ensures count { IfSome result (λ passes. length passes.items ≡ processes) }
+    ensures some { IfSome result (λ passes. 0 < processes) }
+{
+    let passes = gathered(rt, alloc, queues).ok()?;
+    if passes.len() == processes && processes > 0 {
+        Some(passes)
+    } else {
+        None
+    }
+}
+
+// Closes the sheet with these passes, which are those of all its processes. What is wrong with it, if anything.
+fn closed<L: Ledger, M: Ledger>(
+    sheet: LockedSheet<L, M>,
+    passes: Option<Vec<Pass<L, M>>>,
+    processes: usize,
+) -> Option<&'static str>
+    requires parts { (L.parts ≡ processes) × (M.parts ≡ processes) }
+    requires count { IfSome passes (λ some. length some.items ≡ processes) }
+    requires some { IfSome passes (λ some. 0 < processes) }
+{
+    let Some(passes) = passes else {
+        return Some("a process was lost");
+    };
+    if sheet.close(passes).stray.is_some() {
+        Some("a process keeps other values than the sheet")
+    } else {
+        None
+    }
+}
+
 // Closes the sheet with the passes of all its processes, and says in the log where one is lost, or keeps other values
 // than the sheet.
 fn close<L: Ledger, M: Ledger, R: Wait + Log>(
@@ -129,14 +167,28 @@ fn close<L: Ledger, M: Ledger, R: Wait + Log>(
 )
     requires { (L.parts ≡ processes) × (M.parts ≡ processes) }
 {
-    match gathered(rt, alloc, queues) {
-        Ok(passes) if passes.len() == processes && processes > 0 => {
-            if sheet.close(passes).stray.is_some() {
-                error!(rt; "a process keeps other values than the sheet");
-            }
-        }
-        _ => error!(rt; "a process was lost"),
+    let passes = all_passes(rt, alloc, queues, processes);
+    if let Some(fault) = closed(sheet, passes, processes) {
+        error!(rt; "{fault}");
     }
+}
+
+// The sheet of a world behind its lock, with these blanks, and a queue for the pass of each process. None where memory is
+// wanting.
+fn locked<L: Ledger, M: Ledger, R: Wait>(
+    rt: &R,
+    alloc: Global,
+    world: World,
+    dones: Blank,
+    settleds: Blank,
+) -> Option<(LockedSheet<L, M>, Vec<ArrayQueue<Pass<L, M>>>)>
+    requires names { (dones.name ≡ L.name) × (settleds.name ≡ M.name) }
+    requires parts { (dones.parts ≡ L.parts) × (settleds.parts ≡ M.parts) }
+    requires processes { (L.parts ≡ world.sheet.layout.processes) × (M.parts ≡ world.sheet.layout.processes) }
+{
+    let (sheet, passes) = LockedSheet::<L, M>::make(alloc, world, dones, settleds).ok()?;
+    let queues = own_queues(rt, alloc, passes).ok()?;
+    Some((sheet, queues))
 }
 
 // So of a world, with these blanks.
@@ -165,17 +217,18 @@ fn serve_world<
     ensures lasting { IfErr result IsStoredLasting }
 {
     let processes = world.words.layout().processes;
-    let Ok((sheet, passes)) = LockedSheet::<L, M>::make(alloc, world, dones, settleds) else {
-        return Err(ServeError::NoMemory);
-    };
-    let Ok(queues) = own_queues(rt, alloc, passes) else {
+    let Some((sheet, queues)) = locked::<L, M, _>(rt, alloc, world, dones, settleds) else {
         return Err(ServeError::NoMemory);
     };
     let queues = queues.as_slice();
     let floor = LockedFloor::new(&sheet, queues, service.workers);
-    let taken = serve_beside(rt, alloc, listener, &floor, door, service, store, attendant)?;
-    close(rt, alloc, sheet, queues, processes);
-    Ok(taken)
+    let taken = serve_beside(rt, alloc, listener, &floor, door, service, store, attendant);
+    if taken.is_ok() {
+        close(rt, alloc, sheet, queues, processes);
+    } else {
+        drop(sheet);
+    }
+    taken
 }
 
 /// Serves this sheet behind a lock, as `server::serve_floor` says, while the calling thread keeps in the store each edit

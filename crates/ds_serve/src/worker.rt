@@ -1,5 +1,6 @@
 //! A worker, which recalculates a locked sheet until it is told to stop.
 
+use crate::queues::put_back;
 use crossbeam_queue::ArrayQueue;
 use ds_crew::ended::Worked;
 use ds_crew::locked::LockedSheet;
@@ -60,5 +61,5 @@ pub(crate) fn work_on<L: Ledger, M: Ledger, R: Wait + Clock>(
             thread::sleep(rt, Duration::from_millis(REST));
         }
     }
-    let _ = queue.push(rt, pass);
+    put_back(rt, queues, place, pass);
 }

@@ -79,6 +79,31 @@ fn restarted(alloc: Global, lines: &[String]) -> Result<World, StoreFault>
     Ok(world)
 }
 
+// The first line of a new sheet, and the sheet.
+fn begun(alloc: Global, shape: Shape, processes: usize) -> Result<(String, World), StoreFault>
+    ensures { IfOk result (λ new. Opens shape.columns shape.rows processes (string_bytes new.0) new.1) }
+{
+    let journal::Opened { line, world } = match journal::open(alloc, shape, processes) {
+        Ok(opened) => opened,
+        Err(fault) => return Err(StoreFault::at_line(1, fault)),
+    };
+    let line = text_of(alloc, &line)?;
+    Ok((line, world))
+}
+
+// Commits lines in a database that has nothing.
+fn with_lines<S: Alter + Drop>(
+    conn: Connection<S>,
+    lines: &[String],
+) -> Result<Connection<S>, StoreFault>
+    ensures { IfOk result (λ made. HasCleanDisk (state S.Store made) → IsBare (state S.Store conn).now
+        → Holds (map string_bytes lines.now) (state S.Store made).now × Holds (map string_bytes lines.now) (state S.Store made).committed) }
+{
+    let mut conn = conn;
+    lines::make(&mut conn, lines)?;
+    Ok(conn)
+}
+
 impl<S: Alter + Drop> Store<S> {
     /// Makes the store of a new sheet of this shape with so many processes, 1 to 8, in a database that has nothing: its
     /// first line is committed. Where the database has something, or there is no such sheet, it is an error.
@@ -93,19 +118,11 @@ impl<S: Alter + Drop> Store<S> {
             × (HasCleanDisk (state S.Store opened.store.conn) → IsBare (state S.Store conn).now
             → Holds (line ∷ []) (state S.Store opened.store.conn).now × Holds (line ∷ []) (state S.Store opened.store.conn).committed)) }
     {
-        let mut conn = conn;
-        let opened = match journal::open(alloc, shape, processes) {
-            Ok(opened) => opened,
-            Err(fault) => return Err(StoreFault::at_line(1, fault)),
-        };
+        let (line, world) = begun(alloc, shape, processes)?;
         // (one line as a list of its own: an array that owns it would be dear to prove)
-        let line = text_of(alloc, &opened.line)?;
-        lines::make(&mut conn, slice::from_ref(&line))?;
+        let conn = with_lines(conn, slice::from_ref(&line))?;
         let sheet = restarted(alloc, slice::from_ref(&line))?;
-        let store = Store {
-            conn,
-            world: opened.world,
-        };
+        let store = Store { conn, world };
         Ok(Opened { store, sheet })
     }
 
@@ -135,9 +152,8 @@ impl<S: Alter + Drop> Store<S> {
             × (HasCleanDisk (state S.Store store.conn) → IsBare (state S.Store conn).now
             → Holds (map string_bytes texts.now) (state S.Store store.conn).now × Holds (map string_bytes texts.now) (state S.Store store.conn).committed)) }
     {
-        let mut conn = conn;
         let world = followed(alloc, texts)?;
-        lines::make(&mut conn, texts)?;
+        let conn = with_lines(conn, texts)?;
         Ok(Store { conn, world })
     }
 
