@@ -1,8 +1,8 @@
 // Events that name a cell, a process or a word that the sheet has not: none is enabled.
 
+use crate::row::{Action, Row, play_on};
+use crate::sheet::{A1, small};
 use ds_core::reply::Reply;
-use ds_fixtures::row::{Action, Row, play_on};
-use ds_fixtures::sheet::{A1, small};
 use ds_formula::cells::Cell;
 use ds_layout::place::{Edition, Place};
 use ds_state::answer::{Answer, EditEnd};

@@ -1,8 +1,8 @@
 // How many edits count, how many were answered Done, and how many reports were settled.
 
+use crate::row::{Action, Row, play_on};
+use crate::sheet::{A1, A2, B1, small};
 use ds_core::reply::Reply;
-use ds_fixtures::row::{Action, Row, play_on};
-use ds_fixtures::sheet::{A1, A2, B1, small};
 use ds_layout::place::Place;
 use ds_state::answer::{Answer, EditEnd, Other};
 use ds_state::recovery::{RecoveryEnd, Told};

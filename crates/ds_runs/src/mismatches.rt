@@ -1,9 +1,9 @@
 // Rows that are not true of a new sheet: each is found out.
 
+use crate::mismatch::Mismatch;
+use crate::row::{Action, Row, carry_out};
+use crate::sheet::{A1, small};
 use ds_core::reply::Reply;
-use ds_fixtures::mismatch::Mismatch;
-use ds_fixtures::row::{Action, Row, carry_out};
-use ds_fixtures::sheet::{A1, small};
 use ds_state::answer::Answer;
 use ds_state::work::WorkEnd;
 use std::alloc::Global;

@@ -1,11 +1,11 @@
 // Tasks that a work does not wait for.
 
+use crate::calls::evaluated;
+use crate::row::{Action, Row, expect_reply, play_on};
+use crate::sheet::{A1, small};
 use ds_core::event::Event;
 use ds_core::reply::Reply;
 use ds_eval::task::Evaluated;
-use ds_fixtures::calls::evaluated;
-use ds_fixtures::row::{Action, Row, expect_reply, play_on};
-use ds_fixtures::sheet::{A1, small};
 use ds_state::answer::{Answer, EditEnd};
 use ds_state::work::WorkEnd;
 use ds_state::world::World;

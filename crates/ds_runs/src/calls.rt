@@ -6,7 +6,6 @@ use ds_core::reply::Reply;
 use ds_core::take::take;
 use ds_eval::task::{Evaluated, evaluate};
 use ds_formula::cells::Cell;
-use ds_layout::mark::State;
 use ds_state::world::World;
 use ds_work::offer::{TaskFault, task_of};
 use std::alloc::{AllocError, Global};
@@ -34,13 +33,13 @@ pub fn evaluated(
     }
 }
 
-// A work that waits is offered the entry of its task; whether it waits.
-fn offer(alloc: Global, world: &mut World, process: usize) -> Result<bool, Mismatch> {
+// A work that waits is offered the entry of its task.
+fn offer(alloc: Global, world: &mut World, process: usize) -> Result<(), Mismatch> {
     let Some(entry) = evaluated(alloc, world, process)? else {
-        return Ok(false);
+        return Ok(());
     };
     match take(alloc, world, &Event::Offer(entry)) {
-        Reply::Stepped => Ok(true),
+        Reply::Stepped => Ok(()),
         other => Err(Mismatch::Replied(other)),
     }
 }
@@ -51,8 +50,8 @@ fn advance(alloc: Global, world: &mut World, process: usize) -> Result<Reply, Mi
     Ok(take(alloc, world, &Event::Step(process)))
 }
 
-// More steps than a call of a sheet of eight processes has: its longest one is a migration.
-const STEPS: usize = 123_000;
+// More steps than a call of a small sheet has that is no migration.
+const STEPS: usize = 500;
 
 /// A process steps until its call ends; where its work waits, the entry of its task is offered. How the call ended:
 /// `NotEnabled` where there was none.
@@ -64,49 +63,4 @@ pub fn finish(alloc: Global, world: &mut World, process: usize) -> Result<Reply,
         }
     }
     Err(Mismatch::NoEnd)
-}
-
-// A process begins a call, and steps to its end. How it ended, or why it did not begin.
-fn whole(
-    alloc: Global,
-    world: &mut World,
-    process: usize,
-    begin: &Event,
-) -> Result<Reply, Mismatch> {
-    match take(alloc, world, begin) {
-        Reply::Begun(_) | Reply::Entered => finish(alloc, world, process),
-        refused => Ok(refused),
-    }
-}
-
-// Whether the cell is marked, and held by nobody.
-fn is_marked(world: &World, cell: Cell) -> bool {
-    world.words.layout().shape.contains(cell) && world.mark_of(cell).state() == State::Marked
-}
-
-// A process works on each cell that is marked when its turn comes. Whether there was one.
-fn round(alloc: Global, world: &mut World, process: usize) -> Result<bool, Mismatch> {
-    let mut found = false;
-    let shape = world.words.layout().shape;
-    for number in 0..shape.count() {
-        let cell = shape.cell(number);
-        if is_marked(world, cell) {
-            found = true;
-            whole(alloc, world, process, &Event::BeginWork(process, cell))?;
-        }
-    }
-    Ok(found)
-}
-
-// More rounds than the sheet needs: values settle in four.
-const PASSES: usize = 6;
-
-/// A process works on all cells, up to the first round that finds none that is marked. Whether there was one.
-pub fn settle(alloc: Global, world: &mut World, process: usize) -> Result<bool, Mismatch> {
-    for _ in 0..PASSES {
-        if !round(alloc, world, process)? {
-            return Ok(true);
-        }
-    }
-    Ok(false)
 }
