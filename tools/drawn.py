@@ -104,7 +104,8 @@ def cells_of(text):
 
 
 def evaluate(text, words, endless):
-    """Value and kind of a cell with this text, from those of all cells; references of this height never end."""
+    """Value and kind of a cell with this text, from those of all cells; references of this height never end. A crash
+    may leave a value beside the kind of another one: it counts where the kind says that it is a number."""
     if not text:
         return 0, BLANK
     inputs = [words(cell) for cell in cells_of(text)]
@@ -114,7 +115,7 @@ def evaluate(text, words, endless):
     if text == DIVISION_TEXT or any(kind % 8 == DIVISION for _, kind in inputs):
         return 0, height * 8 + DIVISION
     own = sum(term for _, term in terms_of(text) if isinstance(term, int))
-    return (own + sum(value for value, _ in inputs)) % 2**64, height * 8 + NUMBER
+    return (own + sum(value for value, kind in inputs if kind % 8 == NUMBER)) % 2**64, height * 8 + NUMBER
 
 
 @dataclass
