@@ -1,7 +1,7 @@
 #!/usr/bin/env python3
 """Plays by the program what no file should hold: the large sheets of bench/ whose values have closed forms, inputs at
-their limits and over them, sessions among them, refusals at each step of an edit, and what a crash or a stop behind each
-step of an edit, of a work and of a migration leaves. The last line says how many there were.
+their limits and over them, sessions among them, refusals at each step of an edit, and what a crash or a stop behind
+each step of an edit, of a work and of a migration leaves. The last line says how many there were.
     tools/computed.py PROGRAM
 """
 import os
@@ -119,7 +119,7 @@ def blocks(cell, values, kept, last, first=1):
 
 
 def stops():
-    """An edit of a number has 20 steps and is kept behind 13, one of a reference 23 and 16. A fault stands behind it."""
+    """An edit of a number has 20 steps and is kept behind 13, one of a reference 23 and 16. A fault stands behind."""
     yield row("stops of a number", "run --stops", b"set 0 A1 7\n", blocks("A1", "7,\n,\n", 13, 20))
     yield row("stops of a reference", "run --stops", b"set 0 B1 =[.A1]\n", blocks("B1", ",0\n,\n", 16, 23))
     for first, last in ((1, None), (0, 3), (1, 1), (9, 13), (19, 21), (20, None), (21, None), (5, 4), (2, 65_535)):
@@ -160,7 +160,7 @@ def stepped(process, steps, last, answer):
 
 
 def works():
-    """A work of 24 steps on a cell that another one refers to: behind each of them a crash, or a stop of both processes.
+    """A work of 24 steps on a cell that another one refers to: behind each a crash, or a stop of both processes.
     What comes before it has 23, 20, 24 + 23 and 25 steps: the last edit finds the one before it there."""
     before = "set 0 B1 =[.A1]+1\nset 0 A1 5\nsettle 0\nset 0 A1 6\n"
     told = "0 last 2 A1 done\n1 nothing\nclean\nsettled\n6,7\n,\n"
@@ -188,8 +188,8 @@ def refusals():
 
 
 def records():
-    """256 edits step by step, and one of the other process: each but the first finds the one before it there, and says of
-    it that it counts and is superseded, by a bit of the words that are shown."""
+    """256 edits step by step, and one of the other process: each but the first finds the one before it there, and says
+    of it that it counts and is superseded, by a bit of the words that are shown."""
     given, answers, full = "", "", (1 << 64) - 1
     for number in range(256):
         steps = 25 if number else 20

@@ -103,11 +103,16 @@ def served(program, words, given):
     return out
 
 
+def meant(escape):
+    """The byte that an escape stands for; of the last one of a line none."""
+    name = escape[1]
+    return bytes([int(name[1:], 16)]) if name[:1] == b"x" else name.replace(b"c", b"")
+
+
 def text_of(text, is_given):
     """The bytes that a text stands for: of a line of input with its line feed, unless it says that none ends it."""
     ends = is_given and not text.endswith(b"\\c")
-    plain = ESCAPE.sub(lambda it: {b"\\": b"\\", b"c": b""}.get(it[1]) if it[1][:1] != b"x" else bytes([int(it[1][1:], 16)]), text)
-    return plain + b"\n" * ends
+    return ESCAPE.sub(meant, text) + b"\n" * ends
 
 
 def rows_of(path):
@@ -138,8 +143,8 @@ def play(what, program, rows):
 def main():
     program = os.path.realpath(sys.argv[1])
     folder = f"{TOP}/transcripts"
-    rows = [row for path in sys.argv[2:] or sorted(f"{folder}/{it}" for it in os.listdir(folder)) for row in rows_of(path)]
-    return play("transcripts", program, rows)
+    paths = sys.argv[2:] or sorted(f"{folder}/{it}" for it in os.listdir(folder))
+    return play("transcripts", program, [row for path in paths for row in rows_of(path)])
 
 
 if __name__ == "__main__":
