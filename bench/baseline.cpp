@@ -1,7 +1,7 @@
 // The job of `dsheet report` as a plain program does it: what bench/run.sh compares times with.
 //
-// It reads a grid of texts as CSV, parses each formula into a tree, evaluates each formula once, behind the cells that it
-// refers to, with circular references found on the way, and prints the values as CSV. Faults of a text are not told apart.
+// It reads a grid of texts as CSV, parses each formula into a tree, evaluates each formula once, after the cells that it
+// refers to, with circular references found on the way, and prints the values as CSV. Faults of a text are not distinguished.
 #include <cctype>
 #include <cstdint>
 #include <cstdio>
@@ -275,7 +275,7 @@ class Evaluation {
     std::vector<Value> values;
     std::vector<State> states;
 
-    // evaluates the cell behind all that it refers to
+    // evaluates the cell after all that it refers to
     void visit(size_t cell) {
         if (states[cell] != State::New) return;
         states[cell] = State::Open;

@@ -1,6 +1,6 @@
 // Clients of `dsheet serve`, each in a thread with a connection of its own: what bench/sessions.sh measures.
 //
-// clients PORT CLIENTS EDITS: each joins the process of its number, and when all have joined, makes so many edits, each
+// clients PORT CLIENTS EDITS: each joins the process of its number, and when all have joined, makes EDITS edits, each
 // sent when the one before is answered. It prints the microseconds from then to the last answer, by the edit.
 #include <arpa/inet.h>
 #include <netinet/tcp.h>

@@ -1,8 +1,8 @@
 #!/usr/bin/env python3
-"""Runs two builds of ds_pace in turn, and prints what an edit and a work behind it take with each, by the text that the
+"""Runs two builds of bench_threads in turn, and prints what an edit and a work after it take with each, by the text that the
 edits give: python3 bench/kept.py ONE OTHER RUNS [THREADS ..]
 
-A time is that of the calls of all threads by their number, the least of so many runs. That of a work is what an edit with
+A time is that of the calls of all threads by their number, the least of that number of runs. That of a work is what an edit with
 a work takes more than an edit.
 """
 import os

@@ -24,7 +24,7 @@ namespace {
 
 constexpr size_t CELLS = 8, PROCESSES = 8, RECORDS = 256, PARTS = 15, DONE_PARTS = RECORDS / 64;
 
-// Both sides of a word lie beside each other, and 64 bytes behind those of the word before it: no two words share a line of a cache.
+// Both sides of a word lie beside each other, and 64 bytes after those of the word before it: no two words share a line of a cache.
 constexpr size_t SPREAD = 8;
 
 enum class Class : uint8_t { Stamped, Bit, Owned };

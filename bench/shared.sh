@@ -1,11 +1,11 @@
 #!/bin/sh
 # Calls of threads on a shared sheet, beside the same steps on plain C++ atomics (shared.cpp) and a sheet behind a lock:
 # edits of cells of their own and of one cell, edits with works, and reports beside these, by 1, 2, 4 and 8 threads; by the
-# least of so many interleaved runs as the first argument says (7).
-# Run it after a build: (cd crates/ds_pace && rt run); bench/shared.sh
+# least of as many interleaved runs as the first argument says (7).
+# Run it after a build: (cd crates/bench_threads && rt run); bench/shared.sh
 set -eu
 here=$(CDPATH= cd -- "$(dirname -- "$0")" && pwd)
-program=$here/../crates/ds_pace/out/ds_pace
+program=$here/../crates/bench_threads/out/bench_threads
 work=$(mktemp -d)
 trap 'rm -rf "$work"' EXIT
 ${CXX:-c++} -O2 -static-libstdc++ -static-libgcc -std=c++17 -pthread -o "$work/shared" "$here/shared.cpp"

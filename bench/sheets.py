@@ -59,7 +59,7 @@ def script(texts, columns=COLUMNS):
 
 
 def sheets():
-    """The texts and the columns of each sheet by its name; the eight behind the first are those that have a target of
+    """The texts and the columns of each sheet by its name; the eight after the first are those that have a target of
     three times the plain program, and the last one has one of one and a half times."""
     places = list(range(COUNT))
     shuffled = random.Random(5).sample(places, COUNT)

@@ -18,7 +18,7 @@ SHAPE = ["--columns", "16", "--rows", "64", "--processes", "8"]
 
 
 def serve(program, sessions, store):
-    """Starts a server that ends behind so many sessions; returns it and its port."""
+    """Starts a server that ends after this number of sessions; returns it and its port."""
     words = [program, "serve", "--listen", "127.0.0.1:0", *SHAPE, "--sessions", str(sessions)]
     words += ["--store", store] if store else []
     server = subprocess.Popen(words, stdin=subprocess.DEVNULL, stderr=subprocess.PIPE, text=True)

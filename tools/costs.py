@@ -1,7 +1,7 @@
 #!/usr/bin/env python3
-"""Prints the table of docs/COSTS.md: of each crate of crates.txt its lines of code, definitions and proofs, its edits,
-and the processor minutes that its proof, its tests and its edits took, as read from what tools/gate_minutes.py wrote
-to these files; the last file that has a figure counts.
+"""Prints the table of docs/COSTS.md: of each crate of crates.txt its lines of code, definitions and proofs, its edits
+(of must-fail, and of more-edits), and the processor minutes that its proof and its tests took, as read from what
+tools/gate_minutes.py wrote to these files; the last file that has a figure counts.
     tools/costs.py FILE ..
 """
 import os
@@ -48,14 +48,15 @@ def minutes(names):
 
 def main():
     times = minutes(sys.argv[1:])
-    print("| Crate | Code | Specs | Proofs | Edits | More | Proof | Tests | Trying the edits |")
-    print("|" + "---|" * 9)
+    print("| Crate | Code/specs/proofs | Edits | Proof | Tests |")
+    print("|" + "---|" * 5)
     for crate in crates():
         counts = [lines(crate, "src", ".rt"), lines(crate, "specs", ".antt"), lines(crate, "proofs", ".antt")]
         edits = [len(files(crate, part, ".edit")) for part in ("must-fail", "more-edits")]
-        proof, tried, tests = times.get(crate, [0.0, 0.0, 0.0])
-        figures = [f"{it:.1f}" if it else "-" for it in (proof, tests, tried)]
-        print(f"| `{crate}` | " + " | ".join([f"{it:,}" for it in counts + edits] + figures) + " |")
+        proof, _tried, tests = times.get(crate, [0.0, 0.0, 0.0])
+        figures = [f"{it:.1f}" if it else "-" for it in (proof, tests)]
+        cells = [crate, "/".join(f"{it:,}" for it in counts), f"{edits[0]}+{edits[1]}", *figures]
+        print("| " + " | ".join(cells) + " |")
 
 
 if __name__ == "__main__":

@@ -1,5 +1,5 @@
 #!/usr/bin/env python3
-"""Runs a command, `rt ci` if none is named, and tells where its processor minutes went: for each crate its proof, its
+"""Runs a command, `rt ci` if none is named, and prints where its processor minutes went: for each crate its proof, its
 must-fail edits and its tests. The processor time of the prover's processes is read twice a second, so that other work
 on the machine changes little.
     tools/gate_minutes.py [COMMAND ..]

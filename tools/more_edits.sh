@@ -1,12 +1,14 @@
 #!/usr/bin/env bash
-# Tries the edits of crates/NAME/more-edits, which the gate does not try, as the gate tries those of must-fail: the
-# prover has to refuse each. It works in a copy of the repository, and takes the libraries that are built here.
-# Run it for a crate whenever its code or its contracts change: where all are refused, it notes of which text that is
-# so, in crates/NAME/more-edits/tried.
-#   tools/more_edits.sh [NAME ..]        all crates that have such edits, where none is named
-#   tools/more_edits.sh --stale          lists the crates whose text is another one than that, and tries nothing
+# Tries the edits of crates/NAME/more-edits, which the gate does not try, as it tries those of must-fail: the prover has to
+# refuse each. In a copy of the repository they lie in must-fail, and `rt ci NAME ..` proves and tries there; what it has
+# proved or tried once on this machine it takes from what it keeps, so an interrupted run loses little. Run it for a crate
+# whenever its code or its definitions change. Where all edits of a crate are refused, it notes of which text that is so,
+# in crates/NAME/more-edits/tried. The last line counts the crates; exit status 1 where any is left.
+#   tools/more_edits.sh [NAME ..]   these crates, or those whose text is another one than that
+#   tools/more_edits.sh --stale     lists the latter, and tries nothing
 set -euo pipefail
 cd "$(dirname "$0")/.."
+
 # What a crate's edits turn: its code and its definitions, without comments and blank lines, and the edits.
 text_of() {
     {
@@ -15,44 +17,78 @@ text_of() {
         find "crates/$1/more-edits" -name '*.edit' | LC_ALL=C sort | xargs cat
     } | sha256sum | cut -d ' ' -f 1
 }
+
+# The crates that have such edits.
 all() {
     for folder in crates/*/more-edits; do
         basename "$(dirname "$folder")"
     done
 }
-if [ "${1-}" = --stale ]; then
+
+# Those whose edits were not all refused on their text as it stands.
+stale() {
     for name in $(all); do
         tried=crates/$name/more-edits/tried
         if [ ! -f "$tried" ] || [ "$(cat "$tried")" != "$(text_of "$name")" ]; then
             echo "$name"
         fi
     done
+}
+
+# Copies what checks read, with the edits of these crates where `rt ci` tries them.
+copy_repository() {
+    local room=$1 name
+    shift
+    cp -a crates.txt HANDLES "$room"
+    mkdir "$room/.git" "$room/crates"
+    for crate in crates/*; do
+        mkdir "$room/$crate"
+        find "$crate" -mindepth 1 -maxdepth 1 ! -name out ! -name must-fail ! -name more-edits -exec cp -a {} "$room/$crate/" \;
+    done
+    for name in "$@"; do
+        mkdir "$room/crates/$name/must-fail"
+        cp "crates/$name/more-edits/"*.edit "$room/crates/$name/must-fail/"
+    done
+}
+
+# Whether each edit of a crate was refused, by what `rt ci` said.
+all_refused() {
+    local name=$1 log=$2 edit
+    for edit in "crates/$name/more-edits/"*.edit; do
+        grep -qF "must-fail $name/$(basename "$edit"): refused, as it must be" "$log" || return 1
+    done
+}
+
+if [ "${1-}" = --stale ]; then
+    stale
     exit 0
 fi
-if [ $# -eq 0 ]; then
-    # shellcheck disable=SC2046
-    set -- $(all)
+names=("$@")
+if [ $# -eq 0 ]; then mapfile -t names < <(stale); fi
+if [ "${#names[@]}" = 0 ]; then
+    echo "more_edits: 0 crates with all edits refused, 0 left"
+    exit 0
 fi
 room=$(mktemp -d)
 trap 'rm -rf "$room"' EXIT
-cp -a crates.txt HANDLES "$room"
-mkdir "$room/.git" "$room/crates"
-for crate in crates/*; do
-    mkdir "$room/$crate"
-    for part in src specs proofs data; do
-        [ -d "$crate/$part" ] && cp -a "$crate/$part" "$room/$crate/"
-    done
-    if [ -d "$crate/out/rlib" ]; then
-        mkdir "$room/$crate/out"
-        cp -a "$crate/out/rlib" "$room/$crate/out/"
+trap 'exit 130' INT
+trap 'exit 143' TERM
+declare -A texts
+for name in "${names[@]}"; do texts[$name]=$(text_of "$name"); done
+copy_repository "$room" "${names[@]}"
+# A gate calls `rt ci` without names: what it has proved before is kept, so that the other crates cost little.
+if [ "${CI-}" = true ]; then words=(); else words=("${names[@]}"); fi
+(cd "$room" && rt ci "${words[@]}") </dev/null 2>&1 | tee "$room/log" || true
+refused=0
+for name in "${names[@]}"; do
+    if all_refused "$name" "$room/log"; then
+        echo "${texts[$name]}" >"crates/$name/more-edits/tried"
+        echo "more_edits: $name: all refused"
+        refused=$((refused + 1))
+    else
+        echo "more_edits: $name: not all refused"
     fi
 done
-for name in "$@"; do
-    mkdir -p "$room/crates/$name/must-fail"
-    cp "crates/$name/more-edits/"*.edit "$room/crates/$name/must-fail/"
-done
-for name in "$@"; do
-    text=$(text_of "$name")
-    (cd "$room" && rt must-fail "$name")
-    echo "$text" >"crates/$name/more-edits/tried"
-done
+left=$((${#names[@]} - refused))
+echo "more_edits: $refused crates with all edits refused, $left left"
+[ "$left" = 0 ]

@@ -1,5 +1,5 @@
 #!/usr/bin/env bash
-# Tells how many seconds each part of a crate's proof takes, the slowest first, and their sum: a check of the crate from
+# Prints how many seconds each part of a crate's proof takes, the slowest first, and their sum: a check of the crate from
 # nothing by one job, in a copy of the repository, over the libraries that are built here. It goes by the times of the
 # files that the check keeps, one a module. Of a function F, F.Lts is what its borrows and drops cost, F.Proof its goals;
 # a page of proofs/ or specs/ has its own name. What rt takes from another copy's check is left out: it says so, and

@@ -1,4 +1,4 @@
-/* An edit is under way when a crash comes, once behind each of its steps: what became of it, by a recovery, and what
+/* An edit is under way when a crash comes, once after each of its steps: what became of it, by a recovery, and what
  * the cell shows then. Of one more, the head of its cell is evicted before the crash. */
 #include <dsheet.h>
 #include <stdbool.h>
@@ -6,7 +6,7 @@
 #include <stdlib.h>
 #include <string.h>
 
-/* Every call here has arguments that are right, so that only memory can be wanting. */
+/* Every call here has arguments that are right, so that only an allocation can fail. */
 static void need(uint32_t status, const char *what) {
     if (status != DSHEET_OK) {
         fprintf(stderr, "%s: status %u\n", what, (unsigned)status);
@@ -31,7 +31,7 @@ static void make(struct dsheet_world *world) {
     need(dsheet_world_edit(world, 1, 0, 0, "9", 1, &answer), "edit");
 }
 
-/* Process 0 begins to set A1 to 5, and makes so many steps; whether that is the whole edit. */
+/* Process 0 begins to set A1 to 5, and makes this number of steps; whether that is the whole edit. */
 static bool edit_partly(struct dsheet_world *world, unsigned steps) {
     struct dsheet_answer answer;
     need(dsheet_world_begin_edit(world, 0, 0, 0, "5", 1, &answer), "begin");
@@ -43,7 +43,7 @@ static bool edit_partly(struct dsheet_world *world, unsigned steps) {
     return false;
 }
 
-/* A crash, and what the recovery of process 0 tells of its last edit. Then all is evaluated anew. */
+/* A crash, and what the recovery of process 0 reports of its last edit. Then all is evaluated anew. */
 static const char *crash_and_ask(struct dsheet_world *world) {
     struct dsheet_answer told, answer;
     need(dsheet_world_crash(world), "crash");

@@ -8,7 +8,7 @@
 
 enum { THREADS = 4, EDITS = 20 };
 
-/* What a thread works with, and what it was told. */
+/* What a thread works with, and what it was answered. */
 struct job {
     struct dsheet_seat seat;
     size_t column; /* its cell, in the first row */
@@ -16,7 +16,7 @@ struct job {
     size_t last;   /* the number of the last one of these */
 };
 
-/* Every call here has arguments that are right, so that only memory can be wanting. */
+/* Every call here has arguments that are right, so that only an allocation can fail. */
 static void need(uint32_t status, const char *what) {
     if (status != DSHEET_OK) {
         fprintf(stderr, "%s: status %u\n", what, (unsigned)status);

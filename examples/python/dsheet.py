@@ -37,10 +37,12 @@ A sheet of the first layout is migrated to the second one, which has room for lo
 ...     told = world.recover(0)
 ...     told.name, told.holds
 ...     world.edit(0, "A1", 240 * "0").name, world.edit(0, "A1", 241 * "0").why
+...     world.edit(0, "A1", 200 * "0").name, world.text("A1") == 200 * "0"
 ('DONE', 'TOO_LONG')
 ('MIGRATED', 'ALREADY')
 ('LAST', 1)
 ('DONE', 'TOO_LONG')
+('DONE', True)
 
 What is wrong has a name.
 
@@ -263,7 +265,7 @@ class World(_Handle):
         return self._ask(Answer(), "begin_migration", process)
 
     def migrate(self, process):
-        """Every process has to be stopped, and is so behind it."""
+        """Every process has to be stopped, and is stopped after it."""
         return self._ask(Answer(), "migrate", process)
 
     def step(self, process):
@@ -313,8 +315,8 @@ class World(_Handle):
         return word.cached, word.persisted
 
     def text(self, cell):
-        buffer, length = ctypes.create_string_buffer(120), _number()
-        self._call("text", *_cell(cell), buffer, 120, ctypes.byref(length))
+        buffer, length = ctypes.create_string_buffer(240), _number()
+        self._call("text", *_cell(cell), buffer, 240, ctypes.byref(length))
         return buffer.raw[:length.value].decode("latin-1")
 
     def values(self, process):
@@ -326,7 +328,7 @@ class World(_Handle):
 
 
 class Sheet(_Handle):
-    """A sheet that threads share, in the hands of its owner. Behind a close it holds nothing."""
+    """A sheet that threads share, in the hands of its owner. After a close it holds nothing."""
 
     _prefix = "sheet_"
 
@@ -348,7 +350,7 @@ class Sheet(_Handle):
 
 
 class Seat(_Handle):
-    """A seat of a sheet. Each call makes at most so many steps, and is answered STOPPED before the next one."""
+    """A seat of a sheet. Each call makes at most `steps` steps, and is answered STOPPED before the next one."""
 
     _prefix = "seat_"
 
@@ -373,7 +375,7 @@ class Seat(_Handle):
 
 
 class ClosedSheet(_Handle):
-    """The words of a sheet that is closed. Behind a reopening it holds nothing."""
+    """The words of a sheet that is closed. After a reopening it holds nothing."""
 
     _prefix = "closed_"
 
@@ -388,8 +390,8 @@ class ClosedSheet(_Handle):
         return self._ask(Mark(), "mark", *_cell(cell))
 
     def text(self, cell):
-        buffer, length = ctypes.create_string_buffer(120), _number()
-        self._call("text", *_cell(cell), buffer, 120, ctypes.byref(length))
+        buffer, length = ctypes.create_string_buffer(240), _number()
+        self._call("text", *_cell(cell), buffer, 240, ctypes.byref(length))
         return buffer.raw[:length.value].decode("latin-1")
 
     def crash(self, choice):

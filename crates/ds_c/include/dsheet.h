@@ -6,11 +6,11 @@
  * call or one reading.
  *
  * A sheet is one that threads share with no lock. Its owner takes a seat of it for each process; a thread that has a
- * seat edits, works, recovers and reports beside the others, each call under a fuse of so many steps. Once all seats
+ * seat edits, works, recovers and reports beside the others, each call under a fuse of a number of steps. Once all seats
  * are freed the owner closes it, lets it crash, reads it, and opens it again.
  *
  * Every function returns a status. After every status but DSHEET_OK nothing has changed: neither the world or the sheet
- * nor what the pointers of the call point to, but for DSHEET_TOO_SMALL, which tells the size that is wanted.
+ * nor what the pointers of the call point to, but for DSHEET_TOO_SMALL, which gives the size that is needed.
  *
  * What each function does is proved (the clause of its export in crates/ds_c), if its caller does what is said above
  * it, and the following, which nothing can check:
@@ -46,7 +46,7 @@ enum dsheet_status {
     DSHEET_NO_CELL = 5,    /* The sheet has no such cell. */
     DSHEET_NO_WORD = 6,    /* The sheet has no such word. */
     DSHEET_NO_TASK = 7,    /* The process is in no work that waits for an entry. */
-    DSHEET_TOO_SMALL = 8,  /* The buffer is too small. How many items it needs is told. */
+    DSHEET_TOO_SMALL = 8,  /* The buffer is too small. The call gives how many items it needs. */
     DSHEET_NO_MEMORY = 9,  /* An allocation failed. */
     DSHEET_NULL = 10,      /* A pointer is null that may not be. */
     DSHEET_WRONG_HANDLE = 11, /* The handle holds something else: a seat where a sheet is wanted, or the like. */
@@ -81,7 +81,7 @@ struct dsheet_closed {
 #define DSHEET_SEAT_INIT {0, 0}
 #define DSHEET_CLOSED_INIT {0, 0}
 
-/* A fuse that no call burns down: none makes so many steps. */
+/* A fuse that no call burns down: none makes that number of steps. */
 #define DSHEET_NO_FUSE UINT64_MAX
 
 /* Which reply, answer or end a dsheet_answer is, and which of its fields are used. The others are 0. */
@@ -91,12 +91,12 @@ enum dsheet_kind {
     DSHEET_REFUSED = 3,     /* The call has not begun, and nothing has changed. cause; of a text also fault, number. */
     DSHEET_STEPPED = 4,     /* The process has made a step, or its work has taken the entry that was offered. */
     DSHEET_WRONG_TASK = 5,  /* The work waits for another task. No call of this library comes to it. */
-    DSHEET_EVICTED = 6,     /* The word is evicted. No call of this library tells of it by a row. */
+    DSHEET_EVICTED = 6,     /* The word is evicted. No call of this library answers it with a row. */
     DSHEET_STOPPED = 7,     /* The process is stopped: of a seat, since the fuse of the call has burnt down. */
-    DSHEET_CRASHED = 8,     /* The crash has come. No call of this library tells of it by a row. */
-    DSHEET_NOT_ENABLED = 9, /* The event can not happen now, and nothing has changed. */
+    DSHEET_CRASHED = 8,     /* The crash has come. No call of this library answers it with a row. */
+    DSHEET_NOT_ENABLED = 9, /* The event cannot happen now, and nothing has changed. */
     /* answers of an edit */
-    DSHEET_DONE = 10,      /* The process's edit of this number counts: no crash takes it back. number. */
+    DSHEET_DONE = 10,      /* The process's edit of this number is linearized: no crash takes it back. number. */
     DSHEET_OVERTAKEN = 11, /* It does not, and never will: the edit of process and other stood in its place. number. */
     /* answers of work */
     DSHEET_NOT_DIRTY = 12,       /* The cell's mark was clean. */
@@ -106,7 +106,7 @@ enum dsheet_kind {
     DSHEET_AGAIN = 16,           /* The cell was marked meanwhile, and is left dirty. */
     DSHEET_WORK_NO_MEMORY = 17,  /* An allocation failed, and the cell is given back dirty. Also an end of a settle. */
     /* answers of a recovery */
-    DSHEET_LAST = 18,    /* The process's last edit that was announced: number, cell; holds: whether it counts. */
+    DSHEET_LAST = 18,    /* The process's last announced edit: number, cell; holds: whether it is linearized. */
     DSHEET_NOTHING = 19, /* The process has announced no edit. */
     /* answers of a report */
     DSHEET_SETTLED = 20,                /* dsheet_world_values has its values. */
@@ -151,7 +151,7 @@ struct dsheet_answer {
     uint32_t kind;  /* enum dsheet_kind */
     uint32_t cause; /* enum dsheet_cause */
     uint32_t fault; /* enum dsheet_fault */
-    uint32_t holds; /* 1 or 0: whether the edit counts, or whether the value has changed */
+    uint32_t holds; /* 1 or 0: whether the edit is linearized, or whether the value has changed */
     size_t number;  /* of an edit, from 0; the offset of a fault; of a settle, how many cells are left */
     size_t process; /* of another edit, or of an announcement */
     size_t other;   /* the number of that other edit */
@@ -199,7 +199,7 @@ struct dsheet_size {
 /* Which word a dsheet_place is, and which of its fields are read. */
 enum dsheet_place_kind {
     DSHEET_PLACE_VERSION = 0,
-    DSHEET_PLACE_HEAD = 1,     /* owner: a cell. Which edit is its last one that counts. */
+    DSHEET_PLACE_HEAD = 1,     /* owner: a cell. Which edit is its last linearized one. */
     DSHEET_PLACE_MARK = 2,     /* owner: a cell. */
     DSHEET_PLACE_VALUE = 3,    /* owner: a cell. The number that it shows. */
     DSHEET_PLACE_KIND = 4,     /* owner: a cell. What it shows. */
@@ -207,7 +207,7 @@ enum dsheet_place_kind {
     DSHEET_PLACE_ANNOUNCE = 6, /* owner: a process. Its last announced edit. */
     DSHEET_PLACE_HEADER = 7,   /* owner: a process; number: of its edit. The cell and the length of the text. */
     DSHEET_PLACE_TEXT = 8,     /* owner: a process; number; part. Eight bytes of the text, in the first layout. */
-    DSHEET_PLACE_DONE = 9,     /* owner: a process; part. Which of its edits count and were superseded. */
+    DSHEET_PLACE_DONE = 9,     /* owner: a process; part. Which of its edits are linearized and were superseded. */
     DSHEET_PLACE_NEW_TEXT = 10 /* owner: a process; number; part. Eight bytes of the text, in the second layout. */
 };
 
@@ -285,8 +285,8 @@ uint32_t ds_c_closed_free(struct dsheet_closed *);
 
 /* ---- A world ---- */
 
-/* Makes a world in a handle that holds none: an empty sheet of so many columns (1 to 26) and rows (1 to 64), at most
- * 1,024 cells, with so many processes (1 to 8), all idle. DSHEET_FULL, DSHEET_BAD_SHAPE, DSHEET_NO_MEMORY, DSHEET_NULL.
+/* Makes a world in a handle that holds none: an empty sheet of these columns (1 to 26) and rows (1 to 64), at most
+ * 1,024 cells, with these processes (1 to 8), all idle. DSHEET_FULL, DSHEET_BAD_SHAPE, DSHEET_NO_MEMORY, DSHEET_NULL.
  * A world takes some 120 KB for each process, and 350 KB more for 1,024 cells. */
 DSHEET_FUNCTION uint32_t dsheet_world_make(struct dsheet_world *world, size_t columns, size_t rows, size_t processes) {
     if (!world)
@@ -313,7 +313,7 @@ DSHEET_FUNCTION uint32_t dsheet_world_free(struct dsheet_world *world) {
 /* ---- Events ----
  * Each of these, where not said otherwise: DSHEET_EMPTY, DSHEET_NO_PROCESS, DSHEET_NULL. */
 
-/* A process begins an edit of the cell in this column and row, both from 0, to a text of so many bytes, which is
+/* A process begins an edit of the cell in this column and row, both from 0, to a text of that length in bytes, which is
  * copied: a number, or "=" and a formula; none empties the cell. DSHEET_BEGUN or DSHEET_REFUSED. Its steps are few:
  * 112 and 3 for each reference of the text. DSHEET_NO_CELL too. */
 DSHEET_FUNCTION uint32_t dsheet_world_begin_edit(struct dsheet_world *world, size_t process, size_t column, size_t row,
@@ -434,7 +434,7 @@ DSHEET_FUNCTION uint32_t dsheet_world_recover(struct dsheet_world *world, size_t
 }
 
 /* A whole migration of the sheet to the second layout, of at most 15,360 steps for each process of the sheet and 5:
- * DSHEET_MIGRATED, DSHEET_ALREADY or DSHEET_REFUSED. Every process has to be stopped, and is so behind it. */
+ * DSHEET_MIGRATED, DSHEET_ALREADY or DSHEET_REFUSED. Every process has to be stopped, and is stopped after it. */
 DSHEET_FUNCTION uint32_t dsheet_world_migrate(struct dsheet_world *world, size_t process,
                                               struct dsheet_answer *answer) {
     if (!world || !answer)
@@ -484,9 +484,9 @@ DSHEET_FUNCTION uint32_t dsheet_world_word(struct dsheet_world *world, const str
     return ds_c_world_word(world, place, word);
 }
 
-/* The text of a cell, as processes see it: that of its last edit that counts, at most 120 bytes, with no zero behind
- * them. length: how many bytes it has, also where the buffer is too small. DSHEET_NO_CELL, DSHEET_TOO_SMALL,
- * DSHEET_NO_MEMORY too. */
+/* The text of a cell, as processes see it: that of its last linearized edit, at most 240 bytes (120 in the first
+ * layout), with no zero after them. length: how many bytes it has, also where the buffer is too small. DSHEET_NO_CELL,
+ * DSHEET_TOO_SMALL, DSHEET_NO_MEMORY too. */
 DSHEET_FUNCTION uint32_t dsheet_world_text(struct dsheet_world *world, size_t column, size_t row, char *buffer,
                                            size_t room, size_t *length) {
     uint8_t none = 0;
@@ -496,7 +496,7 @@ DSHEET_FUNCTION uint32_t dsheet_world_text(struct dsheet_world *world, size_t co
 }
 
 /* The values of the process's last report that was answered DSHEET_SETTLED, row by row from the left, and how many
- * there are: one for each cell, or 0 where it has had none. count is told also where the buffer is too small.
+ * there are: one for each cell, or 0 where it has had none. count is given also where the buffer is too small.
  * DSHEET_NO_PROCESS, DSHEET_TOO_SMALL too. */
 DSHEET_FUNCTION uint32_t dsheet_world_values(struct dsheet_world *world, size_t process, struct dsheet_value *buffer,
                                              size_t room, size_t *count) {
@@ -509,8 +509,8 @@ DSHEET_FUNCTION uint32_t dsheet_world_values(struct dsheet_world *world, size_t 
 /* ---- A sheet that threads share ----
  * Of its owner. Each: DSHEET_NULL. */
 
-/* Makes a sheet in a handle that holds nothing: empty, of so many columns (1 to 26) and rows (1 to 64), at most 1,024
- * cells, with so many processes (1 to 8). DSHEET_FULL, DSHEET_BAD_SHAPE, DSHEET_NO_MEMORY. */
+/* Makes a sheet in a handle that holds nothing: empty, of these columns (1 to 26) and rows (1 to 64), at most 1,024
+ * cells, with these processes (1 to 8). DSHEET_FULL, DSHEET_BAD_SHAPE, DSHEET_NO_MEMORY. */
 DSHEET_FUNCTION uint32_t dsheet_sheet_make(struct dsheet_sheet *sheet, size_t columns, size_t rows, size_t processes) {
     if (!sheet)
         return DSHEET_NULL;
@@ -544,7 +544,7 @@ DSHEET_FUNCTION uint32_t dsheet_sheet_free(struct dsheet_sheet *sheet) {
 }
 
 /* ---- A seat ----
- * Each call but the last two may make so many steps on words, and is stopped before the next one: it is answered
+ * Each call but the last two may make this number of steps on words, and is stopped before the next one: it is answered
  * DSHEET_STOPPED then, and its process has to recover. Each: DSHEET_EMPTY, DSHEET_WRONG_HANDLE, DSHEET_NULL. */
 
 /* A whole edit, as dsheet_world_edit: DSHEET_DONE, DSHEET_OVERTAKEN, DSHEET_REFUSED or DSHEET_STOPPED. DSHEET_NO_CELL
@@ -580,7 +580,7 @@ DSHEET_FUNCTION uint32_t dsheet_seat_report(struct dsheet_seat *seat, uint64_t s
 }
 
 /* The values of the seat's last report that was answered DSHEET_SETTLED, row by row from the left, and how many there
- * are: one for each cell, or 0 where it has had none. count is told also where the buffer is too small.
+ * are: one for each cell, or 0 where it has had none. count is given also where the buffer is too small.
  * DSHEET_TOO_SMALL too. */
 DSHEET_FUNCTION uint32_t dsheet_seat_values(struct dsheet_seat *seat, struct dsheet_value *buffer, size_t room,
                                             size_t *count) {
@@ -623,7 +623,7 @@ DSHEET_FUNCTION uint32_t dsheet_closed_mark(struct dsheet_closed *closed, size_t
     return ds_c_closed_mark(closed, column, row, mark);
 }
 
-/* The text of a cell: that of the last of its edits that count, as dsheet_world_text. DSHEET_NO_CELL, DSHEET_TOO_SMALL,
+/* The text of a cell: that of the last of its linearized edits, as dsheet_world_text. DSHEET_NO_CELL, DSHEET_TOO_SMALL,
  * DSHEET_NO_MEMORY too. */
 DSHEET_FUNCTION uint32_t dsheet_closed_text(struct dsheet_closed *closed, size_t column, size_t row, char *buffer,
                                             size_t room, size_t *length) {

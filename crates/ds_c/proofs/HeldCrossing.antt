@@ -1,7 +1,7 @@
 -- That what a holder holds may cross threads: variant by variant, since no search finds it.
 use denote.Param.Send.{IsSend}
 use denote.Param.SendFields.{variants_send}
-use Rattle.ds_seats.proofs.Crossing.{sheet_send, seat_send, closed_send}
+use Rattle.ds_shared_seats.proofs.Crossing.{sheet_send, seat_send, closed_send}
 use Rattle.ds_c.specs.contracts.held.Held as Held
 
 -- what a holder holds may go to another thread

@@ -5,15 +5,15 @@ use Rattle.std.proofs.lemmas.Bool.{false≢true}
 use Rattle.std.specs.Prelude.{List, Result, Ok, Err}
 use Rattle.std.specs.Arc.{arc_value}
 use Rattle.ds_formula.specs.declared.cells.Cell.{Cell}
-use Rattle.ds_seats.specs.Resting as resting
-use Rattle.ds_seats.specs.Sheets as seats
-use Rattle.ds_seats.specs.declared.fault.Fault.{Fault}
-use Rattle.ds_seats.specs.declared.fault.Fault.TheVariants as fault
-use Rattle.ds_seats.specs.declared.resting.RestingSheet.{RestingSheet}
-use Rattle.ds_seats.specs.declared.seat.Seat.{Seat}
-use Rattle.ds_seats.specs.declared.sheet.OpenSheet.{OpenSheet}
+use Rattle.ds_shared_seats.specs.Resting as resting
+use Rattle.ds_shared_seats.specs.Sheets as seats
+use Rattle.ds_shared_seats.specs.declared.fault.Fault.{Fault}
+use Rattle.ds_shared_seats.specs.declared.fault.Fault.TheVariants as fault
+use Rattle.ds_shared_seats.specs.declared.resting.RestingSheet.{RestingSheet}
+use Rattle.ds_shared_seats.specs.declared.seat.Seat.{Seat}
+use Rattle.ds_shared_seats.specs.declared.sheet.OpenSheet.{OpenSheet}
 use Rattle.ds_layout.specs.Places.{words_of}
-use Rattle.ds_seats.specs.contracts.fault.Fault.{the_type}
+use Rattle.ds_shared_seats.specs.contracts.fault.Fault.{the_type}
 use Rattle.ds_c.specs.Closed.{CrashesClosed, LacksClosedCell, LacksClosedText, TellsCrash, short, memory}
 use Rattle.ds_c.specs.Failures.{failure_number, failure_of}
 use Rattle.ds_c.specs.Shared.{IsClosed, IsSeat, IsSheet, LacksCellAt, OnClosed, closed}

@@ -1,7 +1,6 @@
 mod AsBox
 mod CallRuns
 mod Carried
-mod Crossing
 mod HeldBox
 mod HeldCarried
 mod HeldCrossing

@@ -10,7 +10,7 @@ use Rattle.ds_state.specs.declared.answer.EditEnd.TheVariants as edit_ends
 use Rattle.ds_state.specs.declared.work.WorkEnd.TheVariants as work_ends
 use Rattle.ds_state.specs.declared.recovery.RecoveryEnd.TheVariants as recovery_ends
 use Rattle.ds_state.specs.declared.migration.MigrateEnd.TheVariants as migrate_ends
-use Rattle.ds_state.specs.declared.report.ReportEnd.TheVariants as report_ends
+use Rattle.ds_state.specs.declared.show.ShowEnd.TheVariants as show_ends
 use Rattle.ds_formula.specs.declared.fault.FaultKind.{FaultKind}
 use Rattle.ds_formula.specs.declared.fault.FaultKind.TheVariants as fault
 use Rattle.ds_layout.specs.declared.place.Place.{Place}
@@ -74,8 +74,8 @@ answer_row (answer.Recovery (recovery_ends.Last told)) = record (plain_row kind.
 answer_row (answer.Recovery recovery_ends.Nothing) = plain_row kind.Nothing
 answer_row (answer.Migration migrate_ends.Migrated) = plain_row kind.Migrated
 answer_row (answer.Migration migrate_ends.Already) = plain_row kind.Already
-answer_row (answer.Report report_ends.Settled) = plain_row kind.Settled
-answer_row (answer.Report (report_ends.Unsettled at seen)) = unsettled_row at seen
+answer_row (answer.Show show_ends.Settled) = plain_row kind.Settled
+answer_row (answer.Show (show_ends.Unsettled at seen)) = unsettled_row at seen
 
 -- the row of a reply to an event
 abbrev pub reply_row : Reply → AnswerRow

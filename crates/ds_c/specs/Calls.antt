@@ -1,4 +1,4 @@
--- What a call does to the world that a handle holds, and how its caller is told.
+-- What a call does to the world that a handle holds, and what its caller gets.
 use Rattle.std.specs.Prelude.{ℕ, ◌≡◌, ◌<◌, ◌≤◌, ◌++◌, List, length, drop, Result, Ok, Err}
 use Rattle.ds_state.specs.Value.{WorldValue}
 use Rattle.ds_c.specs.declared.handle.Handle.{Handle}
@@ -23,7 +23,7 @@ pub record OnWorld {R : Type 0} (Call : WorldValue → Result R Failure → Worl
   pub does : Call world told next
   pub tells : Tells told number
 
--- the call was made on the world of the handle; or the handle is empty and stays, which is the failure that is told
+-- the call was made on the world of the handle; or the handle is empty and stays, which is the failure that its number names
 pub data OnHandle {R : Type 0} (Call : WorldValue → Result R Failure → WorldValue → Type 0) (Tells : Result R Failure → ℕ → Type 0) (old new : Handle) (number : ℕ) : Type 0 where
   called : OnWorld Call Tells old new number → OnHandle Call Tells old new number
   empty : IsEmpty old → new ≡ old → Tells (Err Empty) number → OnHandle Call Tells old new number
@@ -38,7 +38,7 @@ abbrev pub Tells : {R : Type 0} → R → R → Result R Failure → ℕ → Typ
 Tells before after (Ok row) number = (after ≡ row) × (number ≡ 0)
 Tells before after (Err why) number = (after ≡ before) × (number ≡ failure_number why)
 
--- the items stand in the caller's buffer from its start, and what is behind them stays; or it is too small for them,
+-- the items stand in the caller's buffer from its start, and what comes after them stays; or it is too small for them,
 -- and stays
 pub data Fills {T : Type 0} (items before after : List T) (number : ℕ) : Type 0 where
   fits : length items ≤ length before → after ≡ items ++ drop (length items) before → number ≡ 0 → Fills items before after number

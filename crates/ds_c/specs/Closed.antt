@@ -10,8 +10,8 @@ use Rattle.ds_words.specs.Memory.{Memory}
 use Rattle.ds_state.specs.Shown.{mark_at, value_at}
 use Rattle.ds_drives.specs.Table.{two_sided}
 use Rattle.ds_shared.specs.declared.sheet.ClosedSheet.{ClosedSheet}
-use Rattle.ds_seats.specs.Resting.{Crashes, IsTextIn}
-use Rattle.ds_seats.specs.declared.resting.RestingSheet.{RestingSheet}
+use Rattle.ds_shared_seats.specs.Resting.{Crashes, IsTextIn}
+use Rattle.ds_shared_seats.specs.declared.resting.RestingSheet.{RestingSheet}
 use Rattle.ds_c.specs.declared.failure.Failure.{Failure}
 use Rattle.ds_c.specs.declared.failure.Failure.TheVariants.{Empty, NoCell, NoMemory, TooSmall, WrongHolder}
 use Rattle.ds_c.specs.declared.rows.MarkRow.{MarkRow}
@@ -40,14 +40,14 @@ ClosedMark cell old row new = IsInside old.sheet.layout.shape cell × (row ≡ m
 abbrev pub ClosedText : Cell → RestingSheet → List ℕ → RestingSheet → Type 0
 ClosedText cell old bytes new = IsInside old.sheet.layout.shape cell × IsTextIn old.sheet cell bytes × (new ≡ old)
 
--- a crash comes, before which the chosen words were evicted, and the number of words is told; or the choice is too short,
+-- a crash comes, before which the chosen words were evicted, and the number of words is given; or the choice is too short,
 -- which that number tells; or an allocation failed
 pub data CrashesClosed (choice : List ℕ) (before after : ℕ) (old : RestingSheet) (told : Result (Unit {0}) Failure) (new : RestingSheet) : Type 0 where
   crashed : told ≡ Ok tt → Crashes choice old.sheet new.sheet → after ≡ words_of old.sheet.layout → CrashesClosed choice before after old told new
   short : told ≡ Err TooSmall → length choice < words_of old.sheet.layout → new ≡ old → after ≡ words_of old.sheet.layout → CrashesClosed choice before after old told new
   memory : told ≡ Err NoMemory → words_of old.sheet.layout ≤ length choice → new ≡ old → after ≡ before → CrashesClosed choice before after old told new
 
--- how a crash is told: by a number; where no closed sheet is held the number of words stays as it was
+-- what the caller gets of a crash: a number; where no closed sheet is held the number of words stays as it was
 abbrev pub TellsCrash : ℕ → ℕ → Result (Unit {0}) Failure → ℕ → Type 0
 TellsCrash before after (Ok told) number = number ≡ 0
 TellsCrash before after (Err Empty) number = (after ≡ before) × (number ≡ failure_number Empty)

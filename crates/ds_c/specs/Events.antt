@@ -1,5 +1,5 @@
--- Events and whole calls, as a caller is told of them.
-use Rattle.std.specs.Prelude.{ℕ, ◌≡◌, Result}
+-- Events and whole calls, as a caller sees them.
+use Rattle.std.specs.Prelude.{ℕ, ◌≡◌, [], ◌∷◌, Result}
 use Rattle.ds_formula.specs.declared.cells.Cell.{Cell}
 use Rattle.ds_formula.specs.Cells.{IsInside}
 use Rattle.ds_eval.specs.Tasks.{PlainTask, PlainEvaluated, local_of}
@@ -17,6 +17,7 @@ use Rattle.ds_core.specs.declared.reply.Reply.TheVariants.{Crashed, Evicted}
 use Rattle.ds_core.specs.Takes.{Fits}
 use Rattle.ds_calls.specs.Whole.{HasProcess, IsWhole, IsWholeMigration}
 use Rattle.ds_calls.specs.Settling.{Settling}
+use Rattle.ds_calls.specs.Traces.{Trace}
 use Rattle.ds_calls.specs.declared.settle.SettleEnd.{SettleEnd}
 use Rattle.ds_calls.specs.declared.settle.SettleStage.TheVariants.{Ends}
 use Rattle.ds_layout.specs.declared.place.Place.{Place}
@@ -63,6 +64,10 @@ pub record Settles (p : ℕ) (old : WorldValue) (row : AnswerRow) (new : WorldVa
 -- a task with its entry
 abbrev pub evaluated : PlainTask → PlainEvaluated
 evaluated task = record { task = task; entry = local_of task }
+
+-- one event, with its reply
+abbrev pub one_event : Event → Reply → Trace
+one_event event reply = record { events = event ∷ []; replies = reply ∷ [] }
 
 -- a task of the process is evaluated and offered to it
 pub record Offers (p : ℕ) (old : WorldValue) (row : AnswerRow) (new : WorldValue) : Type 0 where

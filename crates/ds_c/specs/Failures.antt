@@ -1,7 +1,7 @@
 -- The numbers of failures, as C has them.
 use Rattle.std.specs.Prelude.{ℕ}
-use Rattle.ds_seats.specs.declared.fault.Fault.{Fault}
-use Rattle.ds_seats.specs.declared.fault.Fault.TheVariants as fault
+use Rattle.ds_shared_seats.specs.declared.fault.Fault.{Fault}
+use Rattle.ds_shared_seats.specs.declared.fault.Fault.TheVariants as fault
 use Rattle.ds_c.specs.declared.failure.Failure.{Failure}
 use Rattle.ds_c.specs.declared.failure.Failure.TheVariants.{Empty, Full, BadShape, NoProcess, NoCell, NoWord, NoTask, TooSmall, NoMemory, WrongHolder, SeatTaken}
 

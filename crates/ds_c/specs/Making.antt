@@ -14,7 +14,7 @@ use Rattle.ds_c.specs.declared.failure.Failure.TheVariants.{Empty, Full, BadShap
 use Rattle.ds_c.specs.Failures.{failure_number}
 use Rattle.ds_c.specs.Handles.{Holds, IsEmpty, IsFull}
 
--- a new and good sheet with so many columns, rows and processes, in this layout, of which no call was answered
+-- a new and good sheet with these numbers of columns, rows and processes, in this layout, of which no call was answered
 pub record IsMade (columns rows processes : ℕ) (edition : Edition) (v : WorldValue) : Type 0 where
   pub new : IsNew (world_of v)
   pub good : IsGood v
@@ -26,7 +26,7 @@ pub record IsMade (columns rows processes : ℕ) (edition : Edition) (v : WorldV
   pub settled : v.settled ≡ 0
   pub reports : v.reports ≡ no_reports v.sheet.layout.processes (count_of v.sheet.layout.shape)
 
--- there may be a sheet with so many columns, rows and processes
+-- there may be a sheet with these numbers of columns, rows and processes
 pub record MayBe (columns rows processes : ℕ) : Type 0 where
   pub shape : MayHave columns rows
   pub some : 1 ≤ processes

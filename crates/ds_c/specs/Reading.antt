@@ -15,7 +15,7 @@ use Rattle.ds_c.specs.declared.failure.Failure.{Failure}
 use Rattle.ds_c.specs.declared.failure.Failure.TheVariants.{NoCell, NoMemory}
 use Rattle.ds_c.specs.Rows.{value_row, mark_row, size_row, place_named}
 
--- what is told is so of the world, which stays
+-- what is answered is so of the world, which stays
 abbrev pub Reads : {R : Type 0} → (WorldValue → R → Type 0) → WorldValue → R → WorldValue → Type 0
 Reads P old told new = P old told × (new ≡ old)
 

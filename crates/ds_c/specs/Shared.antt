@@ -11,16 +11,16 @@ use Rattle.ds_state.specs.Shown.{mark_at, value_at}
 use Rattle.ds_drives.specs.Table.{two_sided}
 use Rattle.ds_shared.specs.declared.ended.Ended.{Ended}
 use Rattle.ds_state.specs.declared.answer.Answer.{Answer}
-use Rattle.ds_state.specs.declared.answer.Answer.TheVariants.{Edit, Work, Report, Recovery}
-use Rattle.ds_state.specs.declared.report.ReportEnd.{ReportEnd}
+use Rattle.ds_state.specs.declared.answer.Answer.TheVariants.{Edit, Work, Show, Recovery}
+use Rattle.ds_state.specs.declared.show.ShowEnd.{ShowEnd}
 use Rattle.ds_shared.specs.declared.pass.Pass.{Pass}
 use Rattle.ds_shared.specs.declared.sheet.ClosedSheet.{ClosedSheet}
 use Rattle.ds_shared.specs.declared.sheet.SharedSheet.{SharedSheet}
-use Rattle.ds_seats.specs.Calls.{Edits, Works, Recovers, Reports, last_of}
-use Rattle.ds_seats.specs.Resting as resting
-use Rattle.ds_seats.specs.Sheets.{IsSeatOf}
-use Rattle.ds_seats.specs.declared.resting.RestingSheet.{RestingSheet}
-use Rattle.ds_seats.specs.declared.seat.Seat.{Seat}
+use Rattle.ds_shared_seats.specs.Calls.{Edits, Works, Recovers, Reports, last_of}
+use Rattle.ds_shared_seats.specs.Resting as resting
+use Rattle.ds_shared_seats.specs.Sheets.{IsSeatOf}
+use Rattle.ds_shared_seats.specs.declared.resting.RestingSheet.{RestingSheet}
+use Rattle.ds_shared_seats.specs.declared.seat.Seat.{Seat}
 use Rattle.ds_c.specs.declared.answer.AnswerRow.{AnswerRow}
 use Rattle.ds_c.specs.declared.failure.Failure.{Failure}
 use Rattle.ds_c.specs.declared.failure.Failure.TheVariants.{Empty, Full, NoCell, NoMemory, TooSmall, WrongHolder}
@@ -47,7 +47,7 @@ pub record OnThing {R : Type 0} (Call : Held → Result R Failure → Held → T
   pub does : Call thing told next
   pub tells : Tells told number
 
--- the call was made on what the holder held; or it holds nothing and stays, which is the failure that is told
+-- the call was made on what the holder held; or it holds nothing and stays, which is the failure that its number names
 pub data OnHolder {R : Type 0} (Call : Held → Result R Failure → Held → Type 0) (Tells : Result R Failure → ℕ → Type 0) (old new : Holder) (number : ℕ) : Type 0 where
   called : OnThing Call Tells old new number → OnHolder Call Tells old new number
   empty : HasNone old → new ≡ old → Tells (Err Empty) number → OnHolder Call Tells old new number
@@ -101,7 +101,7 @@ pub record SeatDoes {E : Type 0} (answer : E → Answer) (Did : SharedSheet → 
   pub seat : IsSeatOf (arc_value old.sheet) new
   pub last : new.last ≡ old.last
 
--- the seat edits the cell to the text, under a fuse of so many steps
+-- the seat edits the cell to the text, under a fuse of this number of steps
 abbrev pub SeatEdits : Cell → List ℕ → ℕ → Seat → AnswerRow → Seat → Type 0
 SeatEdits cell text fuse = SeatDoes Edit (λ s p q how. IsInside s.board.layout.shape cell × Edits s cell text fuse p q how)
 
@@ -115,10 +115,10 @@ SeatRecovers fuse = SeatDoes Recovery (λ s p q how. Recovers s fuse p q how)
 
 -- the seat reports, and the row says how it ended; a settled report's values are its last ones
 pub record SeatReports (fuse : ℕ) (old : Seat) (row : AnswerRow) (new : Seat) : Type 0 where
-  pub how : Ended ReportEnd
+  pub how : Ended ShowEnd
   pub values : Option (Vec Value Global)
   pub did : Reports (arc_value old.sheet) fuse old.pass new.pass how values
-  pub row_is : row ≡ ended_row Report how
+  pub row_is : row ≡ ended_row Show how
   pub seat : IsSeatOf (arc_value old.sheet) new
   pub last : new.last ≡ last_of old.last values
 

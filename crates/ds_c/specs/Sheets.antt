@@ -1,14 +1,17 @@
 -- Sheets that threads share are made, their seats are taken, and they are closed and opened again.
 use Rattle.std.specs.Prelude.{ℕ, ◌≡◌, [], true, false}
 use Rattle.std.specs.Arc.{arc_value}
+use Rattle.std.specs.Mem.Slots.{slots_items}
+use Rattle.ds_drives.specs.Table.{new_words}
 use Rattle.ds_drives.specs.Views.{past_of}
+use Rattle.ds_shared.specs.Answers.{opened_with}
 use Rattle.ds_shared.specs.Known.{past_in}
-use Rattle.ds_seats.specs.Sheets as seats
-use Rattle.ds_seats.specs.Resting.{Remembers}
-use Rattle.ds_seats.specs.declared.fault.Fault.{Fault}
-use Rattle.ds_seats.specs.declared.resting.RestingSheet.{RestingSheet}
-use Rattle.ds_seats.specs.declared.seat.Seat.{Seat}
-use Rattle.ds_seats.specs.declared.sheet.OpenSheet.{OpenSheet}
+use Rattle.ds_shared_seats.specs.Sheets as seats
+use Rattle.ds_shared_seats.specs.Resting.{Remembers}
+use Rattle.ds_shared_seats.specs.declared.fault.Fault.{Fault}
+use Rattle.ds_shared_seats.specs.declared.resting.RestingSheet.{RestingSheet}
+use Rattle.ds_shared_seats.specs.declared.seat.Seat.{Seat}
+use Rattle.ds_shared_seats.specs.declared.sheet.OpenSheet.{OpenSheet}
 use Rattle.ds_c.specs.declared.failure.Failure.{Failure}
 use Rattle.ds_c.specs.declared.failure.Failure.TheVariants.{Empty, Full, NoMemory, WrongHolder}
 use Rattle.ds_c.specs.declared.held.Held.{Held}
@@ -19,13 +22,15 @@ use Rattle.ds_c.specs.Holders.{HasHeld, HasNone, HasSome}
 use Rattle.ds_c.specs.Making.{CanNotMake}
 use Rattle.ds_c.specs.Shared.{IsSheet, IsClosed}
 
--- a new sheet with so many columns, rows and processes, with no past, and with every process between calls
+-- a new sheet with this number of columns, of rows and of processes: with the words of a new one, with no past, and with
+-- every process between calls
 pub record IsNewSheet (columns rows processes : ℕ) (h : Held) : Type 0 where
   pub sheet : OpenSheet
   pub is : h ≡ held.Sheet sheet
   pub columns_are : (arc_value sheet.sheet).board.layout.shape.columns ≡ columns
   pub rows_are : (arc_value sheet.sheet).board.layout.shape.rows ≡ rows
   pub processes_are : (arc_value sheet.sheet).board.layout.processes ≡ processes
+  pub words : opened_with (arc_value sheet.sheet) ≡ new_words (arc_value sheet.sheet).board.layout
   pub fresh : seats.AllFresh false sheet
   pub past : past_in sheet.past.place ≡ []
 
@@ -72,13 +77,14 @@ pub data ClosesNot (old : Held) (why : Failure) (new : Held) : Type 0 where
   other : (IsSheet old → ⊥) → new ≡ old → why ≡ WrongHolder → ClosesNot old why new
   fault : (s s' : OpenSheet) (f : Fault) → old ≡ held.Sheet s → new ≡ held.Sheet s' → seats.CanNotClose f → seats.IsStill s s' → why ≡ failure_of f → ClosesNot old why new
 
--- the closed sheet is opened again: with its layout and what it remembered, and with every process stopped
+-- the closed sheet is opened again: with its layout, its words and what it remembered, and with every process stopped
 pub record Opens (old new : Held) : Type 0 where
   pub closed : RestingSheet
   pub sheet : OpenSheet
   pub was : old ≡ held.Closed closed
   pub is : new ≡ held.Sheet sheet
   pub layout : (arc_value sheet.sheet).board.layout ≡ closed.sheet.layout
+  pub words : opened_with (arc_value sheet.sheet) ≡ slots_items closed.sheet.table.words
   pub past : past_in sheet.past.place ≡ past_of closed.sheet.before
   pub fresh : seats.AllFresh true sheet
 

@@ -1,7 +1,7 @@
-//! What C is told of a call: replies and values as rows of numbers.
+//! What C gets of a call: replies and values as rows of numbers.
 
 ghost use Rattle.std.specs.Prelude.{◌≡◌};
-ghost use Rattle.ds_state.specs.declared.answer.Answer.TheVariants.{Edit, Work, Report, Recovery, Migration};
+ghost use Rattle.ds_state.specs.declared.answer.Answer.TheVariants.{Edit, Work, Show, Recovery, Migration};
 ghost use Rattle.ds_c.specs.Answers.{answer_row, unsettled_row, reply_row, refusal_row, result_row, settle_row, ended_row, plain_row, fault_number};
 
 use crate::answer_kind::AnswerKind;
@@ -15,7 +15,7 @@ use ds_state::answer::{Answer, EditEnd};
 use ds_state::migration::MigrateEnd;
 use ds_state::recovery::RecoveryEnd;
 use ds_state::refusal::Refusal;
-use ds_state::report::ReportEnd;
+use ds_state::show::ShowEnd;
 use ds_state::work::WorkEnd;
 
 /// What was replied to an event, or answered by a call. `kind` says which; fields that it does not use are 0.
@@ -169,12 +169,12 @@ impl AnswerRow {
     }
 
     // The row of how a report ended.
-    fn of_report(end: ReportEnd) -> AnswerRow
-        ensures { result ≡ answer_row (Report end) }
+    fn of_show(end: ShowEnd) -> AnswerRow
+        ensures { result ≡ answer_row (Show end) }
     {
         match end {
-            ReportEnd::Settled => AnswerRow::plain(AnswerKind::Settled),
-            ReportEnd::Unsettled(place, seen) => AnswerRow::of_unsettled(place, seen),
+            ShowEnd::Settled => AnswerRow::plain(AnswerKind::Settled),
+            ShowEnd::Unsettled(place, seen) => AnswerRow::of_unsettled(place, seen),
         }
     }
 
@@ -210,7 +210,7 @@ impl AnswerRow {
         match answer {
             Answer::Edit(end) => AnswerRow::of_edit(end),
             Answer::Work(end) => AnswerRow::of_work(end),
-            Answer::Report(end) => AnswerRow::of_report(end),
+            Answer::Show(end) => AnswerRow::of_show(end),
             Answer::Recovery(end) => AnswerRow::of_recovery(end),
             Answer::Migration(end) => AnswerRow::of_migration(end),
         }

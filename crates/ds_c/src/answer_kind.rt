@@ -22,7 +22,7 @@ pub enum AnswerKind {
     Stopped,
     /// All that was not persisted is lost, and each process is stopped.
     Crashed,
-    /// The event can not happen now.
+    /// The event cannot happen now.
     NotEnabled,
     /// The edit of this number counts.
     Done,
@@ -52,7 +52,7 @@ pub enum AnswerKind {
     UnsettledAnnouncement,
     /// A report: another word was not at rest. No report answers it.
     UnsettledWord,
-    /// A settle: so many cells are marked or held.
+    /// A settle: the number of cells that are marked or held.
     Left,
     /// A migration: the sheet has come to the second layout.
     Migrated,

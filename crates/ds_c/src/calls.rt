@@ -2,8 +2,8 @@
 
 ghost use Rattle.std.specs.Prelude.{◌≡◌, IfOk, IfErr, Some};
 ghost use Rattle.ds_formula.specs.Cells.{IsInside};
-ghost use Rattle.ds_core.specs.declared.event.Event.TheVariants.{BeginEdit, BeginWork, BeginReport, BeginRecover, BeginMigrate, Step, Offer, Stop};
-ghost use Rattle.ds_state.specs.declared.answer.Answer.TheVariants.{Edit, Work, Report, Recovery};
+ghost use Rattle.ds_core.specs.declared.event.Event.TheVariants.{BeginEdit, BeginWork, BeginShow, BeginRecover, BeginMigrate, Step, Offer, Stop};
+ghost use Rattle.ds_state.specs.declared.answer.Answer.TheVariants.{Edit, Work, Show, Recovery};
 ghost use Rattle.ds_calls.specs.Whole.{HasProcess, request};
 ghost use Rattle.ds_c.specs.Calls.{Does};
 ghost use Rattle.ds_layout.specs.Places.{IsPlace};
@@ -95,11 +95,11 @@ pub fn begin_work(
 }
 
 /// A process begins a report, or is refused.
-pub fn begin_report(alloc: Global, world: &mut World, process: usize) -> Result<AnswerRow, Failure>
-    ensures { Does (Replies (BeginReport process)) (LacksProcess process) world.old result world.new }
+pub fn begin_show(alloc: Global, world: &mut World, process: usize) -> Result<AnswerRow, Failure>
+    ensures { Does (Replies (BeginShow process)) (LacksProcess process) world.old result world.new }
 {
     find_process(world, process)?;
-    Ok(AnswerRow::of_reply(take(alloc, world, &Event::BeginReport(process))))
+    Ok(AnswerRow::of_reply(take(alloc, world, &Event::BeginShow(process))))
 }
 
 /// A process begins to recover, or is refused.
@@ -207,10 +207,10 @@ pub fn work(
 
 /// A whole report. Where it is settled, the world keeps its values as the process's last ones.
 pub fn report(alloc: Global, world: &mut World, process: usize) -> Result<AnswerRow, Failure>
-    ensures { Does (Ended Report process (BeginReport process)) (LacksProcess process) world.old result world.new }
+    ensures { Does (Ended Show process (BeginShow process)) (LacksProcess process) world.old result world.new }
 {
     find_process(world, process)?;
-    Ok(AnswerRow::of_result(call::whole_report(alloc, world, process)))
+    Ok(AnswerRow::of_result(call::whole_show(alloc, world, process)))
 }
 
 /// A whole recovery.

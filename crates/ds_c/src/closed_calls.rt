@@ -11,7 +11,7 @@ use crate::held::Held;
 use crate::rows::{MarkRow, SizeRow, ValueRow};
 use crate::tell::fill;
 use ds_formula::cells::Cell;
-use ds_seats::fault::Fault;
+use ds_shared_seats::fault::Fault;
 use std::alloc::Global;
 
 /// The value of a cell.

@@ -1,7 +1,7 @@
 //! Exports: events.
 
 ghost use Rattle.std.specs.Prelude.{◌≡◌};
-ghost use Rattle.ds_core.specs.declared.event.Event.TheVariants.{BeginEdit, BeginWork, BeginReport, BeginRecover, BeginMigrate, Step, Stop};
+ghost use Rattle.ds_core.specs.declared.event.Event.TheVariants.{BeginEdit, BeginWork, BeginShow, BeginRecover, BeginMigrate, Step, Stop};
 ghost use Rattle.ds_calls.specs.Whole.{request};
 ghost use Rattle.ds_c.specs.Calls.{OnHandle, Does, Tells, Numbers};
 ghost use Rattle.ds_c.specs.Events.{cell_of, Replies, Offers, Evicts, Crashes, LacksProcess, LacksRequest, LacksTask, LacksWord};
@@ -67,12 +67,12 @@ pub extern "C" fn ds_c_world_begin_report(
     process: usize,
     answer: &mut AnswerRow,
 ) -> u32
-    ensures { OnHandle (Does (Replies (BeginReport process)) (LacksProcess process)) (Tells answer.old answer.new) handle.old handle.new result }
+    ensures { OnHandle (Does (Replies (BeginShow process)) (LacksProcess process)) (Tells answer.old answer.new) handle.old handle.new result }
 {
     let Some(mut world) = handle.take(alloc) else {
         return Failure::Empty.number();
     };
-    let told = calls::begin_report(alloc, &mut world, process);
+    let told = calls::begin_show(alloc, &mut world, process);
     *handle = Handle::of(world);
     tell(told, answer)
 }

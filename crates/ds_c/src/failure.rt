@@ -3,7 +3,7 @@
 ghost use Rattle.std.specs.Prelude.{◌≡◌};
 ghost use Rattle.ds_c.specs.Failures.{failure_number, failure_of};
 
-use ds_seats::fault::Fault;
+use ds_shared_seats::fault::Fault;
 
 /// Why a call of the library was not carried out. The world, and the handle, are as they were. C has it as a number;
 /// `include/dsheet.h` has one more, for pointers that are null, which do not get here.
@@ -23,7 +23,7 @@ pub enum Failure {
     NoWord,
     /// The process is in no work that waits for an entry.
     NoTask,
-    /// The buffer is too small. How many items it has to have room for is told.
+    /// The buffer is too small. The number of items that it has to have room for is given.
     TooSmall,
     /// An allocation failed.
     NoMemory,

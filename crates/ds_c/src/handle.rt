@@ -15,7 +15,7 @@ use std::ptr;
 /// world was freed, does not have it.
 pub const HELD: u64 = 0x6473_6865_6574_0001;
 
-/// A world in a box, or nothing, behind a pointer that names no type: no type that owns memory may cross to C.
+/// A world in a box, or nothing, under a pointer that names no type: no type that owns memory may cross to C.
 #[repr(C)]
 #[derive(Drop)]
 pub struct State {

@@ -1,8 +1,8 @@
 //! What a holder holds.
 
-use ds_seats::resting::RestingSheet;
-use ds_seats::seat::Seat;
-use ds_seats::sheet::OpenSheet;
+use ds_shared_seats::resting::RestingSheet;
+use ds_shared_seats::seat::Seat;
+use ds_shared_seats::sheet::OpenSheet;
 
 /// What a holder holds of a sheet that threads share.
 #[derive(Drop)]

@@ -14,7 +14,7 @@ use std::ptr;
 /// The first word of a holder that holds something: "dsheet" and a version. It is not that of a `Handle`.
 pub const FULL: u64 = 0x6473_6865_6574_0002;
 
-/// What is held, in a box, or nothing, behind a pointer that names no type: no type that owns memory may cross to C.
+/// What is held, in a box, or nothing, under a pointer that names no type: no type that owns memory may cross to C.
 #[repr(C)]
 #[derive(Drop)]
 pub struct HeldState {

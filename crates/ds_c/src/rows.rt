@@ -1,4 +1,4 @@
-//! What C is told of cells, words and sheets.
+//! What C gets of cells, words and sheets.
 
 ghost use Rattle.std.specs.Prelude.{◌≡◌};
 ghost use Rattle.ds_c.specs.Rows.{value_row, mark_row, size_row, word_row, place_named};

@@ -63,7 +63,7 @@ pub fn report(alloc: Global, held: &mut Held, steps: u64) -> Result<AnswerRow, F
     let Held::Seat(seat) = held else {
         return Err(Failure::WrongHolder);
     };
-    Ok(AnswerRow::of_ended(seat.report(alloc, steps)))
+    Ok(AnswerRow::of_ended(seat.show(alloc, steps)))
 }
 
 /// The values of the seat's last report that was settled, into a buffer of the caller's, and how many there are.

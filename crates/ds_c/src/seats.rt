@@ -14,7 +14,7 @@ use crate::tell::tell;
 use ds_formula::cells::Cell;
 use std::alloc::Global;
 
-/// A whole edit of a cell to a text, under a fuse of so many steps. The text is copied.
+/// A whole edit of a cell to a text, under a fuse of this number of steps. The text is copied.
 #[unsafe(no_mangle)]
 pub extern "C" fn ds_c_seat_edit(
     alloc: Global,
@@ -36,7 +36,7 @@ pub extern "C" fn ds_c_seat_edit(
     tell(told, answer)
 }
 
-/// Whole work on a cell, with its evaluation, under a fuse of so many steps.
+/// Whole work on a cell, with its evaluation, under a fuse of this number of steps.
 #[unsafe(no_mangle)]
 pub extern "C" fn ds_c_seat_work(
     alloc: Global,
@@ -57,7 +57,7 @@ pub extern "C" fn ds_c_seat_work(
     tell(told, answer)
 }
 
-/// A whole recovery of the seat's process, stopped or not, under a fuse of so many steps.
+/// A whole recovery of the seat's process, stopped or not, under a fuse of this number of steps.
 #[unsafe(no_mangle)]
 pub extern "C" fn ds_c_seat_recover(
     alloc: Global,
@@ -75,7 +75,7 @@ pub extern "C" fn ds_c_seat_recover(
     tell(told, answer)
 }
 
-/// A whole report, under a fuse of so many steps. Where it is settled, `ds_c_seat_values` has its values.
+/// A whole report, under a fuse of this number of steps. Where it is settled, `ds_c_seat_values` has its values.
 #[unsafe(no_mangle)]
 pub extern "C" fn ds_c_seat_report(
     alloc: Global,

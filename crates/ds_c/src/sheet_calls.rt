@@ -8,7 +8,7 @@ use crate::failure::Failure;
 use crate::held::Held;
 use ds_formula::cells::Shape;
 use ds_layout::layout::Layout;
-use ds_seats::sheet::OpenSheet;
+use ds_shared_seats::sheet::OpenSheet;
 use std::alloc::Global;
 use std::mem::replace;
 

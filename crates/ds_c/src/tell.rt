@@ -1,4 +1,4 @@
-//! How a caller is told of a result.
+//! What a caller gets of a result.
 
 ghost use Rattle.std.specs.Prelude.{◌≡◌, length, map};
 ghost use Rattle.ds_c.specs.Calls.{Numbers, Tells, Fills};

@@ -1,7 +1,7 @@
 //! Exports: whole calls.
 
-ghost use Rattle.ds_core.specs.declared.event.Event.TheVariants.{BeginEdit, BeginWork, BeginReport, BeginRecover};
-ghost use Rattle.ds_state.specs.declared.answer.Answer.TheVariants.{Edit, Work, Report, Recovery};
+ghost use Rattle.ds_core.specs.declared.event.Event.TheVariants.{BeginEdit, BeginWork, BeginShow, BeginRecover};
+ghost use Rattle.ds_state.specs.declared.answer.Answer.TheVariants.{Edit, Work, Show, Recovery};
 ghost use Rattle.ds_calls.specs.Whole.{request};
 ghost use Rattle.ds_c.specs.Calls.{OnHandle, Does, Tells};
 ghost use Rattle.ds_c.specs.Events.{cell_of, Ended, Migrates, Settles, LacksProcess, LacksRequest};
@@ -65,7 +65,7 @@ pub extern "C" fn ds_c_world_report(
     process: usize,
     answer: &mut AnswerRow,
 ) -> u32
-    ensures { OnHandle (Does (Ended Report process (BeginReport process)) (LacksProcess process)) (Tells answer.old answer.new) handle.old handle.new result }
+    ensures { OnHandle (Does (Ended Show process (BeginShow process)) (LacksProcess process)) (Tells answer.old answer.new) handle.old handle.new result }
 {
     let Some(mut world) = handle.take(alloc) else {
         return Failure::Empty.number();

@@ -27,8 +27,8 @@ use Rattle.ds_state.specs.declared.work.WorkStage.{WorkStage}
 use Rattle.ds_state.specs.declared.work.WorkStage.TheVariants as work_stages
 use Rattle.ds_state.specs.declared.recovery.RecoverStage.{RecoverStage}
 use Rattle.ds_state.specs.declared.recovery.RecoverStage.TheVariants as recover_stages
-use Rattle.ds_state.specs.declared.report.ReportStage.{ReportStage}
-use Rattle.ds_state.specs.declared.report.ReportStage.TheVariants as show_stages
+use Rattle.ds_state.specs.declared.show.ShowStage.{ShowStage}
+use Rattle.ds_state.specs.declared.show.ShowStage.TheVariants as show_stages
 use Rattle.ds_state.proofs.Dirty.{or_dirty}
 use Rattle.ds_edit.specs.EditSteps as edit_steps
 use Rattle.ds_work.specs.WorkSteps as work_steps
@@ -36,11 +36,11 @@ use Rattle.ds_work.specs.WorkTakes as work_events
 use Rattle.ds_state.specs.declared.turn.Turn.{Turn}
 use Rattle.ds_state.specs.declared.work.WorkEnd.{WorkEnd}
 use Rattle.ds_recover.specs.RecoverySteps as recovery_steps
-use Rattle.ds_report.specs.ReportSteps as show_steps
+use Rattle.ds_show.specs.ShowSteps as show_steps
 use Rattle.ds_core.specs.StepEvents.{StepsBy, edits, works, reports, recoveries, migrations}
 use Rattle.ds_core.specs.Takes.{Takes, WorldRun}
 use Rattle.ds_core.proofs.Did as did_so
-use Rattle.ds_core.proofs.Did.{Did, did, edit_begins, work_begins, report_begins, recovery_begins, steps, offers, evicts, stops, crashes}
+use Rattle.ds_core.proofs.Did.{Did, did, edit_begins, work_begins, show_begins, recovery_begins, steps, offers, evicts, stops, crashes}
 use Rattle.ds_core.specs.declared.event.Event.{Event}
 use Rattle.ds_core.specs.declared.reply.Reply.{Reply}
 use Rattle.ds_state.specs.Works.{SEEN_MOST}
@@ -136,7 +136,7 @@ migration_gentle e (migrate_stages.StoreNew n) = λ c is. cc
 migration_gentle e migrate_stages.Swap = inl (λ c is. cc)
 migration_gentle e _ = tt
 
-show_gentle : (s : ReportStage) → IsGentle (show_steps.access_at s)
+show_gentle : (s : ShowStage) → IsGentle (show_steps.access_at s)
 show_gentle (show_stages.LoadAnnounce i) = tt
 show_gentle (show_stages.LoadMark i) = tt
 show_gentle (show_stages.LoadValue i) = tt
@@ -171,7 +171,7 @@ module _ (old new : WorldValue) (sound : IsSound (world_of old)) (c : ℕ) where
   by _ _ (did_so.nothing event reply none is all) = let e : age (world_of new) c ≡ age (world_of old) c = ap (λ (v : WorldValue). age (world_of v) c) all in omega (arith, e)
   by _ _ (edit_begins r number h) = still h.begun.begins.memory
   by _ _ (work_begins p cell h) = still h.begun.begins.turn.memory
-  by _ _ (report_begins p h) = still h.begun.begins.memory
+  by _ _ (show_begins p h) = still h.begun.begins.memory
   by _ _ (recovery_begins p h) = still h.begun.begins.memory
   by _ _ (did_so.migration_begins p h) = still h.begun.memory
   by _ _ (steps p reply is h) = step_older p reply h
@@ -204,6 +204,6 @@ run_young old events replies new fresh good run c =
     let none : (world_of old).memory.cached (Mark c) ≡ 0 = fresh.memory.cached (Mark c) (λ x. cc) in
     omega (arith, more, none)
 
--- behind a run of few enough events from a new world each mark has generations left for so many rounds
+-- after a run of few enough events from a new world each mark has generations left for that number of rounds
 pub young_marks : (old : WorldValue) (events : List Event) (replies : List Reply) (new : WorldValue) (rounds : ℕ) → IsNew (world_of old) → IsGood old → WorldRun old events replies new → length events + 2 * rounds ≤ SEEN_MOST → AreYoung (world_of new) rounds
 young_marks old events replies new rounds fresh good run few = record { each = λ c l. (let y = run_young old events replies new fresh good run c in omega (arith, y, few)) }

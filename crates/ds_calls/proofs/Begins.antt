@@ -6,13 +6,13 @@ use Rattle.ds_state.specs.Value.{WorldValue, world_of}
 use Rattle.ds_state.specs.World.{PlainEdit}
 use Rattle.ds_state.specs.declared.refusal.Refusal.{Refusal}
 use Rattle.ds_state.specs.declared.situation.Situation.{Situation}
-use Rattle.ds_state.specs.declared.situation.Situation.TheVariants.{Idle, Editing, Working, Recovering, Reporting, Migrating}
+use Rattle.ds_state.specs.declared.situation.Situation.TheVariants.{Idle, Editing, Working, Recovering, Showing, Migrating}
 use Rattle.ds_state.specs.declared.answer.Answer.{Answer}
 use Rattle.ds_state.specs.declared.answer.Answer.TheVariants.{Migration}
 use Rattle.ds_state.specs.declared.migration.MigrateEnd.{MigrateEnd}
 use Rattle.ds_state.specs.declared.situation.Rest.{Rest}
 use Rattle.ds_recover.specs.MigrationSteps as migrations
-use Rattle.ds_report.specs.ReportSteps as shows
+use Rattle.ds_show.specs.ShowSteps as shows
 use Rattle.ds_work.specs.WorkSteps as works
 use Rattle.ds_recover.specs.RecoverySteps as recoveries
 use Rattle.ds_layout.specs.Places.{cells_of}
@@ -23,11 +23,11 @@ use Rattle.ds_core.specs.Own.{IsInCall}
 use Rattle.ds_core.specs.WorkEvents.{HasWork}
 use Rattle.ds_core.specs.Takes.{Takes, Fits, IsOfWorld}
 use Rattle.ds_core.specs.declared.event.Event.{Event}
-use Rattle.ds_core.specs.declared.event.Event.TheVariants.{BeginEdit, BeginWork, BeginReport, BeginRecover, BeginMigrate}
+use Rattle.ds_core.specs.declared.event.Event.TheVariants.{BeginEdit, BeginWork, BeginShow, BeginRecover, BeginMigrate}
 use Rattle.ds_core.specs.declared.reply.Reply.{Reply}
 use Rattle.ds_core.specs.declared.reply.Reply.TheVariants.{Begun, Entered, Refused, NotEnabled}
 use Rattle.ds_core.proofs.Bound.{same_layout}
-use Rattle.ds_core.specs.Kinds.{IsEditAnswer, IsWorkAnswer, IsReportAnswer, IsRecoveryAnswer, IsMigrationAnswer, AnswersTo, RestsAs}
+use Rattle.ds_core.specs.Kinds.{IsEditAnswer, IsWorkAnswer, IsShowAnswer, IsRecoveryAnswer, IsMigrationAnswer, AnswersTo, RestsAs}
 use Rattle.ds_calls.specs.Whole.{HasProcess, IsCallingAs, Whole, finishes, refused, IsWhole, IsWholeMigration}
 use Rattle.ds_calls.specs.Driven.{CanGoOn, BeginsCall, IsDriven}
 
@@ -59,14 +59,14 @@ work_begins old new p cell (Refused why) named fits = fits.takes.same
 work_begins old new p cell NotEnabled named fits = absurd (fits.takes.unnamed named)
 work_begins old new p cell _ named fits = absurd fits.takes
 
--- the same, of a report
-pub report_begins : (old new : WorldValue) (p : ℕ) (reply : Reply) → HasProcess old p → Fits old (BeginReport p) reply new → BeginsCall IsReportAnswer old p new reply
-report_begins old new p Entered there fits =
+-- the same, of a show
+pub show_begins : (old new : WorldValue) (p : ℕ) (reply : Reply) → HasProcess old p → Fits old (BeginShow p) reply new → BeginsCall IsShowAnswer old p new reply
+show_begins old new p Entered there fits =
     let h = fits.takes in
-    calls_by old new p (BeginReport p) Entered (Reporting (shows.fresh p h.begun.next (cells_of old.sheet.layout) old.sheet.layout.processes)) IsReportAnswer there h h.begun.begins.situation tt (λ answer x. x)
-report_begins old new p (Refused why) there fits = fits.takes.same
-report_begins old new p NotEnabled there fits = absurd (fits.takes.none there)
-report_begins old new p _ there fits = absurd fits.takes
+    calls_by old new p (BeginShow p) Entered (Showing (shows.fresh p h.begun.next (cells_of old.sheet.layout) old.sheet.layout.processes)) IsShowAnswer there h h.begun.begins.situation tt (λ answer x. x)
+show_begins old new p (Refused why) there fits = fits.takes.same
+show_begins old new p NotEnabled there fits = absurd (fits.takes.none there)
+show_begins old new p _ there fits = absurd fits.takes
 
 -- the same, of a recovery
 pub recovery_begins : (old new : WorldValue) (p : ℕ) (reply : Reply) → HasProcess old p → Fits old (BeginRecover p) reply new → BeginsCall IsRecoveryAnswer old p new reply

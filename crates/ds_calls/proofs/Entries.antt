@@ -1,4 +1,4 @@
--- Entries after so many rounds: those after as many rounds as there are cells are the only ones.
+-- Entries after n rounds: those after as many rounds as there are cells are the only ones.
 use Rattle.std.proofs.Common.{ℕ, zero, suc, ◌≡◌, ◌<◌, ◌≤◌, sym, ap, ◌∙◌, inl, inr, arith}
 use Rattle.std.proofs.lemmas.Bool.{cases_lt}
 use Rattle.ds_formula.specs.declared.cells.Shape.{Shape}

@@ -12,3 +12,4 @@ pub mod LoneFacts
 pub mod LoneRounds
 pub mod LoneSettles
 pub mod Ages
+pub mod Found

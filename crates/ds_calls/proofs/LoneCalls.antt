@@ -3,7 +3,7 @@ use Rattle.std.proofs.Common.{ℕ, ◌≡◌, ◌<◌, refl, ap, sym, ◌∙◌,
 use Rattle.ds_work.specs.WorkSteps.{rest_of}
 use Rattle.ds_state.specs.declared.situation.Rest.{Rest}
 use Rattle.ds_layout.specs.declared.place.Place.TheVariants.{Index}
-use Rattle.ds_state.specs.Works.{PlainWorkCall, PlainReportCall, PlainRecoverCall, PlainMigrateCall}
+use Rattle.ds_state.specs.Works.{PlainWorkCall, PlainShowCall, PlainRecoverCall, PlainMigrateCall}
 use Rattle.ds_state.specs.Edits.{PlainEditCall}
 use Rattle.ds_state.specs.World.{PlainWorld}
 use Rattle.ds_state.specs.Value.{WorldValue, world_of, IsGood}
@@ -11,14 +11,14 @@ use Rattle.ds_state.specs.KnownWork.{WorkFits}
 use Rattle.ds_state.specs.CallsFit.{CallFits}
 use Rattle.ds_state.specs.Sound.{IsSound}
 use Rattle.ds_state.specs.declared.situation.Situation.{Situation}
-use Rattle.ds_state.specs.declared.situation.Situation.TheVariants.{Idle, Editing, Working, Recovering, Reporting, Migrating}
+use Rattle.ds_state.specs.declared.situation.Situation.TheVariants.{Idle, Editing, Working, Recovering, Showing, Migrating}
 use Rattle.ds_state.specs.declared.work.WorkEnd.{WorkEnd}
 use Rattle.ds_state.specs.declared.work.WorkStage.{WorkStage}
 use Rattle.ds_state.specs.declared.work.WorkStage.TheVariants as stages
 use Rattle.ds_state.specs.declared.turn.Turn.{Turn}
 use Rattle.ds_state.specs.declared.turn.Turn.TheVariants as taken
 use Rattle.ds_work.specs.WorkAnswers.{mark_now}
-use Rattle.ds_work.specs.WorkShows.{shown_in, EndsReporting, ShowsAt}
+use Rattle.ds_work.specs.WorkShows.{shown_in, EndsShowing, ShowsAt}
 use Rattle.ds_work.specs.WorkAlone.{IsAloneAt, IsAlone, EndsAlone, GoesAlone}
 use Rattle.ds_work.proofs.WorkAlone.{turn_alone, offer_alone}
 use Rattle.ds_state.specs.declared.answer.Answer.{Answer}
@@ -58,7 +58,7 @@ pub record Over (first : PlainWorld) (p c : ℕ) (answer : Answer) (v : WorldVal
   pub work : PlainWorkCall
   pub of_cell : work.cell ≡ c
   pub so : EndsAlone (row_in first c) (world_of v) work end
-  pub showing : EndsReporting (shown_in first c) (shown_in (world_of v) c) end
+  pub showing : EndsShowing (shown_in first c) (shown_in (world_of v) c) end
   pub since : Since first (world_of v) p c
   pub leaves : EndLeaves first (world_of v) c end
   pub n : Rest
@@ -77,8 +77,8 @@ module _ (first : PlainWorld) (p c : ℕ) (all : AreIdle first) (old new : World
   no_edit : (f : PlainEditCall) → (world_of old).situation p ≡ Editing f → ⊥
   no_edit f is = let bad : Editing f ≡ Working u.work = sym is ∙ u.at in cc
 
-  no_report : (f : PlainReportCall) → (world_of old).situation p ≡ Reporting f → ⊥
-  no_report f is = let bad : Reporting f ≡ Working u.work = sym is ∙ u.at in cc
+  no_show : (f : PlainShowCall) → (world_of old).situation p ≡ Showing f → ⊥
+  no_show f is = let bad : Showing f ≡ Working u.work = sym is ∙ u.at in cc
 
   no_migration : (f : PlainMigrateCall) → (world_of old).situation p ≡ Migrating f → ⊥
   no_migration f is = let bad : Migrating f ≡ Working u.work = sym is ∙ u.at in cc
@@ -137,7 +137,7 @@ module _ (first : PlainWorld) (p c : ℕ) (all : AreIdle first) (old new : World
       work = e;
       of_cell = cell_is;
       so = g.1;
-      showing = subst (λ d. EndsReporting (shown_in first c) (shown_in (world_of new) d) end) cell_is g.2;
+      showing = subst (λ d. EndsShowing (shown_in first c) (shown_in (world_of new) d) end) cell_is g.2;
       since = since_back s;
       leaves = subst (λ d. EndLeaves first (world_of new) d end) cell_is l;
       n = rest_of e;
@@ -170,14 +170,14 @@ module _ (first : PlainWorld) (p c : ℕ) (all : AreIdle first) (old new : World
   step_goes : StepsBy old p Stepped new → Under first p c new
   step_goes (works h) = stepped Stepped h h.what h.is (turned Stepped h) (leaves_so Stepped h)
   step_goes (edits h) = absurd (no_edit h.steps.edit h.steps.at)
-  step_goes (reports h) = absurd (no_report h.steps.show h.steps.at)
+  step_goes (reports h) = absurd (no_show h.steps.show h.steps.at)
   step_goes (recoveries h) = absurd (no_recovery h.steps.recovery h.steps.at)
   step_goes (migrations h) = absurd (no_migration h.steps.migration h.steps.at)
 
   pub step_ends : (answer : Answer) → StepsBy old p (Answered answer) new → Over first p c answer new
   step_ends answer (works h) = answered (Answered answer) h h.what answer h.is (turned (Answered answer) h) (leaves_so (Answered answer) h)
   step_ends answer (edits h) = absurd (no_edit h.steps.edit h.steps.at)
-  step_ends answer (reports h) = absurd (no_report h.steps.show h.steps.at)
+  step_ends answer (reports h) = absurd (no_show h.steps.show h.steps.at)
   step_ends answer (recoveries h) = absurd (no_recovery h.steps.recovery h.steps.at)
   step_ends answer (migrations h) = absurd (no_migration h.steps.migration h.steps.at)
 

@@ -39,7 +39,7 @@ use Rattle.ds_state.specs.declared.answer.Answer.TheVariants.{Work}
 use Rattle.ds_work.specs.WorkTakes.{RefusesIn}
 use Rattle.ds_work.specs.WorkSteps as steps
 use Rattle.ds_work.specs.WorkAnswers.{mark_now}
-use Rattle.ds_work.specs.WorkShows.{CellWords, shown_in, EndsReporting}
+use Rattle.ds_work.specs.WorkShows.{CellWords, shown_in, EndsShowing}
 use Rattle.ds_work.specs.WorkAlone.{EndsAlone}
 use Rattle.ds_work.proofs.WorkShows.{shown_kept}
 use Rattle.ds_core.specs.Takes.{Fits}
@@ -208,7 +208,7 @@ module _ (old : WorldValue) (p c : ℕ) (good : IsGood old) (idle : AreIdle (wor
       clean : IsClean (mark_now (world_of new) o.work) → IsClean ((world_of new).memory.cached (Mark c))
       clean h = subst (λ d. IsClean ((world_of new).memory.cached (Mark d))) o.of_cell h
 
-      by : (end : WorkEnd) → EndsAlone (λ part. (world_of old).memory.cached (Index c part)) (world_of new) o.work end → EndsReporting (shown_in (world_of old) c) (shown_in (world_of new) c) end → EndLeaves (world_of old) (world_of new) c end → CallLeft old p c (Ok end) new
+      by : (end : WorkEnd) → EndsAlone (λ part. (world_of old).memory.cached (Index c part)) (world_of new) o.work end → EndsShowing (shown_in (world_of old) c) (shown_in (world_of new) c) end → EndLeaves (world_of old) (world_of new) c end → CallLeft old p c (Ok end) new
       by ends.NotDirty so showing left = absurd so
       by ends.Missed so showing left = absurd so
       by ends.Worn so showing left = absurd so

@@ -90,7 +90,7 @@ module _ (L : Layout) (sheet : Cell → PlainContent) where
 
   -- ---- a round
 
-  -- so many rounds are over, and the cells below k are done in the next one
+  -- n rounds are over, and the cells below k are done in the next one
   pub record Mid (n k : ℕ) (w : PlainWorld) : Type 0 where
     pub each : (d : Cell) → IsInside L.shape d → (index_of L.shape d < k → Done (suc n) w d) × (k ≤ index_of L.shape d → Done n w d)
 
@@ -110,7 +110,7 @@ module _ (L : Layout) (sheet : Cell → PlainContent) where
     pub done : (c : ℕ) → c < k → age w c + 2 * rounds ≤ SEEN_MOST
     pub due : (c : ℕ) → k ≤ c → c < cells_of L → age w c + 2 * rounds + 2 ≤ SEEN_MOST
 
-  -- a round with so many left behind it has come to cell k
+  -- a round with n left after it has come to cell k
   pub record Phase (rounds k : ℕ) (w : PlainWorld) : Type 0 where
     pub state : State w
     pub young : Young rounds k w

@@ -1,4 +1,4 @@
--- A settle that is alone ends with all cells clean, unless memory was wanting.
+-- A settle that is alone ends with all cells clean, unless an allocation failed.
 use Rattle.std.proofs.Common.{Some, ℕ, zero, suc, ◌≡◌, ◌≢◌, ◌<◌, ◌≤◌, ◌+◌, ◌-◌, ◌⊎◌, refl, ap, sym, ◌∙◌, subst, arith, inl, inr, true, None}
 use Rattle.std.specs.Prelude.{Option, Result, Ok}
 use Rattle.std.proofs.lemmas.Bool.{cases_eq, cases_lt}
@@ -12,7 +12,7 @@ use Rattle.ds_layout.specs.declared.mark.State.TheVariants as state
 use Rattle.ds_layout.specs.Places.{cells_of}
 use Rattle.ds_layout.specs.declared.place.Place.TheVariants.{Mark, Head}
 use Rattle.ds_layout.specs.Mark.{IsClean}
-use Rattle.ds_state.specs.KnownReport as shows
+use Rattle.ds_state.specs.KnownShow as shows
 use Rattle.ds_state.specs.Standing.{HasContent}
 use Rattle.ds_state.specs.World.{PlainWorld, PlainIssue}
 use Rattle.ds_state.specs.CallsFit.{CallFits}
@@ -111,7 +111,7 @@ module _ (L : Layout) (sheet : Cell → PlainContent) (p : ℕ) where
     may_begin zero phase = absurd (rounds_of.no_round L sheet (world_of v) (cells_of L) phase)
     may_begin (suc r) phase = rounds_of.next_round L sheet r (world_of v) phase
 
-    -- behind a cell
+    -- after a cell
     behind_inv : (rounds cell : ℕ) → cell < N → rounds_of.Phase L sheet rounds (cell + 1) (world_of v) → Inv (goes_behind v rounds cell) v
     behind_inv rounds cell low phase = by (rounds_of.find L sheet (cells_of L - (cell + 1)) rounds (cell + 1) (world_of v) (omega arith) phase)
       where
@@ -184,7 +184,7 @@ module _ (w : PlainWorld) (sound : IsSound w) (f : (c : ℕ) → c < cells_of w.
   unfolding sheet_by
   has_sheet d inside content h = found (index_of w.layout.shape d) content (index_below w.layout.shape d inside) h (cases_lt (index_of w.layout.shape d) (cells_of w.layout))
 
--- ---- what can be told
+-- ---- what can be reported
 
 none_by : (n : ℕ) → ((n ≡ 0 → ⊥) → ⊥) → n ≡ 0
 none_by n h = elim (cases_eq n 0) [ inl is ↦ is | inr some ↦ absurd (h some) ]
@@ -217,7 +217,7 @@ module _ (p : ℕ) (first : WorldValue) (good : IsGood first) (idle : AreIdle (w
       begins_so (inr none) = subst (λ (t : SettleStage). Inv first.sheet.layout sheet p t first) (sym turn_is) (round_inv first.sheet.layout sheet p first good idle there refl (suc (cells_of first.sheet.layout + 1))
           (inr (λ c l. absurd (omega arith))))
 
-  -- without a sheet: how it ends can be told, so each cell may be taken to have a content or none
+  -- without a sheet: how it ends is known, so each cell may be taken to have a content or none
   clean_by : (end : SettleEnd) (new : WorldValue) → Settling p first (Ends end) new → (EndsClean (world_of new) end → ⊥) → ⊥
   clean_by end new settling none = decide_all (HasSome (world_of first)) (cells_of first.sheet.layout) (λ f. none (with_sheet (sheet_by (world_of first) good.sound f) (has_sheet (world_of first) good.sound f) end new settling))
 

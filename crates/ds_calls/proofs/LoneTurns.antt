@@ -59,7 +59,7 @@ module _ (w : PlainWorld) (p : ℕ) (e : PlainWorkCall) (here : w.situation p �
 
 -- ---- contents and entries of worlds alike
 
--- the content of a head is the same where the sheet and the counted edits are
+-- the content of a head is the same where the sheet and the linearized edits are
 pub same_content : (old new : PlainWorld) (c head : ℕ) (content : PlainContent) → new.layout ≡ old.layout → new.counted ≡ old.counted → HasContent new c head content → HasContent old c head content
 same_content old new c head content layout counted (inl none) = inl none
 same_content old new c head content layout counted (inr h) = inr (record {

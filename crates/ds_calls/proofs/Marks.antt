@@ -11,6 +11,6 @@ looks w cells cell low = ap (λ (n : ℕ). marked_from w n cell) (let e : cells 
 pub marked_here : (w : PlainWorld) (cells cell : ℕ) → cell < cells → is_marked (state_at w cell) ≡ true → marked_from w (cells - cell) cell ≡ Some cell
 marked_here w cells cell low is = looks w cells cell low ∙ ap (λ (b : Bool). if b then Some cell else marked_from w (cells - (cell + 1)) (cell + 1)) is
 
--- behind a cell that isn't marked, the first marked one is that from the next cell on
+-- after a cell that isn't marked, the first marked one is that from the next cell on
 pub marked_later : (w : PlainWorld) (cells cell : ℕ) → cell < cells → is_marked (state_at w cell) ≡ false → marked_from w (cells - cell) cell ≡ marked_from w (cells - (cell + 1)) (cell + 1)
 marked_later w cells cell low is = looks w cells cell low ∙ ap (λ (b : Bool). if b then Some cell else marked_from w (cells - (cell + 1)) (cell + 1)) is

@@ -15,6 +15,7 @@ use Rattle.ds_calls.specs.declared.settle.SettleStage.{SettleStage}
 use Rattle.ds_calls.specs.Wanted.{wants}
 use Rattle.ds_calls.specs.Whole.{Goes, stays, goes, Finishes, Whole, finishes, refused, IsRun}
 use Rattle.ds_calls.specs.Settling.{Settling, begins, works}
+use Rattle.ds_calls.specs.Traces.{Trace, no_trace, both, Leads, call_trace, settle_trace}
 
 -- ---- runs
 
@@ -22,7 +23,7 @@ use Rattle.ds_calls.specs.Settling.{Settling, begins, works}
 pub no_events : (old : WorldValue) → IsRun old old
 no_events old = record { events = []; replies = []; run = refl }
 
--- one run behind another
+-- one run after another
 pub run_both : (events : List Event) (replies : List Reply) (events' : List Event) (replies' : List Reply) (old mid new : WorldValue)
     → WorldRun old events replies mid → WorldRun mid events' replies' new → WorldRun old (events ++ events') (replies ++ replies') new
 run_both [] [] events' replies' old mid new h k = subst (λ (v : WorldValue). WorldRun v events' replies' new) h k
@@ -30,7 +31,7 @@ run_both (event ∷ events) (reply ∷ replies) events' replies' old mid new h k
 run_both [] (reply ∷ replies) events' replies' old mid new h k = absurd h
 run_both (event ∷ events) [] events' replies' old mid new h k = absurd h
 
--- two runs, one behind the other, are a run
+-- two runs, one after the other, are a run
 pub runs_on : (old mid new : WorldValue) → IsRun old mid → IsRun mid new → IsRun old new
 runs_on old mid new h k = record { events = h.events ++ k.events; replies = h.replies ++ k.replies; run = run_both h.events h.replies k.events k.replies old mid new h.run k.run }
 
@@ -54,6 +55,21 @@ finishes_runs p old answer new h = record {
   replies = h.replies ++ Answered answer ∷ [];
   run = run_more old h.last new h.events (Step p) h.replies (Answered answer) (goes_runs p old h.events h.replies h.last h.goes) h.answers;
 }
+
+-- two traces, one after the other, lead from the first world to the last
+pub both_lead : (first next : Trace) (old mid new : WorldValue) → Leads old first mid → Leads mid next new → Leads old (both first next) new
+both_lead first next old mid new h k = run_both first.events first.replies next.events next.replies old mid new h k
+
+-- the trace of a whole call leads from its first world to its last
+pub call_leads : {E : Type 0} (answer : E → Answer) (p : ℕ) (event : Event) (old : WorldValue) (result : Result E Refusal) (new : WorldValue) (h : Whole answer p event old result new) → Leads old (call_trace answer p event old result new h) new
+call_leads answer p event old result new (finishes reply mid n end begun fits h) = (mid, fits, run_more mid h.last new h.events (Step p) h.replies (Answered (answer end)) (goes_runs p mid h.events h.replies h.last h.goes) h.answers)
+call_leads answer p event old result new (refused why n fits) = (new, fits, refl)
+
+-- the trace of a settle leads from its first world to that of each turn
+pub settle_leads : (p : ℕ) (first : WorldValue) (turn : SettleStage) (new : WorldValue) (h : Settling p first turn new) → Leads first (settle_trace p first turn new h) new
+settle_leads p first turn new begins = refl
+settle_leads p first turn new (works rounds cell old n result so_far whole) =
+    both_lead (settle_trace p first _ old so_far) (call_trace _ p _ old result new whole) first old new (settle_leads p first _ old so_far) (call_leads _ p _ old result new whole)
 
 -- a whole call is a run
 pub whole_runs : (E : Type 0) (answer : E → Answer) (p : ℕ) (event : Event) (old : WorldValue) (result : Result E Refusal) (new : WorldValue) → Whole answer p event old result new → IsRun old new

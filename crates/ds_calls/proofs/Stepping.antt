@@ -6,7 +6,7 @@ use Rattle.ds_state.specs.Sound.{IsSound}
 use Rattle.ds_state.specs.Works.{PlainWorkCall}
 use Rattle.ds_state.specs.declared.refusal.Refusal.{Refusal}
 use Rattle.ds_state.specs.declared.situation.Situation.{Situation}
-use Rattle.ds_state.specs.declared.situation.Situation.TheVariants.{Idle, Stopped, Editing, Working, Recovering, Reporting, Migrating}
+use Rattle.ds_state.specs.declared.situation.Situation.TheVariants.{Idle, Stopped, Editing, Working, Recovering, Showing, Migrating}
 use Rattle.ds_state.specs.declared.work.WorkStage.TheVariants as work_stages
 use Rattle.ds_state.specs.declared.answer.Answer.{Answer}
 use Rattle.ds_work.specs.WorkTakes as work_events
@@ -47,7 +47,7 @@ not_waiting old new p reply (works h) e at waits =
     let same : Working h.steps.work ≡ Working e = sym h.steps.works ∙ at in
     let is : h.steps.work ≡ e = cc in
     never_waits h.steps.work (world_of old) (world_of new) h.what h.steps.turn (ap (λ (w : PlainWorkCall). w.stage) is ∙ waits)
-not_waiting old new p reply (reports h) e at waits = absurd (let bad : Reporting h.steps.show ≡ Working e = sym h.steps.at ∙ at in cc)
+not_waiting old new p reply (reports h) e at waits = absurd (let bad : Showing h.steps.show ≡ Working e = sym h.steps.at ∙ at in cc)
 not_waiting old new p reply (recoveries h) e at waits = absurd (let bad : Recovering h.steps.recovery ≡ Working e = sym h.steps.at ∙ at in cc)
 not_waiting old new p reply (migrations h) e at waits = absurd (let bad : Migrating h.steps.migration ≡ Working e = sym h.steps.at ∙ at in cc)
 

@@ -4,3 +4,5 @@ pub mod Driven
 pub mod Marked
 pub mod Settling
 pub mod Lone
+pub mod Traces
+pub mod Found

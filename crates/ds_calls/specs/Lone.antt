@@ -16,11 +16,11 @@ use Rattle.ds_calls.specs.declared.settle.SettleEnd.TheVariants.{Left, Refused, 
 pub record AreIdle (w : PlainWorld) : Type 0 where
   pub each : (q : ℕ) → q < w.layout.processes → (n : Rest) × (w.situation q ≡ Idle n)
 
--- each mark has generations left for work in so many rounds
+-- each mark has generations left for work in n rounds
 pub record AreYoung (w : PlainWorld) (rounds : ℕ) : Type 0 where
   pub each : (c : ℕ) → c < cells_of w.layout → generation_of (w.memory.cached (Mark c)) + 2 * rounds ≤ SEEN_MOST
 
--- a settle ends in a quiet world, with no cell left, unless memory was wanting
+-- a settle ends in a quiescent world, with no cell left, unless an allocation failed
 abbrev pub EndsClean : PlainWorld → SettleEnd → Type 0
 EndsClean w (Left left) = (left ≡ 0) × IsQuiet w
 EndsClean w (Refused why) = why ≡ refusal.NoMemory

@@ -23,7 +23,7 @@ is_clean Clean = true
 is_clean Marked = false
 is_clean (Held process) = false
 
--- the first cell that is marked, of so many from this one on
+-- the first cell that is marked, of n from this one on
 abbrev pub marked_from : PlainWorld → ℕ → ℕ → Option ℕ
 marked_from w zero cell = None
 marked_from w (suc more) cell = if is_marked (state_at w cell) then Some cell else marked_from w more (cell + 1)

@@ -23,7 +23,7 @@ abbrev pub first_of : WorldValue → ℕ → Option ℕ → SettleStage
 first_of w rounds None = ends w
 first_of w rounds (Some cell) = Works rounds cell
 
--- a settle with so many rounds left begins the next one; with none left it ends
+-- a settle with n rounds left begins the next one; with none left it ends
 abbrev pub round : WorldValue → ℕ → SettleStage
 round w zero = ends w
 round w (suc rounds) = first_of w rounds (marked_from (world_of w) (cells_of w.sheet.layout) 0)
@@ -33,12 +33,12 @@ abbrev pub next_of : WorldValue → ℕ → Option ℕ → SettleStage
 next_of w rounds None = round w rounds
 next_of w rounds (Some cell) = Works rounds cell
 
--- a round that has worked on a cell goes on behind that cell
+-- a round that has worked on a cell goes on after that cell
 abbrev pub goes_behind : WorldValue → ℕ → ℕ → SettleStage
 goes_behind w rounds cell = next_of w rounds (marked_from (world_of w) (cells_of w.sheet.layout - (cell + 1)) (cell + 1))
 
--- what a settle does once a work of its has ended so: it ends where the begin was refused or memory was wanting, else
--- it goes on behind the cell
+-- what a settle does once a work of its has ended so: it ends where the begin was refused or an allocation failed, else
+-- it goes on after the cell
 abbrev pub worked : WorldValue → ℕ → ℕ → Result WorkEnd Refusal → SettleStage
 worked w rounds cell (Err why) = Ends (Refused why)
 worked w rounds cell (Ok work_ends.NoMemory) = Ends NoMemory
@@ -55,12 +55,12 @@ pub data Settling (p : ℕ) (first : WorldValue) : SettleStage → WorldValue �
   works : (rounds cell : ℕ) (old new : WorldValue) (result : Result WorkEnd Refusal) → Settling p first (Works rounds cell) old
       → Whole Work p (BeginWork p (cell_at old.sheet.layout.shape cell)) old result new → Settling p first (worked new rounds cell result) new
 
--- a number that grows less with each work of a settle on a sheet of so many cells
+-- a number that grows less with each work of a settle on a sheet of that number of cells
 abbrev pub works_left : ℕ → SettleStage → ℕ
 works_left cells (Ends end) = 0
 works_left cells (Works rounds cell) = 1 + rounds * (cells + 1) + (cells - cell)
 
--- the cell that the settle works on next is one of so many
+-- the cell that the settle works on next is one of n
 abbrev pub IsInTurn : ℕ → SettleStage → Type 0
 IsInTurn cells (Ends end) = Unit {0}
 IsInTurn cells (Works rounds cell) = cell < cells

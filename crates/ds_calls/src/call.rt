@@ -1,11 +1,11 @@
-//! Whole calls: an edit, work, a report, a recovery, a migration.
+//! Whole calls: an edit, work, a show, a recovery, a migration.
 
 ghost use Rattle.std.specs.Prelude.{◌≡◌};
-ghost use Rattle.ds_core.specs.declared.event.Event.TheVariants.{BeginEdit, BeginWork, BeginReport, BeginRecover, BeginMigrate};
+ghost use Rattle.ds_core.specs.declared.event.Event.TheVariants.{BeginEdit, BeginWork, BeginShow, BeginRecover, BeginMigrate};
 ghost use Rattle.ds_core.specs.Takes.{IsOfWorld, Fits};
 ghost use Rattle.ds_core.specs.WorkEvents.{HasWork};
-ghost use Rattle.ds_state.specs.declared.answer.Answer.TheVariants.{Edit, Work, Report, Recovery};
-ghost use Rattle.ds_core.specs.Kinds.{IsEditAnswer, IsWorkAnswer, IsReportAnswer, IsRecoveryAnswer, IsMigrationAnswer};
+ghost use Rattle.ds_state.specs.declared.answer.Answer.TheVariants.{Edit, Work, Show, Recovery};
+ghost use Rattle.ds_core.specs.Kinds.{IsEditAnswer, IsWorkAnswer, IsShowAnswer, IsRecoveryAnswer, IsMigrationAnswer};
 ghost use Rattle.ds_calls.specs.Whole.{HasProcess, IsWhole, IsWholeMigration, request};
 ghost use Rattle.ds_calls.specs.Driven.{CanGoOn, BeginsCall, IsDriven};
 
@@ -19,7 +19,7 @@ use ds_state::answer::EditEnd;
 use ds_state::migration::MigrateEnd;
 use ds_state::recovery::RecoveryEnd;
 use ds_state::refusal::Refusal;
-use ds_state::report::ReportEnd;
+use ds_state::show::ShowEnd;
 use ds_state::work::WorkEnd;
 use ds_state::world::World;
 use std::alloc::Global;
@@ -49,12 +49,12 @@ fn begin_work(alloc: Global, world: &mut World, process: usize, cell: Cell) -> R
     take(alloc, world, &event)
 }
 
-fn begin_report(alloc: Global, world: &mut World, process: usize) -> Reply
+fn begin_show(alloc: Global, world: &mut World, process: usize) -> Reply
     requires { HasProcess world.old process }
-    ensures fits { Fits world.old (BeginReport process) result world.new }
-    ensures begins { BeginsCall IsReportAnswer world.old process world.new result }
+    ensures fits { Fits world.old (BeginShow process) result world.new }
+    ensures begins { BeginsCall IsShowAnswer world.old process world.new result }
 {
-    let event = Event::BeginReport(process);
+    let event = Event::BeginShow(process);
     take(alloc, world, &event)
 }
 
@@ -123,13 +123,13 @@ pub fn whole_work(
     driven(alloc, world, process, reply)
 }
 
-/// A whole report by a process of the sheet. Where it is settled, its values are the process's last
+/// A whole show by a process of the sheet. Where it is settled, its values are the process's last
 /// ones that the world keeps. Where its begin is refused, the world is as it was.
-pub fn whole_report(alloc: Global, world: &mut World, process: usize) -> Result<ReportEnd, Refusal>
+pub fn whole_show(alloc: Global, world: &mut World, process: usize) -> Result<ShowEnd, Refusal>
     requires { HasProcess world.old process }
-    ensures { IsWhole Report process (BeginReport process) world.old result world.new }
+    ensures { IsWhole Show process (BeginShow process) world.old result world.new }
 {
-    let reply = begin_report(alloc, world, process);
+    let reply = begin_show(alloc, world, process);
     driven(alloc, world, process, reply)
 }
 
@@ -148,7 +148,7 @@ pub fn whole_recovery(
 }
 
 /// A whole migration of the sheet to the second layout, by a process of it; all are stopped. It is answered `Migrated`,
-/// or `Already` where the sheet has come to that layout before; behind either the process is stopped, and recovers
+/// or `Already` where the sheet has come to that layout before; after either the process is stopped, and recovers
 /// next. Where its begin is refused, the world is as it was.
 pub fn whole_migration(
     alloc: Global,

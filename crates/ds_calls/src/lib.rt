@@ -1,4 +1,4 @@
-//! Whole calls of a process on a world, each as a run of events: an edit, work, a report, a recovery, a settle.
+//! Whole calls of a process on a world, each as a run of events: an edit, work, a show, a recovery, a settle.
 #![tactic(auto)]
 
 pub mod call;

@@ -19,7 +19,7 @@ use std::alloc::Global;
 /// How a settle ended.
 #[derive(Clone, Copy, Debug, PartialEq, Eq)]
 pub enum SettleEnd {
-    /// So many cells are marked or held; 0 where all are clean.
+    /// How many cells are marked or held; 0 where all are clean.
     Left(usize),
     /// The begin of a work of its was refused, for this cause.
     Refused(Refusal),
@@ -34,7 +34,7 @@ pub enum SettleStage {
     Ends(SettleEnd),
     /// A whole work on a cell.
     Works {
-        /// How many rounds are left behind this one.
+        /// How many rounds are left after this one.
         rounds: usize,
         /// The cell, by its number.
         cell: usize,
@@ -48,7 +48,7 @@ fn ended(world: &World) -> SettleStage
     SettleStage::Ends(SettleEnd::Left(left(world)))
 }
 
-// The next round begins, with so many left.
+// The next round begins, with n left.
 fn round(world: &World, rounds: usize) -> SettleStage
     ensures value { result ≡ round world.now rounds }
     ensures few { works_left (cells_of world.now.sheet.layout) result ≤ rounds * (cells_of world.now.sheet.layout + 1) }
@@ -75,7 +75,7 @@ pub fn first_turn(world: &World) -> SettleStage
     round(world, cells(world) + 2)
 }
 
-// A round goes on behind a cell.
+// A round goes on after a cell.
 fn goes_behind(world: &World, rounds: usize, cell: usize) -> SettleStage
     requires { cell < cells_of world.now.sheet.layout }
     ensures value { result ≡ goes_behind world.now rounds cell }
@@ -88,8 +88,8 @@ fn goes_behind(world: &World, rounds: usize, cell: usize) -> SettleStage
     }
 }
 
-/// What a settle does, with so many rounds left behind this one, once its work on the cell has ended
-/// so: it ends where the begin was refused or memory was wanting, else it goes on behind the cell.
+/// What a settle does, with n rounds left after this one, once its work on the cell has ended
+/// so: it ends where the begin was refused or an allocation failed, else it goes on after the cell.
 pub fn worked(
     world: &World,
     rounds: usize,

@@ -12,8 +12,8 @@ use Rattle.ds_core.specs.Moments.{Placed, Open, Closed, Ledger, Moment, AreApart
 use Rattle.ds_core.specs.LedgerSteps.{Stands, told_of, Closes, Resolves}
 use Rattle.ds_core.specs.Headline.{IsIssueOf, Happens, IsClosed, Headline, IsAcknowledged, IsToldDone}
 use Rattle.ds_core.specs.declared.event.Event.{Event}
-use Rattle.ds_core.specs.declared.event.Event.TheVariants.{BeginEdit, BeginWork, BeginReport, BeginRecover, BeginMigrate, Step, Offer, Evict, Stop, Crash}
-use Rattle.ds_state.specs.declared.recovery.Told.{Told}
+use Rattle.ds_core.specs.declared.event.Event.TheVariants.{BeginEdit, BeginWork, BeginShow, BeginRecover, BeginMigrate, Step, Offer, Evict, Stop, Crash}
+use Rattle.ds_state.specs.declared.recovery.LastEdit.{LastEdit}
 use Rattle.ds_state.specs.declared.answer.Answer.TheVariants.{Edit, Recovery}
 use Rattle.ds_state.specs.declared.answer.EditEnd.TheVariants.{Done}
 use Rattle.ds_state.specs.declared.recovery.RecoveryEnd.TheVariants.{Last}
@@ -87,7 +87,7 @@ was_begun events replies shape e (BeginEdit r) (Begun number) happens is =
     }
 was_begun events replies shape e (BeginEdit r) _ happens is = absurd is
 was_begun events replies shape e (BeginWork q cell) reply happens is = absurd is
-was_begun events replies shape e (BeginReport q) reply happens is = absurd is
+was_begun events replies shape e (BeginShow q) reply happens is = absurd is
 was_begun events replies shape e (BeginRecover q) reply happens is = absurd is
 was_begun events replies shape e (BeginMigrate q) reply happens is = absurd is
 was_begun events replies shape e (Step q) reply happens is = absurd is
@@ -100,7 +100,7 @@ module _ (old : WorldValue) (events : List Event) (replies : List Reply) (new : 
   abbrev at : ℕ → Ledger
   at i = (h.run.moment i).ledger
 
-  -- the process's edit was closed as one that counts, at this place
+  -- the process's edit was closed as one that is linearized, at this place
   module _ (k p n place : ℕ) (it : Placed) (lt : place < length events) (until : place ≤ k) (within_run : k ≤ length events) (closed : IsClosed h.run.moment place p it) (there : Contains (at place).counted it) (number : it.edit.number ≡ n) (spent : IsBehind p n (at (place + 1))) where
     stands : Contains (at (length events)).counted it
     stands = (h.closed place p it lt closed (length events) lt (omega arith)).1 there
@@ -135,7 +135,7 @@ module _ (old : WorldValue) (events : List Event) (replies : List Reply) (new : 
   closed_at : (k p number : ℕ) (doubt counts : Bool) (And : Open → Type 0) (c : Closes (at k) p number doubt counts And (at (k + 1))) → IsClosed h.run.moment k p c.open_edit.it
   closed_at k p number doubt counts And c = record { open_edit = c.open_edit; was = c.was; is = refl; gone = ap (λ (l : Ledger). l.opens p) c.is ∙ put_here (at k).opens p None }
 
-  -- its number is spent behind that place
+  -- its number is spent after that place
   spent_at : (k p number : ℕ) (doubt counts : Bool) (And : Open → Type 0) (c : Closes (at k) p number doubt counts And (at (k + 1))) → IsBehind p number (at (k + 1))
   spent_at k p number doubt counts And c = subst (λ n. IsBehind p n (at (k + 1))) c.number_is (behind_closed (at (k + 1)) p (record { it = c.open_edit.it; counts = counts })
       (ap (λ (l : Ledger). l.told p) c.is ∙ put_here (at k).told p _) (ap (λ (l : Ledger). l.opens p) c.is ∙ put_here (at k).opens p None))
@@ -146,9 +146,9 @@ module _ (old : WorldValue) (events : List Event) (replies : List Reply) (new : 
       stands_once k p n k c.open_edit.it (within events k (Step p) done.event_is) (omega arith) (let l = within events k (Step p) done.event_is in omega arith) (closed_at k p n false true _ c) c.stands c.number_is
       (spent_at k p n false true _ c)
 
-  -- ---- what a recovery tells
+  -- ---- what a recovery reports
 
-  -- the edit that is told was closed at an earlier place
+  -- the edit that is reported was closed at an earlier place
   record WasClosed (k q : ℕ) (c : Closed) : Type 0 where
     place : ℕ
     early : place < k
@@ -174,13 +174,13 @@ module _ (old : WorldValue) (events : List Event) (replies : List Reply) (new : 
         }
       ])
 
-  -- ---- what is told as done counts
+  -- ---- what is reported as done is linearized
 
-  module _ (k p : ℕ) (told : Told) (lt : k < length events) (counts : told.counts ≡ true) where
+  module _ (k p : ℕ) (told : LastEdit) (lt : k < length events) (counts : told.counts ≡ true) where
     abbrev IsDone : Type 0
     IsDone = IsToldDone old events replies k p told new.counted
 
-    -- closed at this place as one that counts
+    -- closed at this place as one that is linearized
     by_closed : (place : ℕ) (it : Placed) → place < length events → place ≤ k → IsClosed h.run.moment place p it → Contains (at place).counted it → it.edit.number ≡ told.number → it.edit.cell ≡ told.cell
         → IsBehind p told.number (at (place + 1)) → IsDone
     unfolding stands_once begun
@@ -194,9 +194,9 @@ module _ (old : WorldValue) (events : List Event) (replies : List Reply) (new : 
         let one : told ≡ record { number = c.it.edit.number; cell = c.it.edit.cell; counts = c.counts } = cc in
         let w = told_closed k (omega arith) p c is in
         let early = w.early in
-        by_closed w.place c.it (omega arith) (omega arith) w.closed (subst (λ (b : Bool). Stands (at w.place).counted c.it b) (sym (ap (λ (t : Told). t.counts) one) ∙ counts) w.stands)
-        (sym (ap (λ (t : Told). t.number) one)) (sym (ap (λ (t : Told). t.cell) one))
-        (subst (λ n. IsBehind p n (at (w.place + 1))) (sym (ap (λ (t : Told). t.number) one)) w.spent)
+        by_closed w.place c.it (omega arith) (omega arith) w.closed (subst (λ (b : Bool). Stands (at w.place).counted c.it b) (sym (ap (λ (t : LastEdit). t.counts) one) ∙ counts) w.stands)
+        (sym (ap (λ (t : LastEdit). t.number) one)) (sym (ap (λ (t : LastEdit). t.cell) one))
+        (subst (λ n. IsBehind p n (at (w.place + 1))) (sym (ap (λ (t : LastEdit). t.number) one)) w.spent)
 
     by_moves : Resolves (at k) p (Last told) (at (k + 1)) → IsDone
     by_moves (inl c) = by_closed k c.open_edit.it lt (omega arith) (closed_at k p told.number true told.counts _ c) (subst (λ (b : Bool). Stands (at k).counted c.open_edit.it b) counts c.stands) c.number_is c.also
@@ -204,7 +204,7 @@ module _ (old : WorldValue) (events : List Event) (replies : List Reply) (new : 
     by_moves (inr (inl f)) = by_told ((at k).told p) refl f.repeats
     by_moves (inr (inr r)) = by_told ((at k).told p) refl r.repeats
 
-  told_once : (k p : ℕ) (told : Told) → Happens events replies k (Step p) (Answered (Recovery (Last told))) → told.counts ≡ true → IsToldDone old events replies k p told new.counted
+  told_once : (k p : ℕ) (told : LastEdit) → Happens events replies k (Step p) (Answered (Recovery (Last told))) → told.counts ≡ true → IsToldDone old events replies k p told new.counted
   told_once k p told happens counts = by_moves k p told (within events k (Step p) happens.event_is) counts (h.run.ledger k (Step p) (Answered (Recovery (Last told))) happens)
 
 -- an edit that was answered Done stands in the last list just once, as it was asked for
@@ -212,7 +212,7 @@ pub acknowledged_once : (old : WorldValue) (events : List Event) (replies : List
     → IsAcknowledged old events replies k p n new.counted
 acknowledged_once old events replies new k p n h done = done_once old events replies new h k p n done
 
--- an edit that a recovery told as done stands in the last list just once, as it was asked for
-pub resolved_once : (old : WorldValue) (events : List Event) (replies : List Reply) (new : WorldValue) (k p : ℕ) (told : Told) → Headline old events replies new → Happens events replies k (Step p) (Answered (Recovery (Last told))) → told.counts ≡ true
+-- an edit that a recovery reported as done stands in the last list just once, as it was asked for
+pub resolved_once : (old : WorldValue) (events : List Event) (replies : List Reply) (new : WorldValue) (k p : ℕ) (told : LastEdit) → Headline old events replies new → Happens events replies k (Step p) (Answered (Recovery (Last told))) → told.counts ≡ true
     → IsToldDone old events replies k p told new.counted
 resolved_once old events replies new k p told h happens counts = told_once old events replies new h k p told happens counts

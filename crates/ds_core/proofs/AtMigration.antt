@@ -1,4 +1,4 @@
--- A migration, from its begin to its answer: what its process says of its edits, and what the words tell of them.
+-- A migration, from its begin to its answer: what its process says of its edits, and what the words say of them.
 use Rattle.std.proofs.Common.{ℕ, ◌≡◌, ◌/◌, List, refl, ap, sym, ◌∙◌, subst, inl, inr}
 use Rattle.std.proofs.lemmas.Bool.{cases_eq}
 use Rattle.ds_words.specs.Memory.{Memory}
@@ -8,11 +8,11 @@ use Rattle.ds_layout.specs.declared.place.Place.TheVariants.{Header, Announce}
 use Rattle.ds_layout.specs.SheetMemory.{PerformsAt}
 use Rattle.ds_layout.specs.declared.layout.Layout.{Layout}
 use Rattle.ds_state.specs.World.{PlainWorld}
-use Rattle.ds_state.specs.Works.{PlainMigrateCall, PlainReportCall}
+use Rattle.ds_state.specs.Works.{PlainMigrateCall, PlainShowCall}
 use Rattle.ds_state.specs.CallsFit.{CallFits, MigrationHolds, MigrationFits}
 use Rattle.ds_state.specs.Value.{WorldValue, world_of}
 use Rattle.ds_state.specs.declared.situation.Situation.{Situation}
-use Rattle.ds_state.specs.declared.situation.Situation.TheVariants.{Reporting, Migrating}
+use Rattle.ds_state.specs.declared.situation.Situation.TheVariants.{Showing, Migrating}
 use Rattle.ds_state.specs.declared.migration.MigrateStage.{MigrateStage}
 use Rattle.ds_state.specs.declared.migration.MigrateStage.TheVariants as stages
 use Rattle.ds_recover.specs.MigrationSteps as steps
@@ -55,7 +55,7 @@ after_says : (e : PlainMigrateCall) (s : MigrateStage) (word : ℕ) → SaysSame
 after_says e (stages.Answer how) word = record { number = refl; doubt = refl }
 after_says e _ word = record { number = refl; doubt = refl }
 
-after_shows_not : (e : PlainMigrateCall) (s : MigrateStage) (word : ℕ) (g : PlainReportCall) → steps.after e s word ≡ Reporting g → ⊥
+after_shows_not : (e : PlainMigrateCall) (s : MigrateStage) (word : ℕ) (g : PlainShowCall) → steps.after e s word ≡ Showing g → ⊥
 after_shows_not e (stages.Answer how) word g is = (cc)
 after_shows_not e _ word g is = (cc)
 
@@ -68,7 +68,7 @@ module _ (v v' : WorldValue) (p : ℕ) (reply : Reply) (s : MigrationStepsBy v p
   now : (world_of v').situation p ≡ steps.after s.steps.migration s.steps.migration.stage s.steps.word
   now = ap (λ q. (world_of v').situation q) (sym s.steps.mine) ∙ s.steps.steps.situation
 
-  pub migration_shows_not : (g : PlainReportCall) → (world_of v').situation p ≡ Reporting g → ⊥
+  pub migration_shows_not : (g : PlainShowCall) → (world_of v').situation p ≡ Showing g → ⊥
   migration_shows_not g is = after_shows_not s.steps.migration s.steps.migration.stage s.steps.word g (sym now ∙ is)
 
   pub migration_says : (q : ℕ) → SaysSame ((world_of v).situation q) ((world_of v').situation q)

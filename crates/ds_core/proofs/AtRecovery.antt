@@ -5,11 +5,11 @@ use Rattle.std.proofs.lemmas.Bool.{cases_eq}
 use Rattle.ds_layout.specs.SheetMemory.{PerformsAt}
 use Rattle.ds_layout.specs.declared.layout.Layout.{Layout}
 use Rattle.ds_state.specs.World.{PlainIssue}
-use Rattle.ds_state.specs.Works.{PlainReportCall, PlainRecoverCall}
+use Rattle.ds_state.specs.Works.{PlainShowCall, PlainRecoverCall}
 use Rattle.ds_state.specs.CallsFit.{CallFits}
 use Rattle.ds_state.specs.Value.{WorldValue, world_of, IsGood}
 use Rattle.ds_state.specs.declared.situation.Situation.{Situation}
-use Rattle.ds_state.specs.declared.situation.Situation.TheVariants.{Idle, Stopped, Editing, Working, Recovering, Reporting, Migrating}
+use Rattle.ds_state.specs.declared.situation.Situation.TheVariants.{Idle, Stopped, Editing, Working, Recovering, Showing, Migrating}
 use Rattle.ds_state.specs.declared.recovery.RecoverStage.{RecoverStage}
 use Rattle.ds_state.specs.declared.recovery.RecoverStage.TheVariants as stages
 use Rattle.ds_state.specs.declared.turn.Turn.TheVariants as effects
@@ -30,7 +30,7 @@ module _ (layout : Layout) (l : Ledger) (v v' : WorldValue) (h : IsOf layout l v
   doubted (Editing e) is free issue at = absurd free
   doubted (Working e) is free issue at = absurd free
   doubted (Recovering e) is free issue at = absurd free
-  doubted (Reporting e) is free issue at = absurd free
+  doubted (Showing e) is free issue at = absurd free
   doubted (Migrating e) is free issue at = absurd free
 
   same_doubt : (q : ℕ) (issue : PlainIssue) → (world_of v).open_edits q ≡ Some issue → doubts ((world_of v).situation q) ≡ doubts ((world_of v').situation q)
@@ -69,11 +69,11 @@ module _ (v v' : WorldValue) (p : ℕ) (reply : Reply) (s : RecoveryStepsBy v p 
       let e : PlainRecoverCall = s.steps.recovery in
       (steps.access_at e e.stage, s.steps.word, subst (λ (q : ℕ). PerformsAt (steps.access_at e e.stage) q (world_of v).memory (world_of v').memory s.steps.word) s.steps.mine s.steps.steps.memory)
 
-  after_shows_not : (f : PlainRecoverCall) (x : RecoverStage) (word : ℕ) (g : PlainReportCall) → steps.after f x word ≡ Reporting g → ⊥
+  after_shows_not : (f : PlainRecoverCall) (x : RecoverStage) (word : ℕ) (g : PlainShowCall) → steps.after f x word ≡ Showing g → ⊥
   after_shows_not f (stages.Answer how) word g is = (cc)
   after_shows_not f _ word g is = (cc)
 
-  pub recovery_shows_not : (g : PlainReportCall) → (world_of v').situation p ≡ Reporting g → ⊥
+  pub recovery_shows_not : (g : PlainShowCall) → (world_of v').situation p ≡ Showing g → ⊥
   recovery_shows_not g is = after_shows_not s.steps.recovery s.steps.recovery.stage s.steps.word g (sym s.steps.steps.situation ∙ ap (λ q. (world_of v').situation q) s.steps.mine ∙ is)
 
   module _ (goes : s.what ≡ effects.GoesOn) where

@@ -2,10 +2,10 @@
 use Rattle.std.proofs.Common.{ℕ, ◌≡◌, refl, ap, sym, ◌∙◌, inl, inr, Bool, true, false, Some, length}
 use Rattle.std.specs.Prelude.{nat_lt, if◌then◌else◌}
 use Rattle.std.proofs.lemmas.Bool.{cases_eq}
-use Rattle.ds_state.specs.Works.{PlainWorkCall, PlainReportCall}
+use Rattle.ds_state.specs.Works.{PlainWorkCall, PlainShowCall}
 use Rattle.ds_state.specs.Value.{WorldValue, world_of}
 use Rattle.ds_state.specs.declared.situation.Situation.{Situation}
-use Rattle.ds_state.specs.declared.situation.Situation.TheVariants.{Idle, Working, Reporting}
+use Rattle.ds_state.specs.declared.situation.Situation.TheVariants.{Idle, Working, Showing}
 use Rattle.ds_state.specs.declared.work.WorkStage.TheVariants as stages
 use Rattle.ds_eval.specs.Tasks.{PlainEvaluated}
 use Rattle.ds_state.specs.declared.situation.Rest.{Rest}
@@ -34,10 +34,10 @@ pub at_work_sure : (n : Rest) (s : Situation) → IsAtWork n s → doubts s ≡ 
 at_work_sure n s (in_work e next is) = ap doubts is
 at_work_sure n s (at_rest is) = ap doubts is
 
--- a process at work, or idle, is in no report
-pub at_work_shows_not : (n : Rest) (s : Situation) → IsAtWork n s → (f : PlainReportCall) → s ≡ Reporting f → ⊥
-at_work_shows_not n s (in_work e next is) f at = (let bad : Working e ≡ Reporting f = sym is ∙ at in cc)
-at_work_shows_not n s (at_rest is) f at = (let bad : Idle n ≡ Reporting f = sym is ∙ at in cc)
+-- a process at work, or idle, is in no show
+pub at_work_shows_not : (n : Rest) (s : Situation) → IsAtWork n s → (f : PlainShowCall) → s ≡ Showing f → ⊥
+at_work_shows_not n s (in_work e next is) f at = (let bad : Working e ≡ Showing f = sym is ∙ at in cc)
+at_work_shows_not n s (at_rest is) f at = (let bad : Idle n ≡ Showing f = sym is ∙ at in cc)
 
 -- the process is at work before and after, and knows the same
 pub record StaysAtWork (p : ℕ) (old new : WorldValue) : Type 0 where

@@ -1,5 +1,5 @@
--- Between a load of the done bit and a later load of the head an edit can take over: then neither tells that the edit
--- counts.
+-- Between a load of the done bit and a later load of the head an edit can take over: then neither says that the edit is
+-- linearized.
 use Rattle.std.proofs.Common.{ℕ, ◌≡◌, ◌≢◌, ◌<◌, ◌+◌, ◌*◌, ◌/◌, ◌%◌, ◌==◌, [], refl, ap, sym, ◌∙◌, subst, arith, inl, inr, Bool, true, false, if◌then◌else◌, nat_lt, Some, None}
 use Rattle.std.specs.Prelude.{◌&&◌, Contains}
 use Rattle.std.proofs.lemmas.Bool.{ne_eqb}
@@ -91,7 +91,7 @@ module _ (e : PlainEditCall) (head : Head) (f : PlainEdit) (r : PlainRecoverCall
         counts = (there, still_counts there);
       }
 
--- a recovery that looks at the done bit first and at the head last can find neither, of an edit that counts
+-- a recovery that looks at the done bit first and at the head last can find neither, of a linearized edit
 pub finds_neither : (e : PlainEditCall) (head : Head) (f : PlainEdit) (r : PlainRecoverCall) (first last : PlainWorld) → IsSound first → IsRecoveryOf r f → e.process ≢ f.process → e.cell ≡ f.cell
     → Contains first.counted f → HasNoBit first f → TakesOver e head first last → FindsNeither r f first last
 finds_neither e head f r first last sound mine ne cell there none t = finds e head f r first last sound t mine ne cell there none

@@ -23,7 +23,7 @@ use Rattle.ds_core.specs.EditEvents.{reply_with, EditStepsBy}
 use Rattle.ds_core.proofs.Replied.{replied}
 use Rattle.ds_core.specs.StepEvents.{edits, works, reports, recoveries, migrations}
 use Rattle.ds_core.specs.Takes.{Takes, WorldRun}
-use Rattle.ds_core.proofs.Did.{Did, did, nothing, edit_begins, work_begins, report_begins, recovery_begins, migration_begins, steps, offers, evicts, stops, crashes}
+use Rattle.ds_core.proofs.Did.{Did, did, nothing, edit_begins, work_begins, show_begins, recovery_begins, migration_begins, steps, offers, evicts, stops, crashes}
 use Rattle.ds_core.specs.declared.event.Event.{Event}
 use Rattle.ds_core.specs.declared.reply.Reply.{Reply}
 use Rattle.ds_core.specs.declared.reply.Reply.TheVariants.{Stepped}
@@ -33,7 +33,7 @@ pub unanswered_at : (processes number : ℕ) (o : Option Outcome) → Stepped �
 unanswered_at processes number None is = refl
 unanswered_at processes number (Some how) is = absurd (cc)
 
--- behind a step that is no answer the process is in the edit at its next stage
+-- after a step that is no answer the process is in the edit at its next stage
 pub after_on : (e : PlainEditCall) (s : Stage) (word : ℕ) → outcome_at s ≡ None → after e s word ≡ Editing (record e { stage = next_at e s word })
 after_on e (Answer how) word is = absurd (cc)
 after_on e _ word is = refl
@@ -74,7 +74,7 @@ layout_by : (old new : WorldValue) (event : Event) (reply : Reply) → Did old n
 layout_by old new _ _ (nothing event reply none is same) = ap (λ (v : WorldValue). v.sheet.layout) same
 layout_by old new _ _ (edit_begins r number h) = h.begun.begins.layout
 layout_by old new _ _ (work_begins p cell h) = h.begun.begins.turn.layout
-layout_by old new _ _ (report_begins p h) = h.begun.begins.layout
+layout_by old new _ _ (show_begins p h) = h.begun.begins.layout
 layout_by old new _ _ (recovery_begins p h) = h.begun.begins.layout
 layout_by old new _ _ (migration_begins p h) = h.begun.layout
 layout_by old new _ _ (steps p reply is (edits h)) = h.steps.steps.layout

@@ -4,19 +4,19 @@ use Rattle.ds_state.specs.declared.turn.Turn.{Turn}
 use Rattle.ds_state.specs.Value.{WorldValue, world_of}
 use Rattle.ds_state.specs.Sound.{IsSound}
 use Rattle.ds_state.specs.Edits.{PlainEditCall}
-use Rattle.ds_state.specs.Works.{PlainWorkCall, PlainReportCall, PlainRecoverCall, PlainMigrateCall}
+use Rattle.ds_state.specs.Works.{PlainWorkCall, PlainShowCall, PlainRecoverCall, PlainMigrateCall}
 use Rattle.ds_state.specs.declared.situation.Situation.{Situation}
-use Rattle.ds_state.specs.declared.situation.Situation.TheVariants.{Idle, Stopped, Editing, Working, Recovering, Reporting, Migrating}
+use Rattle.ds_state.specs.declared.situation.Situation.TheVariants.{Idle, Stopped, Editing, Working, Recovering, Showing, Migrating}
 use Rattle.ds_state.specs.declared.stage.Stage.{Stage}
 use Rattle.ds_state.specs.declared.stage.Stage.TheVariants as stages
 use Rattle.ds_state.specs.declared.work.WorkEnd.{WorkEnd}
-use Rattle.ds_state.specs.declared.report.ReportStage.{ReportStage}
-use Rattle.ds_state.specs.declared.report.ReportStage.TheVariants as show_stages
+use Rattle.ds_state.specs.declared.show.ShowStage.{ShowStage}
+use Rattle.ds_state.specs.declared.show.ShowStage.TheVariants as show_stages
 use Rattle.ds_state.specs.declared.recovery.RecoverStage.{RecoverStage}
 use Rattle.ds_state.specs.declared.recovery.RecoverStage.TheVariants as recover_stages
 use Rattle.ds_edit.specs.EditTakes as edit_worlds
 use Rattle.ds_state.specs.declared.answer.Answer.{Answer}
-use Rattle.ds_state.specs.declared.answer.Answer.TheVariants.{Edit, Work, Report, Recovery, Migration}
+use Rattle.ds_state.specs.declared.answer.Answer.TheVariants.{Edit, Work, Show, Recovery, Migration}
 use Rattle.ds_state.specs.declared.situation.Rest.{Rest}
 use Rattle.ds_state.specs.declared.migration.MigrateStage.{MigrateStage}
 use Rattle.ds_state.specs.declared.migration.MigrateStage.TheVariants as migrate_stages
@@ -26,20 +26,20 @@ use Rattle.ds_work.specs.WorkSteps as work_steps
 use Rattle.ds_work.specs.WorkTakes as work_events
 use Rattle.ds_state.specs.declared.turn.Turn.TheVariants as turns
 use Rattle.ds_work.proofs.Turning.{turns_fall}
-use Rattle.ds_report.specs.ReportSteps as show_steps
+use Rattle.ds_show.specs.ShowSteps as show_steps
 use Rattle.ds_recover.specs.RecoverySteps as recovery_steps
 use Rattle.ds_state.specs.EditEndings.{end_of, outcome_at}
 use Rattle.ds_core.specs.MigrationEvents.{MigrationStepsBy, migration_reply}
 use Rattle.ds_core.specs.EditEvents.{EditStepsBy, reply_with}
 use Rattle.ds_core.proofs.Replied.{replied}
 use Rattle.ds_core.specs.WorkEvents.{WorkStepsBy, work_reply}
-use Rattle.ds_core.specs.ReportEvents.{ReportStepsBy, report_reply}
+use Rattle.ds_core.specs.ShowEvents.{ShowStepsBy, show_reply}
 use Rattle.ds_core.specs.RecoveryEvents.{RecoveryStepsBy, recovery_reply}
 use Rattle.ds_core.specs.StepEvents.{StepsBy, edits, works, reports, recoveries, migrations}
 use Rattle.ds_core.specs.Own.{IsInCall}
 use Rattle.ds_core.specs.declared.reply.Reply.TheVariants.{Stepped, Answered}
 use Rattle.ds_core.proofs.Bound.{edit_goes_on}
-use Rattle.ds_core.specs.Kinds.{IsEditAnswer, IsWorkAnswer, IsReportAnswer, IsRecoveryAnswer, IsMigrationAnswer, AnswersTo, RestsAs}
+use Rattle.ds_core.specs.Kinds.{IsEditAnswer, IsWorkAnswer, IsShowAnswer, IsRecoveryAnswer, IsMigrationAnswer, AnswersTo, RestsAs}
 
 -- ---- a step that goes on
 
@@ -65,17 +65,17 @@ work_stays old new p sound h = by h.what h.steps h.is
     by turns.GoesOn s is = let g = turns_fall p (world_of old) (world_of new) sound s in stays_by old new p (Working s.work) (Working g.work) s.works g.works tt (λ answer x. x)
     by (turns.Answers end) s is = absurd (cc)
 
--- behind a step of a report that is replied Stepped the process is in its next stage
-pub report_on : (e : PlainReportCall) (s : ReportStage) (word : ℕ) → Stepped ≡ report_reply (show_steps.effect_at s) → show_steps.after e s word ≡ Reporting (show_steps.next_at e s word)
-report_on e (show_stages.Answer end) word is = absurd (cc)
-report_on e _ word is = refl
+-- after a step of a show that is replied Stepped the process is in its next stage
+pub show_on : (e : PlainShowCall) (s : ShowStage) (word : ℕ) → Stepped ≡ show_reply (show_steps.effect_at s) → show_steps.after e s word ≡ Showing (show_steps.next_at e s word)
+show_on e (show_stages.Answer end) word is = absurd (cc)
+show_on e _ word is = refl
 
-report_stays : (old new : WorldValue) (p : ℕ) → ReportStepsBy old p Stepped new → StaysIn old p new
-report_stays old new p h =
-    let e : PlainReportCall = h.steps.show in
-    let goes : Stepped ≡ report_reply (show_steps.effect_at e.stage) = h.is ∙ ap report_reply h.steps.is in
-    let now : (world_of new).situation p ≡ Reporting (show_steps.next_at e e.stage h.steps.word) = ap (λ q. (world_of new).situation q) (sym h.steps.mine) ∙ h.steps.steps.situation ∙ report_on e e.stage h.steps.word goes in
-    stays_by old new p (Reporting e) (Reporting (show_steps.next_at e e.stage h.steps.word)) h.steps.at now tt (λ answer x. x)
+show_stays : (old new : WorldValue) (p : ℕ) → ShowStepsBy old p Stepped new → StaysIn old p new
+show_stays old new p h =
+    let e : PlainShowCall = h.steps.show in
+    let goes : Stepped ≡ show_reply (show_steps.effect_at e.stage) = h.is ∙ ap show_reply h.steps.is in
+    let now : (world_of new).situation p ≡ Showing (show_steps.next_at e e.stage h.steps.word) = ap (λ q. (world_of new).situation q) (sym h.steps.mine) ∙ h.steps.steps.situation ∙ show_on e e.stage h.steps.word goes in
+    stays_by old new p (Showing e) (Showing (show_steps.next_at e e.stage h.steps.word)) h.steps.at now tt (λ answer x. x)
 
 -- the same, of a recovery
 pub recovery_on : (e : PlainRecoverCall) (s : RecoverStage) (word : ℕ) → Stepped ≡ recovery_reply (recovery_steps.effect_at e s) → recovery_steps.after e s word ≡ Recovering (recovery_steps.next_at e s word)
@@ -106,7 +106,7 @@ migration_stays old new p h =
 pub step_stays : (old new : WorldValue) (p : ℕ) → IsSound (world_of old) → StepsBy old p Stepped new → StaysIn old p new
 step_stays old new p sound (edits h) = edit_stays old new p sound h
 step_stays old new p sound (works h) = work_stays old new p sound h
-step_stays old new p sound (reports h) = report_stays old new p h
+step_stays old new p sound (reports h) = show_stays old new p h
 step_stays old new p sound (recoveries h) = recovery_stays old new p h
 step_stays old new p sound (migrations h) = migration_stays old new p h
 
@@ -133,9 +133,9 @@ pub work_no : (answer : Answer) → IsWorkAnswer answer → IsMigrationAnswer an
 work_no (Work end) h k = k
 work_no _ h k = h
 
-pub report_no : (answer : Answer) → IsReportAnswer answer → IsMigrationAnswer answer → ⊥
-report_no (Report end) h k = k
-report_no _ h k = h
+pub show_no : (answer : Answer) → IsShowAnswer answer → IsMigrationAnswer answer → ⊥
+show_no (Show end) h k = k
+show_no _ h k = h
 
 pub recovery_no : (answer : Answer) → IsRecoveryAnswer answer → IsMigrationAnswer answer → ⊥
 recovery_no (Recovery end) h k = k
@@ -172,19 +172,19 @@ work_ends_in old new p answer h = by h.what h.steps h.is
     by (turns.Answers end) s is = turned s.work end s.mine s.works s.turn is
     by turns.GoesOn s is = absurd (cc)
 
--- what a report does at a stage that answers
-record ReportEnds (e : PlainReportCall) (s : ReportStage) (word : ℕ) (answer : Answer) : Type 0 where
+-- what a show does at a stage that answers
+record ShowEnds (e : PlainShowCall) (s : ShowStage) (word : ℕ) (answer : Answer) : Type 0 where
   after : show_steps.after e s word ≡ Idle (show_steps.rest_of e)
-  is : IsReportAnswer answer
+  is : IsShowAnswer answer
 
-report_answered : (e : PlainReportCall) (s : ReportStage) (word : ℕ) (answer : Answer) → Answered answer ≡ report_reply (show_steps.effect_at s) → ReportEnds e s word answer
-report_answered e (show_stages.Answer end) word answer is = record { after = refl; is = answer_is IsReportAnswer answer (Report end) is tt }
-report_answered e _ word answer is = absurd (cc)
+show_answered : (e : PlainShowCall) (s : ShowStage) (word : ℕ) (answer : Answer) → Answered answer ≡ show_reply (show_steps.effect_at s) → ShowEnds e s word answer
+show_answered e (show_stages.Answer end) word answer is = record { after = refl; is = answer_is IsShowAnswer answer (Show end) is tt }
+show_answered e _ word answer is = absurd (cc)
 
-report_ends : (old new : WorldValue) (p : ℕ) (answer : Answer) → ReportStepsBy old p (Answered answer) new → EndsIn old p answer new
-report_ends old new p answer h =
-    let g = report_answered h.steps.show h.steps.show.stage h.steps.word answer (h.is ∙ ap report_reply h.steps.is) in
-    ends_by old new p (show_steps.rest_of h.steps.show) (Reporting h.steps.show) answer h.steps.at (ap (λ q. (world_of new).situation q) (sym h.steps.mine) ∙ h.steps.steps.situation ∙ g.after) g.is (report_no answer g.is)
+show_ends : (old new : WorldValue) (p : ℕ) (answer : Answer) → ShowStepsBy old p (Answered answer) new → EndsIn old p answer new
+show_ends old new p answer h =
+    let g = show_answered h.steps.show h.steps.show.stage h.steps.word answer (h.is ∙ ap show_reply h.steps.is) in
+    ends_by old new p (show_steps.rest_of h.steps.show) (Showing h.steps.show) answer h.steps.at (ap (λ q. (world_of new).situation q) (sym h.steps.mine) ∙ h.steps.steps.situation ∙ g.after) g.is (show_no answer g.is)
 
 -- what a recovery does at a stage that answers
 record RecoveryEnds (e : PlainRecoverCall) (s : RecoverStage) (word : ℕ) (answer : Answer) : Type 0 where
@@ -226,6 +226,6 @@ migration_ends_in old new p answer h =
 pub step_ends : (old new : WorldValue) (p : ℕ) (answer : Answer) → StepsBy old p (Answered answer) new → EndsIn old p answer new
 step_ends old new p answer (edits h) = edit_ends old new p answer h
 step_ends old new p answer (works h) = work_ends_in old new p answer h
-step_ends old new p answer (reports h) = report_ends old new p answer h
+step_ends old new p answer (reports h) = show_ends old new p answer h
 step_ends old new p answer (recoveries h) = recovery_ends_in old new p answer h
 step_ends old new p answer (migrations h) = migration_ends_in old new p answer h

@@ -3,31 +3,31 @@ use Rattle.std.proofs.Common.{ℕ, ◌≡◌, ◌≢◌, ◌<◌, ◌≤◌, ◌
 use Rattle.std.specs.Prelude.{if◌then◌else◌}
 use Rattle.std.proofs.lemmas.Bool.Decides.{eqb_tells}
 use Rattle.ds_state.specs.Edits.{PlainEditCall}
-use Rattle.ds_state.specs.Works.{PlainWorkCall, PlainReportCall, PlainRecoverCall, PlainMigrateCall, IsCopied, old_words}
+use Rattle.ds_state.specs.Works.{PlainWorkCall, PlainShowCall, PlainRecoverCall, PlainMigrateCall, IsCopied, old_words}
 use Rattle.ds_state.specs.declared.migration.MigrateStage.{MigrateStage}
 use Rattle.ds_state.specs.declared.migration.MigrateStage.TheVariants as migrating
 use Rattle.ds_recover.specs.MigrationSteps as migrations
 use Rattle.ds_state.specs.Value.{WorldValue, world_of}
 use Rattle.ds_state.specs.World.{PlainWorld}
 use Rattle.ds_state.specs.CallsFit.{CallFits}
-use Rattle.ds_state.specs.ReportStages.{IsStage}
+use Rattle.ds_state.specs.ShowStages.{IsStage}
 use Rattle.ds_state.specs.Sound.{IsSound}
 use Rattle.ds_state.specs.declared.situation.Rest.{Rest}
 use Rattle.ds_state.specs.declared.situation.Situation.{Situation}
-use Rattle.ds_state.specs.declared.situation.Situation.TheVariants.{Idle, Stopped, Editing, Working, Recovering, Reporting, Migrating}
+use Rattle.ds_state.specs.declared.situation.Situation.TheVariants.{Idle, Stopped, Editing, Working, Recovering, Showing, Migrating}
 use Rattle.ds_state.specs.declared.work.WorkStage.{WorkStage}
 use Rattle.ds_state.specs.declared.work.WorkStage.TheVariants as works
 use Rattle.ds_state.specs.declared.spread.Spread.TheVariants as spreads
-use Rattle.ds_state.specs.declared.report.ReportStage.{ReportStage}
-use Rattle.ds_state.specs.declared.report.ReportStage.TheVariants as shows
+use Rattle.ds_state.specs.declared.show.ShowStage.{ShowStage}
+use Rattle.ds_state.specs.declared.show.ShowStage.TheVariants as shows
 use Rattle.ds_state.specs.declared.recovery.RecoverStage.{RecoverStage}
 use Rattle.ds_state.specs.declared.recovery.RecoverStage.TheVariants as recoveries
 use Rattle.ds_edit.proofs.Stays.{each_some, each_few}
 use Rattle.ds_work.specs.WorkRank.{left}
 use Rattle.ds_work.specs.WorkSteps.{offered}
 use Rattle.ds_work.proofs.Ranks.{offer_falls}
-use Rattle.ds_report.specs.ReportSteps.{rank_in}
-use Rattle.ds_report.proofs.ReportLaws as show_laws
+use Rattle.ds_show.specs.ShowSteps.{rank_in}
+use Rattle.ds_show.proofs.ShowLaws as show_laws
 use Rattle.ds_recover.specs.RecoverBegun.{MayRecover}
 use Rattle.ds_recover.specs.RecoverySteps.{rank}
 use Rattle.ds_recover.proofs.RecoveryRank as recovery_ranks
@@ -36,15 +36,15 @@ use Rattle.ds_core.specs.StepEvents as steps
 use Rattle.ds_core.specs.Takes.{Takes, WorldRun}
 use Rattle.ds_core.specs.WorkEvents.{TakesEntry}
 use Rattle.ds_core.proofs.Did as did_so
-use Rattle.ds_core.proofs.Did.{Did, did, IsNothing, IsOfStep, nothing, edit_begins, work_begins, report_begins, recovery_begins, migration_begins, offers, evicts, stops, crashes}
+use Rattle.ds_core.proofs.Did.{Did, did, IsNothing, IsOfStep, nothing, edit_begins, work_begins, show_begins, recovery_begins, migration_begins, offers, evicts, stops, crashes}
 use Rattle.ds_core.specs.Headline.{Happens}
 use Rattle.ds_eval.specs.Tasks.{PlainEvaluated}
 use Rattle.ds_core.specs.Own.{own_step, own_steps, IsUnanswered, AreUnanswered, IsUnhalted, AreUnhalted, IsInCall, left_in, steps_left}
 use Rattle.ds_core.specs.declared.event.Event.{Event}
-use Rattle.ds_core.specs.declared.event.Event.TheVariants.{BeginEdit, BeginWork, BeginReport, BeginRecover, BeginMigrate, Step, Offer, Evict, Stop, Crash}
+use Rattle.ds_core.specs.declared.event.Event.TheVariants.{BeginEdit, BeginWork, BeginShow, BeginRecover, BeginMigrate, Step, Offer, Evict, Stop, Crash}
 use Rattle.ds_core.specs.declared.reply.Reply.{Reply}
 use Rattle.ds_core.specs.declared.reply.Reply.TheVariants as reply
-use Rattle.ds_core.proofs.Turns.{IsTurn, edit_turn, report_turn, recovery_turn, migration_turn, work_leaves, work_begins_leaves, offer_leaves}
+use Rattle.ds_core.proofs.Turns.{IsTurn, edit_turn, show_turn, recovery_turn, migration_turn, work_leaves, work_begins_leaves, offer_leaves}
 use Rattle.ds_core.proofs.Bound.{same_layout, run_layout, run_sound}
 use Rattle.ds_core.proofs.Counts.{steps_on}
 use Rattle.ds_core.proofs.CallKinds.{step_stays, step_ends}
@@ -54,7 +54,7 @@ use Rattle.ds_core.specs.Kinds.{AnswersTo}
 pub step_turn : (old new : WorldValue) (q : ℕ) (r : Reply) → IsSound (world_of old) → steps.StepsBy old q r new → IsTurn q old new
 step_turn old new q r sound (steps.edits h) = edit_turn old new q r sound h
 step_turn old new q r sound (steps.works h) = (work_leaves old new q r sound h).turn
-step_turn old new q r sound (steps.reports h) = report_turn old new q r sound h
+step_turn old new q r sound (steps.reports h) = show_turn old new q r sound h
 step_turn old new q r sound (steps.recoveries h) = recovery_turn old new q r sound h
 step_turn old new q r sound (steps.migrations h) = migration_turn old new q r sound h
 
@@ -64,7 +64,7 @@ not_free Stopped calls free = calls
 not_free (Editing e) calls free = free
 not_free (Working e) calls free = free
 not_free (Recovering e) calls free = free
-not_free (Reporting e) calls free = free
+not_free (Showing e) calls free = free
 not_free (Migrating e) calls free = free
 
 not_own : (p q : ℕ) → q ≢ p → (q == p) ≡ false
@@ -77,7 +77,7 @@ no_step p (Step q) (reply.Answered answer) none = absurd none
 no_step p (Step q) _ none = refl
 no_step p (BeginEdit request) r none = refl
 no_step p (BeginWork q cell) r none = refl
-no_step p (BeginReport q) r none = refl
+no_step p (BeginShow q) r none = refl
 no_step p (BeginRecover q) r none = refl
 no_step p (BeginMigrate q) r none = refl
 no_step p (Offer value) r none = refl
@@ -130,7 +130,7 @@ module _ (p : ℕ) (old new : WorldValue) (sound : IsSound (world_of old)) (call
   by _ _ (nothing event r none is same) u = subst (λ n. OwnMove p old new n) (sym (no_step p event r none)) (unchanged same)
   by _ _ (edit_begins q n h) u = begins h.begun.edit.process _ h.begun.begins.idle h.begun.begins.others
   by _ _ (work_begins q cell h) u = begins q h.begun.next (ap (λ x. (world_of old).situation x) (sym h.begun.process_is) ∙ h.begun.begins.was) (work_begins_leaves old new q cell sound h).turn.others
-  by _ _ (report_begins q h) u = begins q h.begun.next h.begun.begins.idle h.begun.begins.others
+  by _ _ (show_begins q h) u = begins q h.begun.next h.begun.begins.idle h.begun.begins.others
   by _ _ (migration_begins q h) u = others q (λ same. not_free ((world_of old).situation p) calls (subst (λ x. MayRecover ((world_of old).situation x)) same (subst MayRecover (sym h.begun.stopped) tt))) h.begun.others
   by _ _ (recovery_begins q h) u = others q (λ same. not_free ((world_of old).situation p) calls (subst (λ x. MayRecover ((world_of old).situation x)) same h.begun.free)) h.begun.begins.others
   by _ _ (did_so.steps q r is h) u = by_turn q r is u h
@@ -144,7 +144,7 @@ module _ (p : ℕ) (old new : WorldValue) (sound : IsSound (world_of old)) (call
 
 -- ---- a step left, for each of them
 
--- the process is still in its call, so many steps of its own later
+-- the process is still in its call, n steps of its own later
 record StaysIn (p steps : ℕ) (old new : WorldValue) : Type 0 where
   calls : IsInCall ((world_of new).situation p)
   fewer : steps + steps_left p new ≤ steps_left p old
@@ -209,7 +209,7 @@ work_some r e (works.FlushCleared end) = omega arith
 work_some r e (works.BackCleared end) = omega arith
 work_some r e (works.Answer end) = omega arith
 
-show_some : (e : PlainReportCall) (s : ReportStage) → IsStage e s → 0 < rank_in e.processes e.cells s
+show_some : (e : PlainShowCall) (s : ShowStage) → IsStage e s → 0 < rank_in e.processes e.cells s
 show_some e (shows.LoadAnnounce i) h = let low = h.0 in omega (arith, low)
 show_some e (shows.LoadMark i) h = let low = h.0 in omega (arith, low)
 show_some e (shows.LoadValue i) h = let low = h.0 in omega (arith, low)
@@ -267,7 +267,7 @@ some_left w p Stopped fits calls = absurd calls
 some_left w p (Editing e) fits calls = each_some e fits.is
 some_left w p (Working e) fits calls = work_some e.cells e e.stage
 some_left w p (Recovering e) fits calls = recovery_some e.cells e.stage
-some_left w p (Reporting e) fits calls = show_some e e.stage fits.1.is.stage
+some_left w p (Showing e) fits calls = show_some e e.stage fits.1.is.stage
 some_left w p (Migrating e) fits calls = migration_some (old_words e.processes) e.stage
 
 -- a call that is not answered has made fewer steps than it had left
@@ -305,11 +305,11 @@ work_left v p e at first =
     let is : steps_left p v ≡ left e.cells e works.LoadMark = ap left_in at ∙ ap (λ s. left e.cells e s) first in
     omega (arith, is)
 
--- a report has at most two steps left for each process, four for each cell, and the answer's
-pub report_left : (v : WorldValue) (p : ℕ) (e : PlainReportCall) → (world_of v).situation p ≡ Reporting e → steps_left p v ≤ 2 * e.processes + 4 * e.cells + 1
-report_left v p e at =
+-- a show has at most two steps left for each process, four for each cell, and the answer's
+pub show_left : (v : WorldValue) (p : ℕ) (e : PlainShowCall) → (world_of v).situation p ≡ Showing e → steps_left p v ≤ 2 * e.processes + 4 * e.cells + 1
+show_left v p e at =
     let few = show_laws.each_few e in
-    let is : steps_left p v ≡ left_in (Reporting e) = ap left_in at in
+    let is : steps_left p v ≡ left_in (Showing e) = ap left_in at in
     omega (arith, few, is)
 
 -- a recovery has at most 3 n + 30 steps left for each of n cells, and 23 more
@@ -343,7 +343,7 @@ one p (Step q) (reply.Answered a) on = elim (eqb_tells q p) [
 one p (Step q) _ on = inl tt
 one p (BeginEdit q) r on = inl tt
 one p (BeginWork q cell) r on = inl tt
-one p (BeginReport q) r on = inl tt
+one p (BeginShow q) r on = inl tt
 one p (BeginRecover q) r on = inl tt
 one p (BeginMigrate q) r on = inl tt
 one p (Offer value) r on = inl tt

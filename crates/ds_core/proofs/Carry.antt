@@ -94,7 +94,7 @@ module _ (old : WorldValue) (events : List Event) (replies : List Reply) (new : 
   pub at_place : (k : ℕ) (event : Event) (reply : Reply) → Happens events replies k event reply → StepFits k old.sheet.layout.shape (run.moment k) event reply (run.moment (k + 1))
   at_place k event reply happens = let same : 0 + k ≡ k = omega arith in subst (λ n. StepFits n old.sheet.layout.shape (run.moment k) event reply (run.moment (k + 1))) same (run.steps k event reply happens)
 
-  -- from the empty ledger on, a run fits whose reports and works do, and whose forgotten edits were not announced
+  -- from the empty ledger on, a run fits whose shows and works do, and whose forgotten edits were not announced
   unfoldable pub fits_all : ReportsFit run.moment events replies → WorksFit run.moment events replies → ForgottenFit run.moment events replies → RunFits old events replies new
   fits_all reports works forgotten = record {
     moment = run.moment;

@@ -42,7 +42,7 @@ found_at [] k lt = absurd (omega arith)
 found_at (x ∷ xs) zero lt = (x, refl)
 found_at (x ∷ xs) (suc k) lt = found_at xs k (omega arith)
 
--- what holds of the number behind a place holds of its successor
+-- what holds of the number after a place holds of its successor
 pub up : (P : ℕ → Type 0) (k : ℕ) → P (k + 1) → P (suc k)
 up P k h = let same : k + 1 ≡ suc k = omega arith in subst P same h
 
@@ -207,7 +207,7 @@ module _ (old : WorldValue) (events : List Event) (replies : List Reply) (new : 
   orderly zero lt = subst (λ (m : Moment). Orderly 0 m.ledger) (sym run.first) (orderly_empty 0)
   orderly (suc k) lt = up (λ i. Orderly i (at i)) k (orderly_next k (at k) (at (k + 1)) (orderly k (omega arith)) (the_move k (omega arith)).moves)
 
-  -- each edit that is open or counts was begun, at its place
+  -- each edit that is open or linearized was begun, at its place
   pub record IsAsked (e : Placed) : Type 0 where
     pub event : Event
     pub reply : Reply

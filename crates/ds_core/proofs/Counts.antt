@@ -2,29 +2,29 @@
 use Rattle.std.proofs.Common.{ℕ, ◌≡◌, ◌<◌, ◌+◌, [], refl, ap, sym, ◌∙◌, subst, arith}
 use Rattle.ds_state.specs.declared.turn.Turn.{Turn}
 use Rattle.ds_state.specs.declared.recovery.RecoveryEnd.{RecoveryEnd}
-use Rattle.ds_state.specs.declared.report.ReportEnd.{ReportEnd}
+use Rattle.ds_state.specs.declared.show.ShowEnd.{ShowEnd}
 use Rattle.std.specs.Prelude.{Option, Some, None, slice_index_or}
 use Rattle.std.proofs.lemmas.List.{get_or-set_other}
 use Rattle.ds_state.specs.Value.{WorldValue, world_of, SameReports}
 use Rattle.ds_state.specs.Sound.{IsSound}
 use Rattle.ds_state.specs.Reports.{PlainReports}
-use Rattle.ds_state.specs.Works.{PlainReportCall}
+use Rattle.ds_state.specs.Works.{PlainShowCall}
 use Rattle.ds_state.specs.CallsFit.{CallFits}
-use Rattle.ds_state.specs.declared.report.ReportEnd.TheVariants as ends
-use Rattle.ds_state.specs.declared.report.ReportStage.{ReportStage}
-use Rattle.ds_state.specs.declared.report.ReportStage.TheVariants as stages
+use Rattle.ds_state.specs.declared.show.ShowEnd.TheVariants as ends
+use Rattle.ds_state.specs.declared.show.ShowStage.{ShowStage}
+use Rattle.ds_state.specs.declared.show.ShowStage.TheVariants as stages
 use Rattle.ds_state.specs.declared.situation.Situation.{Situation}
-use Rattle.ds_state.specs.declared.situation.Situation.TheVariants.{Recovering, Reporting, Migrating}
+use Rattle.ds_state.specs.declared.situation.Situation.TheVariants.{Recovering, Showing, Migrating}
 use Rattle.ds_state.specs.declared.stage.Outcome.{Outcome}
 use Rattle.ds_state.specs.declared.stage.Outcome.TheVariants as outcome
 use Rattle.ds_edit.specs.EditSteps.{rank}
 use Rattle.ds_state.specs.EditEndings.{outcome_at}
-use Rattle.ds_state.specs.declared.answer.Answer.TheVariants.{Report}
-use Rattle.ds_state.specs.declared.report.ReportEnd.TheVariants.{Settled}
+use Rattle.ds_state.specs.declared.answer.Answer.TheVariants.{Show}
+use Rattle.ds_state.specs.declared.show.ShowEnd.TheVariants.{Settled}
 use Rattle.ds_state.specs.declared.turn.Turn.TheVariants as turns
-use Rattle.ds_report.specs.ReportSteps as steps
-use Rattle.ds_report.specs.ReportTakes as shows
-use Rattle.ds_report.proofs.ReportKeeps as keeping
+use Rattle.ds_show.specs.ShowSteps as steps
+use Rattle.ds_show.specs.ShowTakes as shows
+use Rattle.ds_show.proofs.ShowKeeps as keeping
 use Rattle.ds_core.specs.MigrationEvents.{MigrationStepsBy, migration_reply}
 use Rattle.ds_core.specs.EditEvents.{reply_with, EditStepsBy}
 use Rattle.ds_edit.specs.EditTakes.{done_with}
@@ -47,17 +47,17 @@ use Rattle.ds_work.specs.WorkTakes as work_events
 use Rattle.ds_work.specs.WorkRank as work_ranks
 use Rattle.ds_work.proofs.Turning.{turns_fall}
 use Rattle.ds_core.proofs.Turns.{recovery_turn}
-use Rattle.ds_core.specs.ReportEvents.{report_reply, ReportStepsBy}
+use Rattle.ds_core.specs.ShowEvents.{show_reply, ShowStepsBy}
 use Rattle.ds_core.specs.WorkEvents.{work_reply, WorkStepsBy}
 use Rattle.ds_core.specs.RecoveryEvents.{recovery_reply, RecoveryStepsBy}
 use Rattle.ds_core.specs.StepEvents.{edits, works, reports, recoveries, migrations}
 use Rattle.ds_core.specs.Takes.{Takes}
 use Rattle.ds_core.proofs.Did as did_so
-use Rattle.ds_core.proofs.Did.{Did, did, IsNothing, IsOfStep, nothing, edit_begins, work_begins, report_begins, recovery_begins, migration_begins, offers, evicts, stops, crashes}
+use Rattle.ds_core.proofs.Did.{Did, did, IsNothing, IsOfStep, nothing, edit_begins, work_begins, show_begins, recovery_begins, migration_begins, offers, evicts, stops, crashes}
 use Rattle.ds_core.specs.Own.{IsInCall, left_in, steps_left}
 use Rattle.ds_core.specs.Counts.{done_of, settled_of, IsReplyTo, KeepsReports}
 use Rattle.ds_core.specs.declared.event.Event.{Event}
-use Rattle.ds_core.specs.declared.event.Event.TheVariants.{BeginEdit, BeginWork, BeginReport, BeginRecover, BeginMigrate, Step, Offer, Evict, Stop, Crash}
+use Rattle.ds_core.specs.declared.event.Event.TheVariants.{BeginEdit, BeginWork, BeginShow, BeginRecover, BeginMigrate, Step, Offer, Evict, Stop, Crash}
 use Rattle.ds_core.specs.declared.reply.Reply.{Reply}
 use Rattle.ds_core.specs.declared.reply.Reply.TheVariants.{Begun, Entered, Stepped, Answered, Evicted, Stopped, Crashed}
 use Rattle.ds_core.proofs.Bound.{edit_goes_on}
@@ -77,12 +77,12 @@ outcome_adds processes number done (Some (outcome.Overtaken noted seen)) = omega
 step_adds : (old new : WorldValue) (p : ℕ) (reply : Reply) → EditStepsBy old p reply new → new.done ≡ old.done + done_of reply
 step_adds old new p reply h = h.steps.done ∙ outcome_adds old.sheet.layout.processes h.steps.edit.number old.done (outcome_at h.steps.edit.stage) ∙ ap (λ (r : Reply). old.done + done_of r) (sym (replied old new p reply h))
 
--- where no report changes, none but an answered one does
+-- where no show changes, none but an answered one does
 keeps : (old : WorldValue) (event : Event) (reply : Reply) (new : WorldValue) → new.reports ≡ old.reports → KeepsReports old event reply new
-keeps old (Step p) (Answered (Report Settled)) new same = λ q ne. ap (λ (r : PlainReports). slice_index_or r.values q []) same
+keeps old (Step p) (Answered (Show Settled)) new same = λ q ne. ap (λ (r : PlainReports). slice_index_or r.values q []) same
 keeps old event reply new same = same
 
--- an event that adds to no report
+-- an event that adds to no show
 adds_none : (old new : WorldValue) (event : Event) (reply : Reply) → IsReplyTo event reply → new.done ≡ old.done + done_of reply → settled_of reply ≡ 0 → SameReports old new → Adds old event reply new
 adds_none old new event reply is done none_done same = record { reply_is = is; done = done; settled = (let s = same.settled in omega (arith, s, none_done)); reports = keeps old event reply new same.reports }
 
@@ -97,7 +97,7 @@ unchanged old new event reply is none_done none_settled same = record {
   reports = keeps old event reply new (ap (λ (v : WorldValue). v.reports) same);
 }
 
--- an edit settles no report
+-- an edit settles no show
 edit_settles_none : (processes number : ℕ) (o : Option Outcome) → settled_of (reply_with processes number o) ≡ 0
 edit_settles_none processes number None = refl
 edit_settles_none processes number (Some outcome.Done) = refl
@@ -106,27 +106,27 @@ edit_settles_none processes number (Some (outcome.Overtaken noted seen)) = refl
 edit_adds : (old new : WorldValue) (p : ℕ) (reply : Reply) → EditStepsBy old p reply new → IsReplyTo (Step p) reply → Adds old (Step p) reply new
 edit_adds old new p reply h is = adds_none old new (Step p) reply is (step_adds old new p reply h) (ap settled_of (replied old new p reply h) ∙ edit_settles_none old.sheet.layout.processes h.steps.edit.number (outcome_at h.steps.edit.stage)) h.steps.reports
 
--- a report answers nothing as Done, and settles what it answers as Settled
-report_done : (what : Turn ReportEnd) → done_of (report_reply what) ≡ 0
-report_done turns.GoesOn = refl
-report_done (turns.Answers end) = refl
+-- a show answers nothing as Done, and settles what it answers as Settled
+show_done : (what : Turn ShowEnd) → done_of (show_reply what) ≡ 0
+show_done turns.GoesOn = refl
+show_done (turns.Answers end) = refl
 
-report_settles : (what : Turn ReportEnd) → settled_of (report_reply what) ≡ shows.settled_by what
-report_settles turns.GoesOn = refl
-report_settles (turns.Answers ends.Settled) = refl
-report_settles (turns.Answers (ends.Unsettled place word)) = refl
+show_settles : (what : Turn ShowEnd) → settled_of (show_reply what) ≡ shows.settled_by what
+show_settles turns.GoesOn = refl
+show_settles (turns.Answers ends.Settled) = refl
+show_settles (turns.Answers (ends.Unsettled place word)) = refl
 
-report_keeps : (old new : WorldValue) (p : ℕ) (what : Turn ReportEnd) → shows.StepsBy old p what new → KeepsReports old (Step p) (report_reply what) new
-report_keeps old new p turns.GoesOn h = h.reports
-report_keeps old new p (turns.Answers ends.Settled) h = λ q ne. ap (λ (r : PlainReports). slice_index_or r.values q []) h.reports ∙ get_or-set_other old.reports.values h.show.process q _ [] (λ same. ne (same ∙ h.mine))
-report_keeps old new p (turns.Answers (ends.Unsettled place word)) h = h.reports
+show_keeps : (old new : WorldValue) (p : ℕ) (what : Turn ShowEnd) → shows.StepsBy old p what new → KeepsReports old (Step p) (show_reply what) new
+show_keeps old new p turns.GoesOn h = h.reports
+show_keeps old new p (turns.Answers ends.Settled) h = λ q ne. ap (λ (r : PlainReports). slice_index_or r.values q []) h.reports ∙ get_or-set_other old.reports.values h.show.process q _ [] (λ same. ne (same ∙ h.mine))
+show_keeps old new p (turns.Answers (ends.Unsettled place word)) h = h.reports
 
-report_adds : (old new : WorldValue) (p : ℕ) (reply : Reply) → ReportStepsBy old p reply new → IsReplyTo (Step p) reply → Adds old (Step p) reply new
-report_adds old new p reply h is = subst (λ (r : Reply). Adds old (Step p) r new) (sym h.is) (record {
+show_adds : (old new : WorldValue) (p : ℕ) (reply : Reply) → ShowStepsBy old p reply new → IsReplyTo (Step p) reply → Adds old (Step p) reply new
+show_adds old new p reply h is = subst (λ (r : Reply). Adds old (Step p) r new) (sym h.is) (record {
   reply_is = subst (λ (r : Reply). IsReplyTo (Step p) r) h.is is;
-  done = (let d = h.steps.done in omega (arith, d, report_done h.what));
-  settled = (let s = h.steps.settled in omega (arith, s, report_settles h.what));
-  reports = report_keeps old new p h.what h.steps;
+  done = (let d = h.steps.done in omega (arith, d, show_done h.what));
+  settled = (let s = h.steps.settled in omega (arith, s, show_settles h.what));
+  reports = show_keeps old new p h.what h.steps;
 })
 
 -- work and a recovery answer nothing as Done or Settled
@@ -173,12 +173,12 @@ adds_by : (old new : WorldValue) (event : Event) (reply : Reply) → Did old new
 adds_by old new _ _ (nothing event reply none is same) = let zero = nothing_adds reply none in unchanged old new event reply is zero.0 zero.1 same
 adds_by old new _ _ (edit_begins r number h) = adds_none old new (BeginEdit r) (Begun number) tt (none old new h.done) refl h.reports
 adds_by old new _ _ (work_begins p cell h) = adds_none old new (BeginWork p cell) Entered tt (none old new h.done) refl h.reports
-adds_by old new _ _ (report_begins p h) = adds_none old new (BeginReport p) Entered tt (none old new h.done) refl h.reports
+adds_by old new _ _ (show_begins p h) = adds_none old new (BeginShow p) Entered tt (none old new h.done) refl h.reports
 adds_by old new _ _ (recovery_begins p h) = adds_none old new (BeginRecover p) Entered tt (none old new h.done) refl h.reports
 adds_by old new _ _ (migration_begins p h) = adds_none old new (BeginMigrate p) Entered tt (none old new h.done) refl h.reports
 adds_by old new _ _ (did_so.steps p reply is (edits h)) = edit_adds old new p reply h (step_reply p reply is)
 adds_by old new _ _ (did_so.steps p reply is (works h)) = work_adds old new p reply h (step_reply p reply is)
-adds_by old new _ _ (did_so.steps p reply is (reports h)) = report_adds old new p reply h (step_reply p reply is)
+adds_by old new _ _ (did_so.steps p reply is (reports h)) = show_adds old new p reply h (step_reply p reply is)
 adds_by old new _ _ (did_so.steps p reply is (recoveries h)) = recovery_adds old new p reply h (step_reply p reply is)
 adds_by old new _ _ (did_so.steps p reply is (migrations h)) = migration_adds old new p reply h (step_reply p reply is)
 adds_by old new _ _ (offers value h) = adds_none old new (Offer value) Stepped tt (none old new h.done) refl h.reports
@@ -186,7 +186,7 @@ adds_by old new _ _ (evicts word h) = adds_none old new (Evict word) Evicted tt 
 adds_by old new _ _ (stops p h) = adds_none old new (Stop p) Stopped tt (none old new h.done) refl h.reports
 adds_by old new _ _ (crashes h) = adds_none old new Crash Crashed tt (none old new h.done) refl h.reports
 
--- an event adds to the counts, and keeps of the reports, what its reply says
+-- an event adds to the counts, and keeps of the snapshots, what its reply says
 pub adds : (old new : WorldValue) (event : Event) (reply : Reply) → Takes old event reply new → Adds old event reply new
 adds old new event reply h = adds_by old new event reply (did old new event reply h)
 
@@ -204,24 +204,24 @@ edit_falls old new p sound h =
     let b : steps_left p new ≡ rank g.edit g.edit.stage = ap left_in g.edits in
     record { calls = subst IsInCall (sym g.edits) tt; fewer = omega (arith, few, a, b) }
 
-goes_on : (what : Turn ReportEnd) → Stepped ≡ report_reply what → what ≡ turns.GoesOn
+goes_on : (what : Turn ShowEnd) → Stepped ≡ show_reply what → what ≡ turns.GoesOn
 goes_on turns.GoesOn is = refl
 goes_on (turns.Answers end) is = absurd (cc)
 
-after_on : (e : PlainReportCall) (s : ReportStage) (word : ℕ) → steps.effect_at s ≡ turns.GoesOn → steps.after e s word ≡ Reporting (steps.next_at e s word)
+after_on : (e : PlainShowCall) (s : ShowStage) (word : ℕ) → steps.effect_at s ≡ turns.GoesOn → steps.after e s word ≡ Showing (steps.next_at e s word)
 after_on e (stages.Answer end) word is = absurd (cc)
 after_on e _ word is = refl
 
-falls_on : (e : PlainReportCall) (s : ReportStage) (f : PlainReportCall) → steps.effect_at s ≡ turns.GoesOn → steps.Falls e s f → steps.rank f < steps.rank (steps.at e s)
+falls_on : (e : PlainShowCall) (s : ShowStage) (f : PlainShowCall) → steps.effect_at s ≡ turns.GoesOn → steps.Falls e s f → steps.rank f < steps.rank (steps.at e s)
 falls_on e (stages.Answer end) f is h = absurd (cc)
 falls_on e _ f is h = h
 
-report_falls : (old new : WorldValue) (p : ℕ) → IsSound (world_of old) → ReportStepsBy old p Stepped new → StepsOn p old new
-report_falls old new p sound h =
-    let e : PlainReportCall = h.steps.show in
+show_falls : (old new : WorldValue) (p : ℕ) → IsSound (world_of old) → ShowStepsBy old p Stepped new → StepsOn p old new
+show_falls old new p sound h =
+    let e : PlainShowCall = h.steps.show in
     let goes : steps.effect_at e.stage ≡ turns.GoesOn = sym h.steps.is ∙ goes_on h.what h.is in
     let fits = subst (λ (s : Situation). CallFits (world_of old) p s) h.steps.at (sound.calls p h.steps.there) in
-    let now : (world_of new).situation p ≡ Reporting (steps.next_at e e.stage h.steps.word) = ap (λ q. (world_of new).situation q) (sym h.steps.mine) ∙ h.steps.steps.situation ∙ after_on e e.stage h.steps.word goes in
+    let now : (world_of new).situation p ≡ Showing (steps.next_at e e.stage h.steps.word) = ap (λ q. (world_of new).situation q) (sym h.steps.mine) ∙ h.steps.steps.situation ∙ after_on e e.stage h.steps.word goes in
     let fall : steps.rank (steps.next_at e e.stage h.steps.word) < steps.rank e = falls_on e e.stage (steps.next_at e e.stage h.steps.word) goes (keeping.falls e e.stage h.steps.word fits.1.is.stage) in
     let a : steps_left p old ≡ steps.rank e = ap left_in h.steps.at in
     let b : steps_left p new ≡ steps.rank (steps.next_at e e.stage h.steps.word) = ap left_in now in
@@ -302,11 +302,11 @@ migration_falls old new p sound h =
 pub steps_on : (old new : WorldValue) (p : ℕ) → IsSound (world_of old) → Takes old (Step p) Stepped new → StepsOn p old new
 steps_on old new p sound (edits h) = edit_falls old new p sound h
 steps_on old new p sound (works h) = work_falls old new p sound h
-steps_on old new p sound (reports h) = report_falls old new p sound h
+steps_on old new p sound (reports h) = show_falls old new p sound h
 steps_on old new p sound (recoveries h) = recovery_falls old new p sound h
 steps_on old new p sound (migrations h) = migration_falls old new p sound h
 
--- so of whatever event this is
+-- each event does so, whatever it is
 pub falls_by : (old new : WorldValue) (event : Event) (reply : Reply) → IsSound (world_of old) → Takes old event reply new → (p : ℕ) → event ≡ Step p → reply ≡ Stepped → steps_left p new < steps_left p old
 falls_by old new event reply sound takes p is stepped =
     (steps_on old new p sound (subst (λ (r : Reply). Takes old (Step p) r new) stepped (subst (λ (x : Event). Takes old x reply new) is takes))).fewer

@@ -5,7 +5,7 @@ use Rattle.ds_eval.specs.Tasks.{PlainEvaluated}
 use Rattle.ds_layout.specs.declared.place.Place.{Place}
 use Rattle.ds_state.specs.Value.{WorldValue}
 use Rattle.ds_core.specs.Requests.{PlainRequest}
-use Rattle.ds_core.specs.ReportEvents.{ReportBegins}
+use Rattle.ds_core.specs.ShowEvents.{ShowBegins}
 use Rattle.ds_core.specs.WorkEvents.{WorkBegins, TakesEntry}
 use Rattle.ds_core.specs.RecoveryEvents.{RecoveryBegins}
 use Rattle.ds_core.specs.MigrationEvents.{MigrationBegins}
@@ -14,7 +14,7 @@ use Rattle.ds_core.specs.StopEvents.{StopsProcess, CrashesWorld}
 use Rattle.ds_core.specs.Takes.{EditBegins, Takes}
 use Rattle.ds_core.specs.Counts.{IsReplyTo}
 use Rattle.ds_core.specs.declared.event.Event.{Event}
-use Rattle.ds_core.specs.declared.event.Event.TheVariants.{BeginEdit, BeginWork, BeginReport, BeginRecover, BeginMigrate, Step, Offer, Evict, Stop, Crash}
+use Rattle.ds_core.specs.declared.event.Event.TheVariants.{BeginEdit, BeginWork, BeginShow, BeginRecover, BeginMigrate, Step, Offer, Evict, Stop, Crash}
 use Rattle.ds_core.specs.declared.reply.Reply.{Reply}
 use Rattle.ds_core.specs.declared.reply.Reply.TheVariants.{Begun, Entered, Refused, Stepped, Answered, WrongTask, Evicted, Stopped, Crashed, NotEnabled}
 
@@ -49,7 +49,7 @@ pub data Did (old new : WorldValue) : Event → Reply → Type 0 where
   nothing : (event : Event) (reply : Reply) → IsNothing reply → IsReplyTo event reply → new ≡ old → Did old new event reply
   edit_begins : (r : PlainRequest) (number : ℕ) → EditBegins old r number new → Did old new (BeginEdit r) (Begun number)
   work_begins : (p : ℕ) (cell : Cell) → WorkBegins old p cell new → Did old new (BeginWork p cell) Entered
-  report_begins : (p : ℕ) → ReportBegins old p new → Did old new (BeginReport p) Entered
+  show_begins : (p : ℕ) → ShowBegins old p new → Did old new (BeginShow p) Entered
   recovery_begins : (p : ℕ) → RecoveryBegins old p new → Did old new (BeginRecover p) Entered
   migration_begins : (p : ℕ) → MigrationBegins old p new → Did old new (BeginMigrate p) Entered
   steps : (p : ℕ) (reply : Reply) → IsOfStep reply → StepsBy old p reply new → Did old new (Step p) reply
@@ -68,10 +68,10 @@ did old new (BeginWork p cell) Entered h = work_begins p cell h
 did old new (BeginWork p cell) (Refused why) h = nothing (BeginWork p cell) (Refused why) tt tt h.same
 did old new (BeginWork p cell) NotEnabled h = nothing (BeginWork p cell) NotEnabled tt tt h.same
 did old new (BeginWork p cell) _ h = absurd h
-did old new (BeginReport p) Entered h = report_begins p h
-did old new (BeginReport p) (Refused why) h = nothing (BeginReport p) (Refused why) tt tt h.same
-did old new (BeginReport p) NotEnabled h = nothing (BeginReport p) NotEnabled tt tt h.same
-did old new (BeginReport p) _ h = absurd h
+did old new (BeginShow p) Entered h = show_begins p h
+did old new (BeginShow p) (Refused why) h = nothing (BeginShow p) (Refused why) tt tt h.same
+did old new (BeginShow p) NotEnabled h = nothing (BeginShow p) NotEnabled tt tt h.same
+did old new (BeginShow p) _ h = absurd h
 did old new (BeginRecover p) Entered h = recovery_begins p h
 did old new (BeginRecover p) (Refused why) h = nothing (BeginRecover p) (Refused why) tt tt h.same
 did old new (BeginRecover p) NotEnabled h = nothing (BeginRecover p) NotEnabled tt tt h.same

@@ -3,7 +3,7 @@ use Rattle.std.proofs.Common.{ℕ, ◌≡◌, ◌≢◌, ◌+◌, ◌==◌, refl
 use Rattle.ds_state.specs.declared.turn.Turn.{Turn}
 use Rattle.ds_state.specs.declared.migration.MigrateEnd.{MigrateEnd}
 use Rattle.ds_state.specs.declared.recovery.RecoveryEnd.{RecoveryEnd}
-use Rattle.ds_state.specs.declared.report.ReportEnd.{ReportEnd}
+use Rattle.ds_state.specs.declared.show.ShowEnd.{ShowEnd}
 use Rattle.std.specs.Prelude.{Contains, Bool, nat_lt, if◌then◌else◌}
 use Rattle.std.proofs.lemmas.Bool.{cases_eq}
 use Rattle.ds_words.specs.Memory.{Memory, SameMemory}
@@ -19,13 +19,13 @@ use Rattle.ds_state.specs.Value.{WorldValue, world_of, IsGood}
 use Rattle.ds_state.specs.declared.stage.Outcome.{Outcome}
 use Rattle.ds_state.specs.declared.stage.Outcome.TheVariants as outcome
 use Rattle.ds_state.specs.declared.stage.Stage.TheVariants.{Answer}
-use Rattle.ds_state.specs.declared.situation.Situation.TheVariants.{Idle, Editing, Reporting}
-use Rattle.ds_state.specs.Works.{PlainReportCall}
-use Rattle.ds_state.specs.KnownReport.{noted, reads_pending, reads_clean}
-use Rattle.ds_state.specs.declared.report.ReportStage.{ReportStage}
-use Rattle.ds_state.specs.declared.report.ReportStage.TheVariants as stages
+use Rattle.ds_state.specs.declared.situation.Situation.TheVariants.{Idle, Editing, Showing}
+use Rattle.ds_state.specs.Works.{PlainShowCall}
+use Rattle.ds_state.specs.KnownShow.{noted, reads_pending, reads_clean}
+use Rattle.ds_state.specs.declared.show.ShowStage.{ShowStage}
+use Rattle.ds_state.specs.declared.show.ShowStage.TheVariants as stages
 use Rattle.ds_state.specs.declared.turn.Turn.TheVariants as turns
-use Rattle.ds_report.specs.ReportSteps as shows
+use Rattle.ds_show.specs.ShowSteps as shows
 use Rattle.ds_edit.specs.EditTakes.{rest_before}
 use Rattle.ds_edit.specs.EditSteps.{access_at}
 use Rattle.ds_state.specs.EditEndings.{end_of, outcome_at, other_of}
@@ -35,7 +35,7 @@ use Rattle.ds_state.specs.declared.answer.Answer.TheVariants.{Edit}
 use Rattle.ds_state.specs.declared.answer.EditEnd.TheVariants.{Done, Overtaken}
 use Rattle.ds_core.specs.MigrationEvents.{MigrationStepsBy, MigrationBegins, migration_reply}
 use Rattle.ds_core.specs.EditEvents.{EditStepsBy}
-use Rattle.ds_core.specs.ReportEvents.{report_reply, ReportBegins, ReportStepsBy}
+use Rattle.ds_core.specs.ShowEvents.{show_reply, ShowBegins, ShowStepsBy}
 use Rattle.ds_core.specs.StepEvents.{edits, works, reports, recoveries, migrations}
 use Rattle.ds_core.specs.WorkEvents.{work_reply, WorkStepsBy, WorkBegins, TakesEntry}
 use Rattle.ds_core.specs.RecoveryEvents.{recovery_reply, RecoveryStepsBy, RecoveryBegins}
@@ -44,7 +44,7 @@ use Rattle.ds_core.specs.Takes.{Takes}
 use Rattle.ds_core.specs.Moments.{Ledger}
 use Rattle.ds_core.specs.LedgerSteps.{IsOvertakenBy, OneAccess, WordsMove, AnswerMoves, LedgerMoves}
 use Rattle.ds_core.specs.declared.event.Event.{Event}
-use Rattle.ds_core.specs.declared.event.Event.TheVariants.{BeginEdit, BeginWork, BeginReport, BeginRecover, BeginMigrate, Step, Offer, Evict, Stop, Crash}
+use Rattle.ds_core.specs.declared.event.Event.TheVariants.{BeginEdit, BeginWork, BeginShow, BeginRecover, BeginMigrate, Step, Offer, Evict, Stop, Crash}
 use Rattle.ds_core.specs.declared.reply.Reply.{Reply}
 use Rattle.ds_core.specs.declared.reply.Reply.TheVariants.{Begun, Entered, Refused, Stepped, Answered, WrongTask, Evicted, Stopped, Crashed, NotEnabled}
 use Rattle.ds_core.proofs.Traces as traces
@@ -55,13 +55,13 @@ use Rattle.ds_core.proofs.Bound.{unanswered_at, after_on, same_layout}
 use Rattle.ds_core.proofs.Solo.{some_outcome, after_answer}
 use Rattle.ds_core.proofs.Ledgers.{IsOf, SaysSame, says_same, numbered, doubts, stays, issued, issue_of, issues_fit, pushed, push_of, own, counts_fit, closing, put_other, closed, close_of, closes_fit, stands_here, out_here, overtaken_here, doubted, stop_of, left, left_loses, crash_of}
 use Rattle.ds_core.proofs.Carry.{StepFits}
-use Rattle.ds_core.proofs.Turns.{LeavesEdits, report_turn, report_begins_turn, work_leaves, work_begins_leaves, offer_leaves}
+use Rattle.ds_core.proofs.Turns.{LeavesEdits, show_turn, show_begins_turn, work_leaves, work_begins_leaves, offer_leaves}
 use Rattle.ds_core.proofs.Moved.{put_here}
 use Rattle.ds_core.proofs.Headers.{SidesStay, sides_same}
 use Rattle.ds_core.proofs.Told.{Tells}
 use Rattle.ds_core.proofs.Telling.{tells_quiet, tells_evicted, tells_stopped, tells_crashed}
 use Rattle.ds_core.proofs.ToldEdits.{tells_begun, tells_edit_on, tells_counted, tells_answered, overtaken_is_out}
-use Rattle.ds_core.proofs.ToldCalls.{report_sides, work_sides_of}
+use Rattle.ds_core.proofs.ToldCalls.{show_sides, work_sides_of}
 use Rattle.ds_core.proofs.Recovered.{tells_recovery_begun, tells_recovery_on}
 use Rattle.ds_core.proofs.Resolved.{resolves}
 use Rattle.ds_core.proofs.AtWork.{StaysAtWork, at_work_sure, work_says, work_stays, work_begins_stays, offer_stays}
@@ -70,12 +70,12 @@ use Rattle.ds_core.proofs.AtRecovery.{recovery_begins_after, recovery_access, re
 
 -- ---- one event
 
-if_next : (b : Bool) (x y : PlainReportCall) (n : ℕ) → x.next ≡ n → y.next ≡ n → (if b then x else y).next ≡ n
+if_next : (b : Bool) (x y : PlainShowCall) (n : ℕ) → x.next ≡ n → y.next ≡ n → (if b then x else y).next ≡ n
 if_next true x y n a b = a
 if_next false x y n a b = b
 
--- a report keeps the number of its process's next edit
-next_stays : (e : PlainReportCall) (s : ReportStage) (word : ℕ) → (shows.next_at e s word).next ≡ e.next
+-- a show keeps the number of its process's next edit
+next_stays : (e : PlainShowCall) (s : ShowStage) (word : ℕ) → (shows.next_at e s word).next ≡ e.next
 next_stays e (stages.LoadAnnounce i) word = if_next (reads_pending word) _ _ e.next refl (if_next (nat_lt (i + 1) e.processes) _ _ e.next refl refl)
 next_stays e (stages.LoadMark i) word = if_next (reads_clean e.processes word) _ _ e.next (if_next (nat_lt (i + 1) e.cells) _ _ e.next refl refl) refl
 next_stays e (stages.LoadValue i) word = refl
@@ -84,13 +84,13 @@ next_stays e (stages.AgainMark i) word = if_next (word == noted e.marks i) _ _ e
 next_stays e (stages.AgainAnnounce i) word = if_next (word == noted e.announcements i) _ _ e.next (if_next (nat_lt (i + 1) e.processes) _ _ e.next refl refl) refl
 next_stays e (stages.Answer end) word = refl
 
-goes : (e : PlainReportCall) (s : ReportStage) (word : ℕ) → SaysSame (Reporting e) (Reporting (shows.next_at e s word))
+goes : (e : PlainShowCall) (s : ShowStage) (word : ℕ) → SaysSame (Showing e) (Showing (shows.next_at e s word))
 goes e s word = record { number = ap (λ n. Some n) (next_stays e s word); doubt = refl }
 
 the_answer : (a b : replies.Answer) → Answered b ≡ Answered a → b ≡ a
 the_answer a b is = cc
 
--- the ledger behind an event: it has moved as it may, it is the world's, and the words tell its closed edits
+-- the ledger after an event: it has moved as it may, it is the world's, and the words say its closed edits
 pub record Next (place : ℕ) (layout : Layout) (l : Ledger) (v : WorldValue) (event : Event) (reply : Reply) (v' : WorldValue) : Type 0 where
   pub ledger : Ledger
   pub fits : StepFits place layout.shape (record { world = v; ledger = l }) event reply (record { world = v'; ledger = ledger })
@@ -254,24 +254,24 @@ module _ (place : ℕ) (layout : Layout) (l : Ledger) (v v' : WorldValue) (h : I
         tells = told;
       }
 
-  -- a report begins
-  reports_begin : (p : ℕ) → ReportBegins v p v' → Next place layout l v (BeginReport p) Entered v'
-  reports_begin p t =
+  -- a show begins
+  shows_begin : (p : ℕ) → ShowBegins v p v' → Next place layout l v (BeginShow p) Entered v'
+  shows_begin p t =
       let b = t.begun.begins in
-      silent (BeginReport p) Entered t b.counted b.open_edits (λ q. elim (cases_eq q p) [
+      silent (BeginShow p) Entered t b.counted b.open_edits (λ q. elim (cases_eq q p) [
         | inl here ↦ (
             let now = ap (λ x. (world_of v').situation x) here ∙ b.situation in
             let before = ap (λ x. (world_of v).situation x) here ∙ b.idle in
             record { number = ap numbered now ∙ sym (ap numbered before); doubt = ap doubts now ∙ sym (ap doubts before) })
         | inr other ↦ says_same _ _ (b.others q other)
-      ]) b.memory refl (tells_quiet l v v' p tells (report_begins_turn v v' p h.good.sound t) b.layout (λ c is. sides_same (world_of v).memory (world_of v').memory (Header p c.it.edit.number) b.memory) (b.open_edits p) (ap doubts b.situation))
+      ]) b.memory refl (tells_quiet l v v' p tells (show_begins_turn v v' p h.good.sound t) b.layout (λ c is. sides_same (world_of v).memory (world_of v').memory (Header p c.it.edit.number) b.memory) (b.open_edits p) (ap doubts b.situation))
 
-  -- a report makes a step
-  module _ (p : ℕ) (reply : Reply) (t : ReportStepsBy v p reply v') where
-    report_access : OneAccess p (world_of v).memory (world_of v').memory
-    report_access = (shows.access_at t.steps.show.stage, t.steps.word, subst (λ (q : ℕ). PerformsAt (shows.access_at t.steps.show.stage) q (world_of v).memory (world_of v').memory t.steps.word) t.steps.mine t.steps.steps.memory)
+  -- a show makes a step
+  module _ (p : ℕ) (reply : Reply) (t : ShowStepsBy v p reply v') where
+    show_access : OneAccess p (world_of v).memory (world_of v').memory
+    show_access = (shows.access_at t.steps.show.stage, t.steps.word, subst (λ (q : ℕ). PerformsAt (shows.access_at t.steps.show.stage) q (world_of v).memory (world_of v').memory t.steps.word) t.steps.mine t.steps.steps.memory)
 
-    after_says : (e : PlainReportCall) (s : ReportStage) (word : ℕ) → SaysSame (Reporting e) (shows.after e s word)
+    after_says : (e : PlainShowCall) (s : ShowStage) (word : ℕ) → SaysSame (Showing e) (shows.after e s word)
     after_says e (stages.Answer end) word = record { number = refl; doubt = refl }
     after_says e (stages.LoadAnnounce i) word = goes e (stages.LoadAnnounce i) word
     after_says e (stages.LoadMark i) word = goes e (stages.LoadMark i) word
@@ -280,27 +280,27 @@ module _ (place : ℕ) (layout : Layout) (l : Ledger) (v v' : WorldValue) (h : I
     after_says e (stages.AgainMark i) word = goes e (stages.AgainMark i) word
     after_says e (stages.AgainAnnounce i) word = goes e (stages.AgainAnnounce i) word
 
-    report_says : (q : ℕ) → SaysSame ((world_of v).situation q) ((world_of v').situation q)
-    report_says q = elim (cases_eq q p) [
+    show_says : (q : ℕ) → SaysSame ((world_of v).situation q) ((world_of v').situation q)
+    show_says q = elim (cases_eq q p) [
       | inl here ↦ (
           let now : (world_of v').situation q ≡ shows.after t.steps.show t.steps.show.stage t.steps.word = ap (λ x. (world_of v').situation x) (here ∙ sym t.steps.mine) ∙ t.steps.steps.situation in
-          let before : (world_of v).situation q ≡ Reporting t.steps.show = ap (λ x. (world_of v).situation x) here ∙ t.steps.at in
+          let before : (world_of v).situation q ≡ Showing t.steps.show = ap (λ x. (world_of v).situation x) here ∙ t.steps.at in
           let s = after_says t.steps.show t.steps.show.stage t.steps.word in
           record { number = ap numbered now ∙ s.number ∙ sym (ap numbered before); doubt = ap doubts now ∙ s.doubt ∙ sym (ap doubts before) })
       | inr other ↦ says_same _ _ (t.steps.steps.others q (λ same. other (same ∙ t.steps.mine)))
     ]
 
-    report_tells : Tells l v'
-    report_tells = tells_quiet l v v' p tells (report_turn v v' p reply h.good.sound t) t.steps.steps.layout (λ c is. report_sides p c.it.edit.number v v' reply t) (t.steps.steps.open_edits p) ((report_says p).doubt ∙ ap doubts t.steps.at)
+    show_tells : Tells l v'
+    show_tells = tells_quiet l v v' p tells (show_turn v v' p reply h.good.sound t) t.steps.steps.layout (λ c is. show_sides p c.it.edit.number v v' reply t) (t.steps.steps.open_edits p) ((show_says p).doubt ∙ ap doubts t.steps.at)
 
-  report_stepped : (p : ℕ) → ReportStepsBy v p Stepped v' → Next place layout l v (Step p) Stepped v'
-  report_stepped p t = silent (Step p) Stepped (reports t) t.steps.steps.counted t.steps.steps.open_edits (report_says p Stepped t) (report_access p Stepped t) (inl refl) (report_tells p Stepped t)
+  show_stepped : (p : ℕ) → ShowStepsBy v p Stepped v' → Next place layout l v (Step p) Stepped v'
+  show_stepped p t = silent (Step p) Stepped (reports t) t.steps.steps.counted t.steps.steps.open_edits (show_says p Stepped t) (show_access p Stepped t) (inl refl) (show_tells p Stepped t)
 
-  report_answered : (p : ℕ) (answer : replies.Answer) → ReportStepsBy v p (Answered answer) v' → Next place layout l v (Step p) (Answered answer) v'
-  report_answered p answer t =
-      silent (Step p) (Answered answer) (reports t) t.steps.steps.counted t.steps.steps.open_edits (report_says p (Answered answer) t) (report_access p (Answered answer) t) (nothing t.what answer t.is) (report_tells p (Answered answer) t)
+  show_answered : (p : ℕ) (answer : replies.Answer) → ShowStepsBy v p (Answered answer) v' → Next place layout l v (Step p) (Answered answer) v'
+  show_answered p answer t =
+      silent (Step p) (Answered answer) (reports t) t.steps.steps.counted t.steps.steps.open_edits (show_says p (Answered answer) t) (show_access p (Answered answer) t) (nothing t.what answer t.is) (show_tells p (Answered answer) t)
     where
-      nothing : (what : Turn ReportEnd) (answer : replies.Answer) → Answered answer ≡ report_reply what → AnswerMoves l p answer l
+      nothing : (what : Turn ShowEnd) (answer : replies.Answer) → Answered answer ≡ show_reply what → AnswerMoves l p answer l
       nothing turns.GoesOn answer is = absurd (cc)
       nothing (turns.Answers end) answer is = subst (λ (a : replies.Answer). AnswerMoves l p a l) (the_answer answer _ (sym is)) refl
 
@@ -418,12 +418,12 @@ module _ (place : ℕ) (layout : Layout) (l : Ledger) (v v' : WorldValue) (h : I
   next (BeginEdit r) NotEnabled t = unchanged (BeginEdit r) NotEnabled (subst (λ (x : WorldValue). Takes v (BeginEdit r) NotEnabled x) t.same t) t.same (still (world_of v).memory) refl
   next (BeginEdit r) _ t = absurd t
   next (Step p) Stepped (edits t) = stepped p t
-  next (Step p) Stepped (reports t) = report_stepped p t
+  next (Step p) Stepped (reports t) = show_stepped p t
   next (Step p) Stepped (works t) = work_stepped p t
   next (Step p) Stepped (recoveries t) = recovery_stepped p t
   next (Step p) Stepped (migrations t) = migration_stepped p t
   next (Step p) (Answered answer) (edits t) = answered p answer t
-  next (Step p) (Answered answer) (reports t) = report_answered p answer t
+  next (Step p) (Answered answer) (reports t) = show_answered p answer t
   next (Step p) (Answered answer) (works t) = work_answered p answer t
   next (Step p) (Answered answer) (recoveries t) = recovery_answered p answer t
   next (Step p) (Answered answer) (migrations t) = migration_answered p answer t
@@ -432,10 +432,10 @@ module _ (place : ℕ) (layout : Layout) (l : Ledger) (v v' : WorldValue) (h : I
   next (Evict word) Evicted t = evicts word t
   next (Evict word) NotEnabled t = unchanged (Evict word) NotEnabled (subst (λ (x : WorldValue). Takes v (Evict word) NotEnabled x) t.same t) t.same (still (world_of v).memory) refl
   next (Evict word) _ t = absurd t
-  next (BeginReport p) Entered t = reports_begin p t
-  next (BeginReport p) (Refused why) t = unchanged (BeginReport p) (Refused why) (subst (λ (x : WorldValue). Takes v (BeginReport p) (Refused why) x) t.same t) t.same (still (world_of v).memory) refl
-  next (BeginReport p) NotEnabled t = unchanged (BeginReport p) NotEnabled (subst (λ (x : WorldValue). Takes v (BeginReport p) NotEnabled x) t.same t) t.same (still (world_of v).memory) refl
-  next (BeginReport p) _ t = absurd t
+  next (BeginShow p) Entered t = shows_begin p t
+  next (BeginShow p) (Refused why) t = unchanged (BeginShow p) (Refused why) (subst (λ (x : WorldValue). Takes v (BeginShow p) (Refused why) x) t.same t) t.same (still (world_of v).memory) refl
+  next (BeginShow p) NotEnabled t = unchanged (BeginShow p) NotEnabled (subst (λ (x : WorldValue). Takes v (BeginShow p) NotEnabled x) t.same t) t.same (still (world_of v).memory) refl
+  next (BeginShow p) _ t = absurd t
   next (Stop p) Stopped t = stops p t
   next (Stop p) NotEnabled t = unchanged (Stop p) NotEnabled (subst (λ (x : WorldValue). Takes v (Stop p) NotEnabled x) t.same t) t.same (still (world_of v).memory) refl
   next (Stop p) _ t = absurd t

@@ -13,7 +13,7 @@ use Rattle.ds_core.proofs.NewIdle.{new_idle}
 use Rattle.ds_core.proofs.Ledgers.{IsOf, fits_of, doubts, numbered, no_some, one_some}
 use Rattle.ds_core.proofs.Told.{Tells}
 use Rattle.ds_core.proofs.EachEvent.{Next, next}
-use Rattle.ds_core.proofs.Reported.{reports_fit}
+use Rattle.ds_core.proofs.Reported.{shows_fit}
 use Rattle.ds_core.proofs.Worked.{works_fit}
 use Rattle.ds_core.proofs.Forgotten.{forgotten_fit}
 use Rattle.ds_core.proofs.Carry.{RunOn, nothing_on, event_on, fits_all}
@@ -77,4 +77,4 @@ pub runs_have_headline : (old : WorldValue) (events : List Event) (replies : Lis
 unfolding headline fits_all
 runs_have_headline old events replies new fresh good run =
     let f = follows old.sheet.layout 0 empty_ledger old events replies new (first_ledger old good fresh) (first_tells old good fresh) run in
-    record { is = headline old events replies new (fits_all old events replies new f.on (reports_fit old events replies new f.on f.good fresh) (works_fit old events replies new f.on f.good fresh) (forgotten_fit old events replies new f.on f.good)); worlds = f.worlds }
+    record { is = headline old events replies new (fits_all old events replies new f.on (shows_fit old events replies new f.on f.good fresh) (works_fit old events replies new f.on f.good fresh) (forgotten_fit old events replies new f.on f.good)); worlds = f.worlds }

@@ -53,8 +53,8 @@ module _ (shape : Shape) (r : PlainRequest) where
   abbrev counted : Ledger
   counted = record again { counted = second ∷ [] }
 
-  -- an edit is begun and lost in a crash before it is announced; its process recovers nothing, begins the same edit again,
-  -- of the same cell and text and under the same number, and that one counts
+  -- an edit is begun and lost in a crash before it is announced; its process recovers nothing, begins the same edit
+  -- again, of the same cell and text and under the same number, and that one is linearized
   given_out_again : LedgersMove 0 shape empty_ledger
       (BeginEdit r ∷ Crash ∷ BeginRecover r.process ∷ Step r.process ∷ BeginEdit r ∷ Step r.process ∷ [])
       (Begun 0 ∷ Crashed ∷ Entered ∷ Answered (Recovery Nothing) ∷ Begun 0 ∷ Stepped ∷ []) counted

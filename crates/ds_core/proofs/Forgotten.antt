@@ -20,12 +20,12 @@ use Rattle.ds_state.specs.declared.situation.Situation.{Situation}
 use Rattle.ds_state.specs.declared.turn.Turn.{Turn}
 use Rattle.ds_state.specs.declared.turn.Turn.TheVariants as turns
 use Rattle.ds_state.specs.declared.work.WorkEnd.{WorkEnd}
-use Rattle.ds_state.specs.declared.report.ReportEnd.{ReportEnd}
+use Rattle.ds_state.specs.declared.show.ShowEnd.{ShowEnd}
 use Rattle.ds_state.specs.declared.migration.MigrateEnd.{MigrateEnd}
 use Rattle.ds_state.specs.declared.recovery.RecoveryEnd.{RecoveryEnd}
 use Rattle.ds_state.specs.declared.recovery.RecoveryEnd.TheVariants.{Last}
 use Rattle.ds_state.specs.declared.recovery.RecoverStage.{RecoverStage}
-use Rattle.ds_state.specs.declared.recovery.Told.{Told}
+use Rattle.ds_state.specs.declared.recovery.LastEdit.{LastEdit}
 use Rattle.ds_state.specs.declared.answer.Answer.TheVariants.{Edit, Recovery}
 use Rattle.ds_recover.specs.RecoverySteps as steps
 use Rattle.ds_recover.specs.RecoverySteps.{number_of, end_of}
@@ -36,7 +36,7 @@ use Rattle.ds_core.specs.Headline.{Happens, Headline, SaysNone, ForgottenFit, Is
 use Rattle.ds_core.specs.Takes.{Takes}
 use Rattle.ds_core.specs.StepEvents.{StepsBy, edits, works, reports, recoveries, migrations}
 use Rattle.ds_core.specs.WorkEvents.{work_reply}
-use Rattle.ds_core.specs.ReportEvents.{report_reply}
+use Rattle.ds_core.specs.ShowEvents.{show_reply}
 use Rattle.ds_core.specs.MigrationEvents.{migration_reply}
 use Rattle.ds_core.specs.RecoveryEvents.{recovery_reply, RecoveryStepsBy}
 use Rattle.ds_core.specs.declared.event.Event.{Event}
@@ -45,14 +45,14 @@ use Rattle.ds_core.specs.declared.reply.Reply.{Reply}
 use Rattle.ds_core.specs.declared.reply.Reply.TheVariants.{Begun, Answered}
 use Rattle.ds_core.proofs.Replied.{replied}
 use Rattle.ds_core.proofs.Did as did_so
-use Rattle.ds_core.proofs.Did.{Did, did, nothing, edit_begins, work_begins, report_begins, recovery_begins, migration_begins, offers, evicts, stops, crashes}
+use Rattle.ds_core.proofs.Did.{Did, did, nothing, edit_begins, work_begins, show_begins, recovery_begins, migration_begins, offers, evicts, stops, crashes}
 use Rattle.ds_core.proofs.Moved.{Moved, WasOpen, TellsOn, moved, none_some, put_here}
 use Rattle.ds_core.proofs.Carry.{RunOn, at_place}
 use Rattle.ds_core.proofs.Closing.{found_at, up, orderly, asked, MoveAt, the_move}
 use Rattle.ds_core.proofs.Acknowledged.{within, was_begun}
 use Rattle.ds_core.proofs.Resolved.{IsAtAnswer, at_answer}
 use Rattle.ds_core.proofs.Solo.{some_outcome}
-use Rattle.ds_core.proofs.Turns.{IsTurn, edit_turn, report_turn, report_begins_turn, stop_turn, work_leaves, work_begins_leaves, offer_leaves, recovery_turn, recovery_begins_turn, migration_turn, migration_begins_turn}
+use Rattle.ds_core.proofs.Turns.{IsTurn, edit_turn, show_turn, show_begins_turn, stop_turn, work_leaves, work_begins_leaves, offer_leaves, recovery_turn, recovery_begins_turn, migration_turn, migration_begins_turn}
 
 -- ---- what processes announce on the persisted side only grows
 
@@ -79,12 +79,12 @@ module _ (old new : WorldValue) (sound : IsSound (world_of old)) (p : ℕ) where
   by _ _ (nothing event reply none is same) = same_grows (ap (λ (v : WorldValue). (world_of v).memory.persisted (Announce p)) same)
   by _ _ (edit_begins r number h) = same_grows (h.begun.begins.memory.persisted (Announce p))
   by _ _ (work_begins q cell h) = by_turn q (work_begins_leaves old new q cell sound h).turn
-  by _ _ (report_begins q h) = by_turn q (report_begins_turn old new q sound h)
+  by _ _ (show_begins q h) = by_turn q (show_begins_turn old new q sound h)
   by _ _ (recovery_begins q h) = by_turn q (recovery_begins_turn old new q sound h)
   by _ _ (migration_begins q h) = by_turn q (migration_begins_turn old new q sound h)
   by _ _ (did_so.steps q reply is (edits h)) = by_turn q (edit_turn old new q reply sound h)
   by _ _ (did_so.steps q reply is (works h)) = by_turn q (work_leaves old new q reply sound h).turn
-  by _ _ (did_so.steps q reply is (reports h)) = by_turn q (report_turn old new q reply sound h)
+  by _ _ (did_so.steps q reply is (reports h)) = by_turn q (show_turn old new q reply sound h)
   by _ _ (did_so.steps q reply is (recoveries h)) = by_turn q (recovery_turn old new q reply sound h)
   by _ _ (did_so.steps q reply is (migrations h)) = by_turn q (migration_turn old new q reply sound h)
   by _ _ (offers value h) = by_turn value.task.process (offer_leaves old new value sound h).turn
@@ -95,7 +95,7 @@ module _ (old new : WorldValue) (sound : IsSound (world_of old)) (p : ℕ) where
   pub announces_grow : (event : Event) (reply : Reply) → Takes old event reply new → Grows
   announces_grow event reply h = by event reply (did old new event reply h)
 
--- ---- an open edit's number is the one behind the last that was closed
+-- ---- an open edit's number is the one after the last that was closed
 
 -- what an event does to the numbers of open edits
 record NumbersOn (old new : Ledger) : Type 0 where
@@ -136,9 +136,9 @@ work_recovers_not : (what : Turn WorkEnd) (end : RecoveryEnd) → Answered (Reco
 work_recovers_not turns.GoesOn end is = absurd (cc)
 work_recovers_not (turns.Answers e) end is = absurd (cc)
 
-report_recovers_not : (what : Turn ReportEnd) (end : RecoveryEnd) → Answered (Recovery end) ≡ report_reply what → ⊥
-report_recovers_not turns.GoesOn end is = absurd (cc)
-report_recovers_not (turns.Answers e) end is = absurd (cc)
+show_recovers_not : (what : Turn ShowEnd) (end : RecoveryEnd) → Answered (Recovery end) ≡ show_reply what → ⊥
+show_recovers_not turns.GoesOn end is = absurd (cc)
+show_recovers_not (turns.Answers e) end is = absurd (cc)
 
 migration_recovers_not : (what : Turn MigrateEnd) (end : RecoveryEnd) → Answered (Recovery end) ≡ migration_reply what → ⊥
 migration_recovers_not turns.GoesOn end is = absurd (cc)
@@ -148,17 +148,17 @@ recovers : (old new : WorldValue) (p : ℕ) (end : RecoveryEnd) → StepsBy old 
 recovers old new p end (recoveries h) = h
 recovers old new p end (edits h) = absurd (let found = some_outcome old.sheet.layout.processes h.steps.edit.number (Recovery end) (outcome_at h.steps.edit.stage) (replied old new p (Answered (Recovery end)) h) in edit_recovers_not old.sheet.layout.processes h.steps.edit.number end found.0 found.2)
 recovers old new p end (works h) = absurd (work_recovers_not h.what end h.is)
-recovers old new p end (reports h) = absurd (report_recovers_not h.what end h.is)
+recovers old new p end (reports h) = absurd (show_recovers_not h.what end h.is)
 recovers old new p end (migrations h) = absurd (migration_recovers_not h.what end h.is)
 
--- where a recovery tells again of the last closed edit, the word that it found announces no later number
+-- where a recovery reports again the last closed edit, the word that it found announces no later number
 tells_no_later : (e : PlainRecoverCall) (how : Option Bool) (told : Option Closed) (w : PlainWorld) (p : ℕ) → ResolvedFits w p e.announcement e.cell (over how) → Recovery (end_of e how) ≡ Recovery (told_of told) → e.announcement / 4 ≤ next_number told
 tells_no_later e None told w p r is = let none = r.2 in omega (arith, none)
 tells_no_later e (Some b) None w p r is = absurd (cc)
 tells_no_later e (Some b) (Some c) w p r is =
     let one : Last (record { number = number_of e; cell = e.cell; counts = b }) ≡ Last (record { number = c.it.edit.number; cell = c.it.edit.cell; counts = c.counts }) = cc in
     let same : record { number = number_of e; cell = e.cell; counts = b } ≡ record { number = c.it.edit.number; cell = c.it.edit.cell; counts = c.counts } = cc in
-    let number : number_of e ≡ c.it.edit.number = ap (λ (t : Told). t.number) same in
+    let number : number_of e ≡ c.it.edit.number = ap (λ (t : LastEdit). t.number) same in
     omega (arith, number)
 
 cached_word : (word : ℕ) (how : Option Bool) (w : PlainWorld) (p cell : ℕ) → ResolvedFits w p word cell (over how) → w.memory.cached (Announce p) ≡ word
@@ -169,7 +169,7 @@ persisted_word : (word : ℕ) (how : Option Bool) (w : PlainWorld) (p cell : ℕ
 persisted_word word None w p cell r = r.1
 persisted_word word (Some b) w p cell r = r.1
 
--- what the persisted side announces before and behind a recovery's answer that tells again of the last closed edit
+-- what the persisted side announces before and after a recovery's answer that reports again the last closed edit
 module _ (old new : WorldValue) (p : ℕ) (end : RecoveryEnd) (sound : IsSound (world_of old)) (s : RecoveryStepsBy old p (Answered (Recovery end)) new) (told : Option Closed) (repeats : end ≡ told_of told) where
   found : IsAtAnswer s.steps.recovery s.steps.recovery.stage (Recovery end)
   found = at_answer s.steps.recovery s.steps.recovery.stage (Recovery end) (s.is ∙ ap recovery_reply s.steps.is)
@@ -270,11 +270,11 @@ module _ (old : WorldValue) (events : List Event) (replies : List Reply) (new : 
   first_number : it.edit.number ≡ next_number ((noted k).told p)
   first_number = numbered noted (length events) (ap (λ (m : Moment). m.ledger) h.run.first) (λ i low. numbers_on i (noted i) (noted (i + 1)) (the_move old events replies new h.run i low).moves) k (omega (arith, lt)) p f.open_edit f.was
 
-  -- no edit of the process begins behind the place and before that one
+  -- no edit of the process begins after the place and before that one
   abbrev NoneBegins : ℕ → Type 0
   NoneBegins j = (i n : ℕ) (other : PlainRequest) → k < i → i < j → other.process ≡ p → Happens events replies i (BeginEdit other) (Begun n) → ⊥
 
-  -- no edit of it is open, and what is told of it is what was
+  -- no edit of it is open, and what is reported of it is what was
   record Waits (i : ℕ) : Type 0 where
     none : (noted i).opens p ≡ None
     told : (noted i).told p ≡ (noted k).told p

@@ -10,11 +10,11 @@ use Rattle.ds_layout.specs.declared.layout.Layout.{Layout}
 use Rattle.ds_state.specs.World.{PlainEdit, PlainIssue, PlainWorld, of_cell}
 use Rattle.ds_state.specs.Value.{first_rest, WorldValue, world_of, IsGood}
 use Rattle.ds_state.specs.Shown.{last_text, values_shown}
-use Rattle.ds_state.specs.KnownReport.{AreScratch}
+use Rattle.ds_state.specs.KnownShow.{AreScratch}
 use Rattle.ds_state.specs.Sound.{Increasing}
 use Rattle.ds_state.specs.Crashes.{StopsIn, CrashesTo}
 use Rattle.ds_state.specs.declared.situation.Situation.{Situation}
-use Rattle.ds_state.specs.declared.situation.Situation.TheVariants.{Idle, Stopped, Editing, Working, Recovering, Reporting, Migrating}
+use Rattle.ds_state.specs.declared.situation.Situation.TheVariants.{Idle, Stopped, Editing, Working, Recovering, Showing, Migrating}
 use Rattle.ds_state.proofs.LastText.{text_right}
 use Rattle.ds_state.proofs.QuietShown.{quiet_shows}
 use Rattle.ds_state.specs.declared.answer.Other.{Other}
@@ -74,7 +74,7 @@ numbered Stopped = None
 numbered (Editing e) = Some e.number
 numbered (Working e) = Some e.next
 numbered (Recovering e) = None
-numbered (Reporting e) = Some e.next
+numbered (Showing e) = Some e.next
 numbered (Migrating e) = None
 
 -- whether the open edit of a process in this situation is in doubt
@@ -84,7 +84,7 @@ doubts (Recovering e) = true
 doubts (Migrating e) = true
 doubts _ = false
 
--- what came to count since the issue
+-- what was linearized since the issue
 pub record IsSince (l : Ledger) (issue : PlainIssue) (o : Open) : Type 0 where
   pub since : issue.since ≡ length o.before
   pub more : List Placed
@@ -219,7 +219,7 @@ module _ (layout : Layout) (l : Ledger) (v v' : WorldValue) (h : IsOf layout l v
     pub issues_fit : edit.number ≡ next_number (l.told edit.process) → Issues place l edit issued
     issues_fit next = record { none = h.none edit.process s.none; next = next; is = refl }
 
-  -- an edit comes to count
+  -- an edit is linearized
   module _ (p : ℕ) (s : traces.Counts (world_of v) p (world_of v')) (n : AllSame) (sure : doubts ((world_of v).situation p) ≡ false) where
     pub own : As l s.issue p false
     own = subst (λ (b : Bool). As l s.issue p b) sure (h.some p s.issue s.open_is)

@@ -24,7 +24,7 @@ pub mod Crash
 pub mod Lost
 pub mod Stopped
 pub mod Alone
-pub mod AloneReport
+pub mod AloneShow
 pub mod AtWork
 pub mod AtRecovery
 pub mod NewIdle
@@ -45,3 +45,4 @@ pub mod Reported
 pub mod Worked
 pub mod Forgotten
 pub mod EachRun
+pub mod Crossing

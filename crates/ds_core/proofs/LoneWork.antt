@@ -4,7 +4,7 @@ use Rattle.ds_layout.specs.declared.place.Place.{Place}
 use Rattle.ds_layout.specs.declared.place.Place.TheVariants.{Mark, Value, Kind, Index}
 use Rattle.ds_layout.specs.Mark.{IsClean}
 use Rattle.ds_state.specs.World.{PlainWorld}
-use Rattle.ds_state.specs.Works.{PlainWorkCall, PlainReportCall, PlainRecoverCall}
+use Rattle.ds_state.specs.Works.{PlainWorkCall, PlainShowCall, PlainRecoverCall}
 use Rattle.ds_state.specs.Edits.{PlainEditCall}
 use Rattle.ds_state.specs.Sound.{IsSound}
 use Rattle.ds_state.specs.Value.{WorldValue, world_of}
@@ -16,13 +16,13 @@ use Rattle.ds_layout.specs.Bits.{HasBit}
 use Rattle.ds_state.specs.KnownWork.{WorkFits}
 use Rattle.ds_state.specs.CallsFit.{CallFits}
 use Rattle.ds_state.specs.declared.situation.Situation.{Situation}
-use Rattle.ds_state.specs.declared.situation.Situation.TheVariants.{Idle, Editing, Working, Recovering, Reporting, Migrating}
+use Rattle.ds_state.specs.declared.situation.Situation.TheVariants.{Idle, Editing, Working, Recovering, Showing, Migrating}
 use Rattle.ds_state.specs.declared.situation.Rest.{Rest}
 use Rattle.ds_work.specs.WorkSteps.{rest_of}
 use Rattle.ds_state.specs.declared.turn.Turn.{Turn}
 use Rattle.ds_state.specs.declared.turn.Turn.TheVariants as taken
 use Rattle.ds_work.specs.WorkAnswers.{mark_now}
-use Rattle.ds_work.specs.WorkShows.{CellWords, shown_in, EndsReporting, ShowsAt}
+use Rattle.ds_work.specs.WorkShows.{CellWords, shown_in, EndsShowing, ShowsAt}
 use Rattle.ds_work.specs.WorkAlone.{IsMarkedAt, IsAloneAt, IsAlone, RefersToItself, EndsAlone, GoesAlone}
 use Rattle.ds_work.proofs.WorkShows.{shown_same}
 use Rattle.ds_work.proofs.WorkAlone.{turn_alone, offer_alone, same_sees}
@@ -31,7 +31,7 @@ use Rattle.ds_core.specs.Takes.{Takes, WorldRun}
 use Rattle.ds_state.specs.declared.answer.Answer.TheVariants.{Work}
 use Rattle.ds_core.specs.WorkEvents.{work_reply, WorkStepsBy}
 use Rattle.ds_core.proofs.Did as did_so
-use Rattle.ds_core.proofs.Did.{Did, did, IsNothing, edit_begins, work_begins, report_begins, recovery_begins, migration_begins, steps, offers, evicts, stops, crashes}
+use Rattle.ds_core.proofs.Did.{Did, did, IsNothing, edit_begins, work_begins, show_begins, recovery_begins, migration_begins, steps, offers, evicts, stops, crashes}
 use Rattle.ds_core.specs.Solo.{IsLoneEvent, IsLone, IsLoneAnswer, IsLoneReply, AreLoneReplies, StandsInOwnRow}
 use Rattle.ds_core.specs.declared.event.Event.{Event}
 use Rattle.ds_core.specs.declared.reply.Reply.{Reply}
@@ -60,14 +60,14 @@ module _ (first last : PlainWorld) (cell p : ℕ) (n : Rest) (old new : WorldVal
   by _ _ (did_so.nothing event reply none is all) same = nothing reply (says_nothing first last cell reply none) all
   by _ _ (steps q reply is (edits h)) same = absurd (let bad : Idle n ≡ Editing h.steps.edit = sym (idle_at q same) ∙ h.steps.at in cc)
   by _ _ (steps q reply is (works h)) same = absurd (let bad : Idle n ≡ Working h.steps.work = sym (idle_at q same) ∙ h.steps.works in cc)
-  by _ _ (steps q reply is (reports h)) same = absurd (let bad : Idle n ≡ Reporting h.steps.show = sym (idle_at q same) ∙ h.steps.at in cc)
+  by _ _ (steps q reply is (reports h)) same = absurd (let bad : Idle n ≡ Showing h.steps.show = sym (idle_at q same) ∙ h.steps.at in cc)
   by _ _ (steps q reply is (recoveries h)) same = absurd (let bad : Idle n ≡ Recovering h.steps.recovery = sym (idle_at q same) ∙ h.steps.at in cc)
   by _ _ (steps q reply is (migrations h)) same = absurd (let bad : Idle n ≡ Migrating h.steps.migration = sym (idle_at q same) ∙ h.steps.at in cc)
   by _ _ (evicts word h) same = record { silent = tt; idle = λ k is. h.evicts.situation p ∙ is; words = λ x. h.evicts.memory.cached x }
   by _ _ (offers value h) same = absurd (let bad : Idle n ≡ Working h.offered.work = sym (idle_at value.task.process same) ∙ h.offered.waits.works in cc)
   by _ _ (edit_begins r k h) same = absurd same
   by _ _ (work_begins q c h) same = absurd same
-  by _ _ (report_begins q h) same = absurd same
+  by _ _ (show_begins q h) same = absurd same
   by _ _ (recovery_begins q h) same = absurd same
   by _ _ (migration_begins q h) same = absurd same
   by _ _ (stops q h) same = absurd same
@@ -102,8 +102,8 @@ module _ (row : ℕ → ℕ) (before : CellWords) (p cell : ℕ) (old new : Worl
   no_edit : (q : ℕ) (f : PlainEditCall) → q ≡ p → (world_of old).situation q ≡ Editing f → ⊥
   no_edit q f same is = let bad : Editing f ≡ Working u.work = sym is ∙ ap (λ x. (world_of old).situation x) same ∙ u.at in cc
 
-  no_report : (q : ℕ) (f : PlainReportCall) → q ≡ p → (world_of old).situation q ≡ Reporting f → ⊥
-  no_report q f same is = let bad : Reporting f ≡ Working u.work = sym is ∙ ap (λ x. (world_of old).situation x) same ∙ u.at in cc
+  no_show : (q : ℕ) (f : PlainShowCall) → q ≡ p → (world_of old).situation q ≡ Showing f → ⊥
+  no_show q f same is = let bad : Showing f ≡ Working u.work = sym is ∙ ap (λ x. (world_of old).situation x) same ∙ u.at in cc
 
   no_recovery : (q : ℕ) (f : PlainRecoverCall) → q ≡ p → (world_of old).situation q ≡ Recovering f → ⊥
   no_recovery q f same is = let bad : Recovering f ≡ Working u.work = sym is ∙ ap (λ x. (world_of old).situation x) same ∙ u.at in cc
@@ -134,7 +134,7 @@ record Ends (row : ℕ → ℕ) (before : CellWords) (p cell : ℕ) (reply : Rep
   work : PlainWorkCall
   of_cell : work.cell ≡ cell
   so : EndsAlone row (world_of new) work end
-  showing : EndsReporting before (shown_in (world_of new) work.cell) end
+  showing : EndsShowing before (shown_in (world_of new) work.cell) end
   n : Rest
   idle : (world_of new).situation p ≡ Idle n
 
@@ -167,7 +167,7 @@ module _ (first last : PlainWorld) (row : ℕ → ℕ) (before : CellWords) (p c
   by_event _ _ (did_so.nothing event reply none is all) same = still reply (says_nothing first last cell reply none) all
   by_event _ _ (steps q reply is (edits h)) same = absurd (no_edit row before p cell old new sound u q h.steps.edit same h.steps.at)
   by_event _ _ (steps q reply is (works h)) same = by_work q reply same h
-  by_event _ _ (steps q reply is (reports h)) same = absurd (no_report row before p cell old new sound u q h.steps.show same h.steps.at)
+  by_event _ _ (steps q reply is (reports h)) same = absurd (no_show row before p cell old new sound u q h.steps.show same h.steps.at)
   by_event _ _ (steps q reply is (recoveries h)) same = absurd (no_recovery row before p cell old new sound u q h.steps.recovery same h.steps.at)
   by_event _ _ (steps q reply is (migrations h)) same = absurd (let bad : Migrating h.steps.migration ≡ Working u.work = sym h.steps.at ∙ ap (λ x. (world_of old).situation x) same ∙ u.at in cc)
   by_event _ _ (evicts word h) same = inl (record {
@@ -191,7 +191,7 @@ module _ (first last : PlainWorld) (row : ℕ → ℕ) (before : CellWords) (p c
       })
   by_event _ _ (edit_begins r k h) same = absurd same
   by_event _ _ (work_begins q c h) same = absurd same
-  by_event _ _ (report_begins q h) same = absurd same
+  by_event _ _ (show_begins q h) same = absurd same
   by_event _ _ (recovery_begins q h) same = absurd same
   by_event _ _ (migration_begins q h) same = absurd same
   by_event _ _ (stops q h) same = absurd same
@@ -216,7 +216,7 @@ module _ (row : ℕ → ℕ) (first middle last : PlainWorld) (cell : ℕ) (work
   refers h = subst (λ c. HasBit (row (c / 64)) c) (sym of_cell) (subst (λ x. HasBit x cell) (index (cell / 64)) h)
 
   -- the answer says what is so at the end
-  answers_so : (end : WorkEnd) → EndsAlone row middle work end → EndsReporting (shown_in first cell) (shown_in middle work.cell) end → IsLoneAnswer first last cell (Work end)
+  answers_so : (end : WorkEnd) → EndsAlone row middle work end → EndsShowing (shown_in first cell) (shown_in middle work.cell) end → IsLoneAnswer first last cell (Work end)
   answers_so ends.NotDirty so showing = absurd so
   answers_so ends.Missed so showing = absurd so
   answers_so ends.Worn so showing = absurd so

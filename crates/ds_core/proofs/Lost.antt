@@ -10,7 +10,7 @@ use Rattle.ds_layout.specs.declared.place.Place.{Place}
 use Rattle.ds_state.specs.World.{PlainEdit}
 use Rattle.ds_state.specs.Crashes.{is_lost, survivors}
 
--- of the first i edits those that stay stand in front, so many; the edits from i on are as they were
+-- of the first i edits those that stay stand in front, n of them; the edits from i on are as they were
 pub record IsSifted (m : Memory Place) (old xs : List PlainEdit) (i kept : ℕ) : Type 0 where
   pub fewer : kept ≤ i
   pub size : length xs ≡ length old

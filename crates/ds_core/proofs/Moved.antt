@@ -8,9 +8,9 @@ use Rattle.ds_core.specs.Moments.{Placed, Open, Closed, Ledger}
 use Rattle.ds_core.specs.Headline.{IsIssueOf}
 use Rattle.ds_core.specs.LedgerSteps.{put, in_doubt, next_number, Stands, Issues, Counts, Closes, Forgets, Loses, AnswerMoves, LedgerMoves}
 use Rattle.ds_core.specs.declared.event.Event.{Event}
-use Rattle.ds_core.specs.declared.event.Event.TheVariants.{BeginEdit, BeginWork, BeginReport, BeginRecover, BeginMigrate, Step, Offer, Evict, Stop, Crash}
+use Rattle.ds_core.specs.declared.event.Event.TheVariants.{BeginEdit, BeginWork, BeginShow, BeginRecover, BeginMigrate, Step, Offer, Evict, Stop, Crash}
 use Rattle.ds_state.specs.declared.answer.Answer.{Answer}
-use Rattle.ds_state.specs.declared.answer.Answer.TheVariants.{Edit, Work, Recovery, Migration, Report}
+use Rattle.ds_state.specs.declared.answer.Answer.TheVariants.{Edit, Work, Recovery, Migration, Show}
 use Rattle.ds_state.specs.declared.answer.EditEnd.TheVariants.{Done, Overtaken}
 use Rattle.ds_state.specs.declared.recovery.RecoveryEnd.{RecoveryEnd}
 use Rattle.ds_state.specs.declared.recovery.RecoveryEnd.TheVariants.{Last, Nothing}
@@ -59,11 +59,11 @@ pub record ClosesAs (old : Ledger) (q : ℕ) (c : Closed) (new : Ledger) : Type 
   pub gone : new.opens q ≡ None
   pub stands : Stands old.counted c.it c.counts
 
--- it was told before, or is now
+-- it was answered before, or is now
 abbrev pub IsToldSo : Ledger → Ledger → ℕ → Closed → Type 0
 IsToldSo old new q c = (old.told q ≡ Some c) ⊎ ClosesAs old q c new
 
--- what is told of a process stays, or an open edit is closed
+-- what is reported of a process stays, or an open edit is closed
 abbrev pub TellsOn : Ledger → Ledger → ℕ → Type 0
 TellsOn old new q = (new.told q ≡ old.told q) ⊎ ((c : Closed) × (new.told q ≡ Some c) × ClosesAs old q c new)
 
@@ -195,7 +195,7 @@ answer_moved k I old p (Recovery (Last told)) new (inr (inr h)) = same_moved k I
 answer_moved k I old p (Recovery Nothing) new (inl h) = forgets_moved k I old p _ new h
 answer_moved k I old p (Recovery Nothing) new (inr h) = same_moved k I old new h.is
 answer_moved k I old p (Work end) new h = same_moved k I old new h
-answer_moved k I old p (Report end) new h = same_moved k I old new h
+answer_moved k I old p (Show end) new h = same_moved k I old new h
 answer_moved k I old p (Migration end) new h = same_moved k I old new h
 
 -- every event moves the ledger so
@@ -208,10 +208,10 @@ moved k shape old (BeginWork p cell) Entered new h = same_moved k _ old new h
 moved k shape old (BeginWork p cell) (Refused why) new h = same_moved k _ old new h
 moved k shape old (BeginWork p cell) NotEnabled new h = same_moved k _ old new h
 moved k shape old (BeginWork p cell) _ new h = absurd h
-moved k shape old (BeginReport p) Entered new h = same_moved k _ old new h
-moved k shape old (BeginReport p) (Refused why) new h = same_moved k _ old new h
-moved k shape old (BeginReport p) NotEnabled new h = same_moved k _ old new h
-moved k shape old (BeginReport p) _ new h = absurd h
+moved k shape old (BeginShow p) Entered new h = same_moved k _ old new h
+moved k shape old (BeginShow p) (Refused why) new h = same_moved k _ old new h
+moved k shape old (BeginShow p) NotEnabled new h = same_moved k _ old new h
+moved k shape old (BeginShow p) _ new h = absurd h
 moved k shape old (BeginRecover p) Entered new h = same_moved k _ old new h
 moved k shape old (BeginRecover p) (Refused why) new h = same_moved k _ old new h
 moved k shape old (BeginRecover p) NotEnabled new h = same_moved k _ old new h

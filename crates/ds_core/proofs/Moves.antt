@@ -30,7 +30,7 @@ use Rattle.ds_core.specs.declared.reply.Reply.TheVariants.{Answered}
 use Rattle.ds_edit.proofs.Driving.{counted_cases, answers_at, goes_on_at}
 use Rattle.ds_core.proofs.Replied.{replied}
 
--- an edit comes to count at its swap alone
+-- an edit is linearized at its swap alone
 pub counts_at : (e : PlainEdit) (s : Stage) (word : ℕ) → counted_at e s word ≡ e ∷ [] → (noted : ℕ) × (s ≡ Swap noted)
 counts_at e (Swap noted) word is = (noted, refl)
 counts_at e _ word is = absurd (cc)

@@ -1,4 +1,4 @@
--- What a recovery's begin and steps leave of what the words tell of closed edits.
+-- What a recovery's begin and steps leave of what the words say of closed edits.
 use Rattle.std.proofs.Common.{ℕ, ◌≡◌, ◌≢◌, ◌/◌, ◌⊎◌, refl, ap, sym, ◌∙◌, subst, inl, inr, Bool, Some, None}
 use Rattle.ds_words.specs.Memory.{Memory}
 use Rattle.ds_words.specs.declared.access.Access.{Access}
@@ -79,7 +79,7 @@ plain_or_store e _ = inl tt
 
 -- ---- its begin
 
--- the begin of a recovery leaves what the words tell of closed edits
+-- the begin of a recovery leaves what the words say of closed edits
 pub tells_recovery_begun : (layout : Layout) (l : Ledger) (v v' : WorldValue) (p : ℕ) → IsOf layout l v → Tells l v → RecoveryBegins v p v' → Tells l v'
 tells_recovery_begun layout l v v' p h t b =
     let g = b.begun.begins in

@@ -7,7 +7,7 @@ use Rattle.ds_core.specs.LedgerSteps.{told_of, Resolves}
 use Rattle.ds_core.proofs.Ledgers.{one_some}
 use Rattle.ds_core.proofs.Moved.{none_some}
 
--- where the process's open edit counts
+-- where the process's open edit is linearized
 pub nothing_of_counted : (old new : Ledger) (p : ℕ) (o : Open) → old.opens p ≡ Some o → Contains old.counted o.it → Resolves old p Nothing new → ⊥
 nothing_of_counted old new p o is there (inl f) = f.out (subst (λ (x : Open). Contains old.counted x.it) (one_some (old.opens p) o f.open_edit is f.was) there)
 nothing_of_counted old new p o is there (inr r) = none_some (old.opens p) o r.none is

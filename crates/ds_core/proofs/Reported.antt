@@ -1,4 +1,4 @@
--- What a run's reports answer is true of the worlds of their calls.
+-- What a run's shows answer is true of the worlds of their calls.
 use Rattle.std.proofs.Common.{ℕ, ◌≡◌, ◌≢◌, ◌<◌, ◌≤◌, ◌+◌, List, [], ◌∷◌, refl, ap, sym, ◌∙◌, subst, arith, inl, inr, zero, suc, length, Some, None}
 use Rattle.ds_state.specs.declared.turn.Turn.{Turn}
 use Rattle.ds_state.specs.declared.migration.MigrateEnd.{MigrateEnd}
@@ -15,39 +15,39 @@ use Rattle.ds_state.specs.declared.stage.Outcome.{Outcome}
 use Rattle.ds_state.specs.declared.stage.Outcome.TheVariants as outcome
 use Rattle.ds_state.specs.EditEndings.{outcome_at}
 use Rattle.ds_state.specs.declared.answer.Answer as call_answers
-use Rattle.ds_state.specs.declared.answer.Answer.TheVariants.{Report}
-use Rattle.ds_state.specs.declared.report.ReportEnd.TheVariants.{Settled, Unsettled}
+use Rattle.ds_state.specs.declared.answer.Answer.TheVariants.{Show}
+use Rattle.ds_state.specs.declared.show.ShowEnd.TheVariants.{Settled, Unsettled}
 use Rattle.ds_state.specs.declared.turn.Turn.TheVariants as turns
-use Rattle.ds_report.specs.ReportSteps.{answered, effect_at}
-use Rattle.ds_report.specs.ReportTakes.{reports_by}
-use Rattle.ds_state.specs.Works.{PlainReportCall}
+use Rattle.ds_show.specs.ShowSteps.{answered, effect_at}
+use Rattle.ds_show.specs.ShowTakes.{reports_by}
+use Rattle.ds_state.specs.Works.{PlainShowCall}
 use Rattle.ds_state.specs.Edits.{PlainEditCall}
 use Rattle.ds_layout.specs.Places.{cells_of}
-use Rattle.ds_state.specs.ReportStages.{IsStage}
+use Rattle.ds_state.specs.ShowStages.{IsStage}
 use Rattle.ds_state.specs.Fresh.{IsNew}
-use Rattle.ds_state.specs.KnownReport.{AreScratch, IsStill, moment_of}
+use Rattle.ds_state.specs.KnownShow.{AreScratch, IsStill, moment_of}
 use Rattle.ds_state.specs.declared.stage.Stage.{Stage}
 use Rattle.ds_state.specs.declared.stage.Stage.TheVariants.{Answer}
-use Rattle.ds_state.specs.declared.report.ReportEnd.{ReportEnd}
-use Rattle.ds_state.specs.declared.report.ReportEnd.TheVariants as ends
-use Rattle.ds_state.specs.declared.report.ReportStage.{ReportStage}
-use Rattle.ds_state.specs.declared.report.ReportStage.TheVariants as stages
+use Rattle.ds_state.specs.declared.show.ShowEnd.{ShowEnd}
+use Rattle.ds_state.specs.declared.show.ShowEnd.TheVariants as ends
+use Rattle.ds_state.specs.declared.show.ShowStage.{ShowStage}
+use Rattle.ds_state.specs.declared.show.ShowStage.TheVariants as stages
 use Rattle.ds_state.specs.Rely.{Rely}
 use Rattle.ds_state.specs.CallsFit.{CallFits}
 use Rattle.ds_state.specs.Value.{first_rest, WorldValue, world_of, IsGood}
 use Rattle.ds_state.specs.declared.situation.Situation.{Situation}
 use Rattle.ds_state.specs.declared.situation.Situation.TheVariants as situation
-use Rattle.ds_state.specs.declared.situation.Situation.TheVariants.{Idle, Editing, Recovering, Reporting, Migrating}
+use Rattle.ds_state.specs.declared.situation.Situation.TheVariants.{Idle, Editing, Recovering, Showing, Migrating}
 use Rattle.ds_state.proofs.Accesses.{evict_sound}
 use Rattle.ds_state.proofs.Buffers.{buffered}
 use Rattle.ds_edit.specs.EditTakes as edit_steps
 use Rattle.ds_edit.proofs.Answering.{begin_sound}
-use Rattle.ds_report.specs.ReportRuns.{Passes, HasBegun, Call, IsOf, AreInTurn, WasStill, WasOff, IsTrueReport}
-use Rattle.ds_report.proofs.ReportRuns.{rely_same, answer_true}
+use Rattle.ds_show.specs.ShowRuns.{Passes, HasBegun, Call, IsOf, AreInTurn, WasStill, WasOff, IsTrueShow}
+use Rattle.ds_show.proofs.ShowRuns.{rely_same, answer_true}
 use Rattle.ds_core.specs.MigrationEvents.{migration_reply}
 use Rattle.ds_core.specs.EditEvents.{reply_with, EditStepsBy}
 use Rattle.ds_core.proofs.Replied.{replied}
-use Rattle.ds_core.specs.ReportEvents.{report_reply, ReportStepsBy, ReportBegins}
+use Rattle.ds_core.specs.ShowEvents.{show_reply, ShowStepsBy, ShowBegins}
 use Rattle.ds_core.specs.StepEvents.{StepsBy, edits, works, reports, recoveries, migrations}
 use Rattle.ds_core.specs.WorkEvents.{work_reply}
 use Rattle.ds_core.specs.RecoveryEvents.{recovery_reply, RecoveryStepsBy}
@@ -55,13 +55,13 @@ use Rattle.ds_state.specs.declared.work.WorkEnd.{WorkEnd}
 use Rattle.ds_core.specs.Takes.{Takes}
 use Rattle.ds_core.specs.Moments.{Moment, MomentFits, empty_ledger}
 use Rattle.ds_core.proofs.Did as did_so
-use Rattle.ds_core.proofs.Did.{Did, did, nothing, edit_begins, work_begins, report_begins, recovery_begins, migration_begins, offers, evicts, stops, crashes}
+use Rattle.ds_core.proofs.Did.{Did, did, nothing, edit_begins, work_begins, show_begins, recovery_begins, migration_begins, offers, evicts, stops, crashes}
 use Rattle.ds_core.specs.Headline.{Happens, IsCall, IsWatched, IsUnrest, SettledFits, UnsettledFits, ReportsFit, kept_values}
 use Rattle.ds_core.specs.declared.event.Event.{Event}
-use Rattle.ds_core.specs.declared.event.Event.TheVariants.{BeginEdit, BeginWork, BeginReport, BeginRecover, BeginMigrate, Step, Offer, Stop}
+use Rattle.ds_core.specs.declared.event.Event.TheVariants.{BeginEdit, BeginWork, BeginShow, BeginRecover, BeginMigrate, Step, Offer, Stop}
 use Rattle.ds_core.specs.declared.reply.Reply.{Reply}
 use Rattle.ds_core.specs.declared.reply.Reply.TheVariants.{Begun, Entered, Stepped, Answered, Stopped}
-use Rattle.ds_core.proofs.Turns.{IsTurn, LeavesEdits, edit_turn, report_turn, report_begins_turn, stop_turn, work_leaves, work_begins_leaves, offer_leaves, recovery_turn, recovery_begins_turn, migration_turn, migration_begins_turn}
+use Rattle.ds_core.proofs.Turns.{IsTurn, LeavesEdits, edit_turn, show_turn, show_begins_turn, stop_turn, work_leaves, work_begins_leaves, offer_leaves, recovery_turn, recovery_begins_turn, migration_turn, migration_begins_turn}
 use Rattle.ds_core.proofs.AtWork.{StaysAtWork, at_work_shows_not, work_stays, work_begins_stays, offer_stays}
 use Rattle.ds_core.proofs.AtRecovery.{recovery_shows_not}
 use Rattle.ds_core.proofs.AtMigration.{migration_shows_not}
@@ -69,23 +69,23 @@ use Rattle.ds_core.proofs.NewIdle.{new_idle}
 use Rattle.ds_core.proofs.Carry.{RunOn, at_place}
 use Rattle.ds_core.proofs.Closing.{found_at, up}
 
--- ---- one event, seen by a process that reports after it
+-- ---- one event, seen by a process that shows the sheet after it
 
--- it reported before, too: this was its own step, or leaves it what it counts on
-record WasReporting (p : ℕ) (old new : WorldValue) : Type 0 where
-  show : PlainReportCall
-  was : (world_of old).situation p ≡ Reporting show
+-- it reported before, too: this was its own step, or leaves it what it relies on
+record WasShowing (p : ℕ) (old new : WorldValue) : Type 0 where
+  show : PlainShowCall
+  was : (world_of old).situation p ≡ Showing show
   passes : Passes p (world_of old) (world_of new)
 
--- its report has begun with this event
+-- its show has begun with this event
 record JustBegan (p : ℕ) (old : WorldValue) (event : Event) (reply : Reply) (new : WorldValue) : Type 0 where
-  event_is : event ≡ BeginReport p
+  event_is : event ≡ BeginShow p
   reply_is : reply ≡ Entered
   begun : HasBegun p (world_of new)
 
-module _ (p : ℕ) (old new : WorldValue) (good : IsGood old) (low : p < old.sheet.layout.processes) (e : PlainReportCall) (at : (world_of new).situation p ≡ Reporting e) where
+module _ (p : ℕ) (old new : WorldValue) (good : IsGood old) (low : p < old.sheet.layout.processes) (e : PlainShowCall) (at : (world_of new).situation p ≡ Showing e) where
   abbrev Either : Event → Reply → Type 0
-  Either event reply = JustBegan p old event reply new ⊎ WasReporting p old new
+  Either event reply = JustBegan p old event reply new ⊎ WasShowing p old new
 
   -- nothing changed
   unchanged : (event : Event) (reply : Reply) → new ≡ old → Either event reply
@@ -103,8 +103,8 @@ module _ (p : ℕ) (old new : WorldValue) (good : IsGood old) (low : p < old.she
     passes = inr (t.keeps.others p (λ same. ne (sym same)));
   })
 
-  -- a turn after which its process does not report
-  by_turn : (event : Event) (reply : Reply) (q : ℕ) → IsTurn q old new → (q ≡ p → (f : PlainReportCall) → (world_of new).situation q ≡ Reporting f → ⊥) → Either event reply
+  -- a turn after which its process does not show the sheet
+  by_turn : (event : Event) (reply : Reply) (q : ℕ) → IsTurn q old new → (q ≡ p → (f : PlainShowCall) → (world_of new).situation q ≡ Showing f → ⊥) → Either event reply
   by_turn event reply q t none = elim (cases_eq q p) [
     | inl same ↦ absurd (none same e (ap (λ x. (world_of new).situation x) same ∙ at))
     | inr ne ↦ by_other event reply q ne t
@@ -113,13 +113,13 @@ module _ (p : ℕ) (old new : WorldValue) (good : IsGood old) (low : p < old.she
   by_edit : (q : ℕ) (reply : Reply) → EditStepsBy old q reply new → Either (Step q) reply
   by_edit q reply h = by_turn (Step q) reply q (edit_turn old new q reply good.sound h) (λ same f is. edit_after h.steps.edit h.steps.edit.stage h.steps.word f (sym h.steps.steps.situation ∙ ap (λ x. (world_of new).situation x) h.steps.mine ∙ is))
     where
-      edit_after : (e : PlainEditCall) (s : Stage) (word : ℕ) (f : PlainReportCall) → edit_steps.after e s word ≡ Reporting f → ⊥
+      edit_after : (e : PlainEditCall) (s : Stage) (word : ℕ) (f : PlainShowCall) → edit_steps.after e s word ≡ Showing f → ⊥
       edit_after e (Answer how) word f is = absurd (cc)
       edit_after e _ word f is = absurd (cc)
 
-  by_report : (q : ℕ) (reply : Reply) → ReportStepsBy old q reply new → Either (Step q) reply
-  by_report q reply h = elim (cases_eq q p) [
-    | inr ne ↦ by_other (Step q) reply q ne (report_turn old new q reply good.sound h)
+  by_show : (q : ℕ) (reply : Reply) → ShowStepsBy old q reply new → Either (Step q) reply
+  by_show q reply h = elim (cases_eq q p) [
+    | inr ne ↦ by_other (Step q) reply q ne (show_turn old new q reply good.sound h)
     | inl same ↦ inr (record {
       show = h.steps.show;
       was = ap (λ x. (world_of old).situation x) (sym same) ∙ h.steps.at;
@@ -127,11 +127,11 @@ module _ (p : ℕ) (old new : WorldValue) (good : IsGood old) (low : p < old.she
     })
   ]
 
-  began : (q : ℕ) → ReportBegins old q new → Either (BeginReport q) Entered
+  began : (q : ℕ) → ShowBegins old q new → Either (BeginShow q) Entered
   began q h = elim (cases_eq q p) [
-    | inr ne ↦ by_other (BeginReport q) Entered q ne (report_begins_turn old new q good.sound h)
+    | inr ne ↦ by_other (BeginShow q) Entered q ne (show_begins_turn old new q good.sound h)
     | inl same ↦ inl (record {
-      event_is = ap (λ x. BeginReport x) same;
+      event_is = ap (λ x. BeginShow x) same;
       reply_is = refl;
       begun = subst (λ (x : ℕ). HasBegun x (world_of new)) same (record { before = world_of old; next = h.begun.next; sound = good.sound; real = h.there; begins = h.begun.begins });
     })
@@ -149,15 +149,15 @@ module _ (p : ℕ) (old new : WorldValue) (good : IsGood old) (low : p < old.she
     there = rw h.begun.asked.sheet.processes h.begun.asked.is.process;
     keeps = begin_sound h.begun.edit (world_of old) (world_of new) good.sound h.begun.asked.is h.begun.asked.sheet h.begun.asked.refs h.begun.begins;
     others = h.begun.begins.others;
-  }) (λ same f is. let bad : Editing h.begun.edit ≡ Reporting f = sym h.begun.begins.situation ∙ is in cc)
+  }) (λ same f is. let bad : Editing h.begun.edit ≡ Showing f = sym h.begun.begins.situation ∙ is in cc)
   by _ _ (work_begins q cell h) = by_work (BeginWork q cell) Entered q (work_begins_leaves old new q cell good.sound h) (work_begins_stays q old new cell h)
-  by _ _ (report_begins q h) = began q h
-  by _ _ (recovery_begins q h) = by_turn (BeginRecover q) Entered q (recovery_begins_turn old new q good.sound h) (λ same f is. let bad : Recovering _ ≡ Reporting f = sym h.begun.begins.situation ∙ is in cc)
+  by _ _ (show_begins q h) = began q h
+  by _ _ (recovery_begins q h) = by_turn (BeginRecover q) Entered q (recovery_begins_turn old new q good.sound h) (λ same f is. let bad : Recovering _ ≡ Showing f = sym h.begun.begins.situation ∙ is in cc)
   by _ _ (did_so.steps q reply is (edits h)) = by_edit q reply h
   by _ _ (did_so.steps q reply is (works h)) = by_work (Step q) reply q (work_leaves old new q reply good.sound h) (work_stays q old new reply h)
-  by _ _ (did_so.steps q reply is (reports h)) = by_report q reply h
+  by _ _ (did_so.steps q reply is (reports h)) = by_show q reply h
   by _ _ (did_so.steps q reply is (recoveries h)) = by_recovery q reply h
-  by _ _ (migration_begins q h) = by_turn (BeginMigrate q) Entered q (migration_begins_turn old new q good.sound h) (λ same f is. let bad : Migrating _ ≡ Reporting f = sym h.begun.situation ∙ is in cc)
+  by _ _ (migration_begins q h) = by_turn (BeginMigrate q) Entered q (migration_begins_turn old new q good.sound h) (λ same f is. let bad : Migrating _ ≡ Showing f = sym h.begun.situation ∙ is in cc)
   by _ _ (did_so.steps q reply is (migrations h)) = by_turn (Step q) reply q (migration_turn old new q reply good.sound h) (λ same f is. migration_shows_not old new q reply h f is)
   by _ _ (offers value h) = by_work (Offer value) Stepped value.task.process (offer_leaves old new value good.sound h) (offer_stays old new value h)
   by _ _ (evicts word h) = inr (record {
@@ -165,19 +165,19 @@ module _ (p : ℕ) (old new : WorldValue) (good : IsGood old) (low : p < old.she
     was = sym (h.evicts.situation p) ∙ at;
     passes = inr ((evict_sound word (world_of old) (world_of new) good.sound (buffered (world_of old) good.sound) h.evicts).1 p low);
   })
-  by _ _ (stops q h) = by_turn (Stop q) Stopped q (stop_turn old new q good.sound h) (λ same f is. let bad : situation.Stopped ≡ Reporting f = sym h.stops.situation ∙ is in cc)
-  by _ _ (crashes h) = absurd (let bad : situation.Stopped ≡ Reporting e = sym (h.crashes.situation p low) ∙ at in cc)
+  by _ _ (stops q h) = by_turn (Stop q) Stopped q (stop_turn old new q good.sound h) (λ same f is. let bad : situation.Stopped ≡ Showing f = sym h.stops.situation ∙ is in cc)
+  by _ _ (crashes h) = absurd (let bad : situation.Stopped ≡ Showing e = sym (h.crashes.situation p low) ∙ at in cc)
 
   one_event : (event : Event) (reply : Reply) → Takes old event reply new → Either event reply
   one_event event reply h = by event reply (did old new event reply h)
 
--- an answer that is no report's
-abbrev IsNoReport : call_answers.Answer → Type 0
-IsNoReport (Report end) = ⊥
-IsNoReport _ = Unit {0}
+-- an answer that is no show's
+abbrev IsNoShow : call_answers.Answer → Type 0
+IsNoShow (Show end) = ⊥
+IsNoShow _ = Unit {0}
 
-no_report : (a b : call_answers.Answer) → Answered a ≡ Answered b → IsNoReport b → IsNoReport a
-no_report a b is none = (let same : a ≡ b = cc in subst (λ (x : call_answers.Answer). IsNoReport x) (sym same) none)
+no_show : (a b : call_answers.Answer) → Answered a ≡ Answered b → IsNoShow b → IsNoShow a
+no_show a b is none = (let same : a ≡ b = cc in subst (λ (x : call_answers.Answer). IsNoShow x) (sym same) none)
 
 there : {A : Type 0} (xs : List A) (k : ℕ) (x : A) → slice_get xs k ≡ Some x → k < length xs
 there [] k x is = absurd (cc)
@@ -186,11 +186,11 @@ there (y ∷ ys) (suc k) x is = let r = there ys k x is in omega arith
 
 -- ---- along a run
 
--- a report of the world is one of its processes'
-real : (v : WorldValue) (p : ℕ) (e : PlainReportCall) → IsGood v → (world_of v).situation p ≡ Reporting e → p < v.sheet.layout.processes
+-- a show of the world is one of its processes'
+real : (v : WorldValue) (p : ℕ) (e : PlainShowCall) → IsGood v → (world_of v).situation p ≡ Showing e → p < v.sheet.layout.processes
 real v p e good is = elim (cases_lt p v.sheet.layout.processes) [
   | inl lt ↦ lt
-  | inr ge ↦ absurd (let bad : Idle first_rest ≡ Reporting e = sym (get_or_past v.situations p (Idle first_rest) (let n = good.situations in omega arith)) ∙ is in cc)
+  | inr ge ↦ absurd (let bad : Idle first_rest ≡ Showing e = sym (get_or_past v.situations p (Idle first_rest) (let n = good.situations in omega arith)) ∙ is in cc)
 ]
 
 module _ (old : WorldValue) (events : List Event) (replies : List Reply) (new : WorldValue) (run : RunOn 0 old.sheet.layout.shape empty_ledger old events replies new)
@@ -198,35 +198,35 @@ module _ (old : WorldValue) (events : List Event) (replies : List Reply) (new : 
   abbrev at : ℕ → WorldValue
   at k = (run.moment k).world
 
-  -- the worlds behind a begin, so many, the latest first
+  -- the worlds after a begin, n of them, the latest first
   abbrev past : ℕ → ℕ → List PlainWorld
   past start zero = []
   past start (suc n) = world_of (at (start + 1 + n)) ∷ past start n
 
-  record IsReporting (p k : ℕ) : Type 0 where
+  record IsShowing (p k : ℕ) : Type 0 where
     start : ℕ
     n : ℕ
     is : k ≡ start + 1 + n
-    begins : Happens events replies start (BeginReport p) Entered
-    last : (j : ℕ) → start < j → j < k → Happens events replies j (BeginReport p) Entered → ⊥
+    begins : Happens events replies start (BeginShow p) Entered
+    last : (j : ℕ) → start < j → j < k → Happens events replies j (BeginShow p) Entered → ⊥
     call : Call p (world_of (at k)) (past start n)
 
   takes_at : (k : ℕ) (event : Event) (reply : Reply) → Happens events replies k event reply → Takes (at k) event reply (at (k + 1))
   takes_at k event reply happens = (at_place old events replies new run k event reply happens).takes
 
-  not_twice : (k p : ℕ) (e : PlainReportCall) → (world_of (at k)).situation p ≡ Reporting e → Happens events replies k (BeginReport p) Entered → ⊥
-  not_twice k p e is happens = let t : ReportBegins (at k) p (at (k + 1)) = takes_at k (BeginReport p) Entered happens in let bad : Idle t.begun.next ≡ Reporting e = sym t.begun.begins.idle ∙ is in cc
+  not_twice : (k p : ℕ) (e : PlainShowCall) → (world_of (at k)).situation p ≡ Showing e → Happens events replies k (BeginShow p) Entered → ⊥
+  not_twice k p e is happens = let t : ShowBegins (at k) p (at (k + 1)) = takes_at k (BeginShow p) Entered happens in let bad : Idle t.begun.next ≡ Showing e = sym t.begun.begins.idle ∙ is in cc
 
-  reporting : (k : ℕ) → k ≤ length events → (p : ℕ) (e : PlainReportCall) → (world_of (at k)).situation p ≡ Reporting e → IsReporting p k
-  reporting zero lt p e is = absurd (let old_good : IsGood old = subst IsGood (ap (λ (m : Moment). m.world) run.first) (good 0 (omega arith)) in let here : (world_of old).situation p ≡ Reporting e = ap (λ (m : Moment). (world_of m.world).situation p) (sym run.first) ∙ is in let f = new_idle old old_good fresh p in let bad : Idle f.rest ≡ Reporting e = sym f.is ∙ here in cc)
+  reporting : (k : ℕ) → k ≤ length events → (p : ℕ) (e : PlainShowCall) → (world_of (at k)).situation p ≡ Showing e → IsShowing p k
+  reporting zero lt p e is = absurd (let old_good : IsGood old = subst IsGood (ap (λ (m : Moment). m.world) run.first) (good 0 (omega arith)) in let here : (world_of old).situation p ≡ Showing e = ap (λ (m : Moment). (world_of m.world).situation p) (sym run.first) ∙ is in let f = new_idle old old_good fresh p in let bad : Idle f.rest ≡ Showing e = sym f.is ∙ here in cc)
   reporting (suc k) lt p e is =
       let event = found_at events k (omega arith) in
       let reply = found_at replies k (let same = run.answered in omega arith) in
       let happens : Happens events replies k event.0 reply.0 = record { event_is = event.1; reply_is = reply.1 } in
-      let next : (world_of (at (k + 1))).situation p ≡ Reporting e = (let same : suc k ≡ k + 1 = omega arith in subst (λ i. (world_of (at i)).situation p ≡ Reporting e) same is) in
+      let next : (world_of (at (k + 1))).situation p ≡ Showing e = (let same : suc k ≡ k + 1 = omega arith in subst (λ i. (world_of (at i)).situation p ≡ Showing e) same is) in
       let layouts : (at (k + 1)).sheet.layout.processes ≡ (at k).sheet.layout.processes = ap (λ (l : Layout). l.processes) (at_place old events replies new run k event.0 reply.0 happens).layout in
       let low : p < (at k).sheet.layout.processes = (let r = real (at (k + 1)) p e (good (k + 1) (omega arith)) next in omega arith) in
-      up (λ i. IsReporting p i) k (elim (one_event p (at k) (at (k + 1)) (good k (omega arith)) low e next event.0 reply.0 (takes_at k event.0 reply.0 happens)) [
+      up (λ i. IsShowing p i) k (elim (one_event p (at k) (at (k + 1)) (good k (omega arith)) low e next event.0 reply.0 (takes_at k event.0 reply.0 happens)) [
         | inl b ↦ record {
           start = k;
           n = 0;
@@ -238,7 +238,7 @@ module _ (old : WorldValue) (events : List Event) (replies : List Reply) (new : 
         | inr w ↦ one_more k p w (good k (omega arith)) (reporting k (omega arith) p w.show w.was)
       ])
     where
-      one_more : (k p : ℕ) → WasReporting p (at k) (at (k + 1)) → IsGood (at k) → IsReporting p k → IsReporting p (k + 1)
+      one_more : (k p : ℕ) → WasShowing p (at k) (at (k + 1)) → IsGood (at k) → IsShowing p k → IsShowing p (k + 1)
       one_more k p w good r = record {
         start = r.start;
         n = suc r.n;
@@ -246,12 +246,12 @@ module _ (old : WorldValue) (events : List Event) (replies : List Reply) (new : 
         begins = r.begins;
         last = λ j later before happens. elim (cases_lt j k) [
           | inl lt ↦ r.last j later lt happens
-          | inr ge ↦ (let same : j ≡ k = omega arith in not_twice k p w.show w.was (subst (λ i. Happens events replies i (BeginReport p) Entered) same happens))
+          | inr ge ↦ (let same : j ≡ k = omega arith in not_twice k p w.show w.was (subst (λ i. Happens events replies i (BeginShow p) Entered) same happens))
         ];
         call = subst (λ i. Call p (world_of (at (k + 1))) (world_of (at i) ∷ past r.start r.n)) r.is (good.sound, w.passes, r.call);
       }
 
-  -- a world of the call is that of a moment behind the begin
+  -- a world of the call is that of a moment after the begin
   record IsAt (start k : ℕ) (m : PlainWorld) : Type 0 where
     i : ℕ
     later : start < i
@@ -285,36 +285,36 @@ module _ (old : WorldValue) (events : List Event) (replies : List Reply) (new : 
         order = r.order;
       }
 
-  -- what an answered report ended with
-  record Ends (k p : ℕ) (end : ReportEnd) : Type 0 where
-    show : PlainReportCall
+  -- what an answered show ended with
+  record Ends (k p : ℕ) (end : ShowEnd) : Type 0 where
+    show : PlainShowCall
     mine : show.process ≡ p
-    was : (world_of (at k)).situation p ≡ Reporting show
+    was : (world_of (at k)).situation p ≡ Showing show
     last : show.stage ≡ stages.Answer end
     kept : (at (k + 1)).reports ≡ reports_by (at k).reports show (turns.Answers end)
 
-  ends_at : (s : ReportStage) (end : ReportEnd) → effect_at s ≡ turns.Answers end → s ≡ stages.Answer end
+  ends_at : (s : ShowStage) (end : ShowEnd) → effect_at s ≡ turns.Answers end → s ≡ stages.Answer end
   ends_at (stages.Answer e) end is = let same : e ≡ end = cc in ap (λ x. stages.Answer x) same
   ends_at _ end is = absurd (cc)
 
-  ends_of : (k p : ℕ) (reply : Reply) (end : ReportEnd) (h : ReportStepsBy (at k) p reply (at (k + 1))) → h.what ≡ turns.Answers end → Ends k p end
+  ends_of : (k p : ℕ) (reply : Reply) (end : ShowEnd) (h : ShowStepsBy (at k) p reply (at (k + 1))) → h.what ≡ turns.Answers end → Ends k p end
   ends_of k p reply end h is = record {
     show = h.steps.show;
     mine = h.steps.mine;
     was = h.steps.at;
     last = ends_at h.steps.show.stage end (sym h.steps.is ∙ is);
-    kept = h.steps.reports ∙ ap (λ (w : Turn ReportEnd). reports_by (at k).reports h.steps.show w) is;
+    kept = h.steps.reports ∙ ap (λ (w : Turn ShowEnd). reports_by (at k).reports h.steps.show w) is;
   }
 
-  true_at : (k p : ℕ) (end : ReportEnd) → k ≤ length events → (h : Ends k p end) → (r : IsReporting p k) → IsTrueReport (world_of (at (r.start + 1 + r.n))) (past r.start r.n) h.show end
+  true_at : (k p : ℕ) (end : ShowEnd) → k ≤ length events → (h : Ends k p end) → (r : IsShowing p k) → IsTrueShow (world_of (at (r.start + 1 + r.n))) (past r.start r.n) h.show end
   true_at k p end lt h r =
       answer_true p (world_of (at (r.start + 1 + r.n))) (past r.start r.n) (subst (λ i. Call p (world_of (at i)) (past r.start r.n)) r.is r.call) h.show end
-      (subst (λ i. (world_of (at i)).situation p ≡ Reporting h.show) r.is h.was) h.last
+      (subst (λ i. (world_of (at i)).situation p ≡ Showing h.show) r.is h.was) h.last
 
-  is_call : (k p : ℕ) (r : IsReporting p k) → IsCall events replies p r.start k
+  is_call : (k p : ℕ) (r : IsShowing p k) → IsCall events replies p r.start k
   is_call k p r = record { begins = r.begins; earlier = (let i = r.is in omega arith); last = r.last }
 
-  settled_fits : (k p : ℕ) → k ≤ length events → (h : Ends k p ends.Settled) → (r : IsReporting p k) → WasStill (world_of (at (r.start + 1 + r.n))) (past r.start r.n) (answered h.show) → SettledFits run.moment r.start k (answered h.show)
+  settled_fits : (k p : ℕ) → k ≤ length events → (h : Ends k p ends.Settled) → (r : IsShowing p k) → WasStill (world_of (at (r.start + 1 + r.n))) (past r.start r.n) (answered h.show) → SettledFits run.moment r.start k (answered h.show)
   settled_fits k p lt h r t =
       let i = is_at r.start r.n t.moment t.of in
       let fits : MomentFits (run.moment i.i) = run.fits i.i (let u = i.until in let same = r.is in omega arith) in
@@ -333,53 +333,53 @@ module _ (old : WorldValue) (events : List Event) (replies : List Reply) (new : 
       ap (λ (r : PlainReports). slice_index_or r.values p []) h.kept ∙ ap (λ q. slice_index_or (slice_set (at k).reports.values q (answered h.show)) p []) h.mine ∙ get_or-set_same (at k).reports.values p (answered h.show) [] (let n = g.reports.processes in omega arith)
 
   -- an edit settles nothing
-  edit_settles : (processes number : ℕ) (o : Option Outcome) → Answered (Report Settled) ≡ reply_with processes number o → ⊥
+  edit_settles : (processes number : ℕ) (o : Option Outcome) → Answered (Show Settled) ≡ reply_with processes number o → ⊥
   edit_settles processes number None is = cc
   edit_settles processes number (Some outcome.Done) is = cc
   edit_settles processes number (Some (outcome.Overtaken noted seen)) is = cc
 
-  edit_unsettles : (processes number : ℕ) (place : Place) (word : ℕ) (o : Option Outcome) → Answered (Report (Unsettled place word)) ≡ reply_with processes number o → ⊥
+  edit_unsettles : (processes number : ℕ) (place : Place) (word : ℕ) (o : Option Outcome) → Answered (Show (Unsettled place word)) ≡ reply_with processes number o → ⊥
   edit_unsettles processes number place word None is = cc
   edit_unsettles processes number place word (Some outcome.Done) is = cc
   edit_unsettles processes number place word (Some (outcome.Overtaken noted seen)) is = cc
 
   -- nor does work, nor a recovery
-  work_reports_not : (what : Turn WorkEnd) (answer : call_answers.Answer) → Answered answer ≡ work_reply what → IsNoReport answer
-  work_reports_not turns.GoesOn answer is = absurd (cc)
-  work_reports_not (turns.Answers end) answer is = no_report answer _ is tt
+  work_shows_not : (what : Turn WorkEnd) (answer : call_answers.Answer) → Answered answer ≡ work_reply what → IsNoShow answer
+  work_shows_not turns.GoesOn answer is = absurd (cc)
+  work_shows_not (turns.Answers end) answer is = no_show answer _ is tt
 
-  recovery_reports_not : (what : Turn RecoveryEnd) (answer : call_answers.Answer) → Answered answer ≡ recovery_reply what → IsNoReport answer
+  recovery_reports_not : (what : Turn RecoveryEnd) (answer : call_answers.Answer) → Answered answer ≡ recovery_reply what → IsNoShow answer
   recovery_reports_not turns.GoesOn answer is = absurd (cc)
-  recovery_reports_not (turns.Answers end) answer is = no_report answer _ is tt
+  recovery_reports_not (turns.Answers end) answer is = no_show answer _ is tt
 
-  migration_reports_not : (what : Turn MigrateEnd) (answer : call_answers.Answer) → Answered answer ≡ migration_reply what → IsNoReport answer
+  migration_reports_not : (what : Turn MigrateEnd) (answer : call_answers.Answer) → Answered answer ≡ migration_reply what → IsNoShow answer
   migration_reports_not turns.GoesOn answer is = absurd (cc)
-  migration_reports_not (turns.Answers end) answer is = no_report answer _ is tt
+  migration_reports_not (turns.Answers end) answer is = no_show answer _ is tt
 
-  settles : (what : Turn ReportEnd) → Answered (Report Settled) ≡ report_reply what → what ≡ turns.Answers ends.Settled
+  settles : (what : Turn ShowEnd) → Answered (Show Settled) ≡ show_reply what → what ≡ turns.Answers ends.Settled
   settles turns.GoesOn is = absurd (cc)
   settles (turns.Answers ends.Settled) is = refl
   settles (turns.Answers (ends.Unsettled place word)) is = absurd (cc)
 
-  settled : (k p : ℕ) → Happens events replies k (Step p) (Answered (Report Settled)) → (start : ℕ) × IsCall events replies p start k × SettledFits run.moment start k (kept_values (at (k + 1)) p)
-  settled k p happens = by (takes_at k (Step p) (Answered (Report Settled)) happens)
+  settled : (k p : ℕ) → Happens events replies k (Step p) (Answered (Show Settled)) → (start : ℕ) × IsCall events replies p start k × SettledFits run.moment start k (kept_values (at (k + 1)) p)
+  settled k p happens = by (takes_at k (Step p) (Answered (Show Settled)) happens)
     where
       lt : k < length events
       lt = there events k (Step p) happens.event_is
 
-      by : StepsBy (at k) p (Answered (Report Settled)) (at (k + 1)) → (start : ℕ) × IsCall events replies p start k × SettledFits run.moment start k (kept_values (at (k + 1)) p)
-      by (edits h) = absurd (edit_settles (at k).sheet.layout.processes h.steps.edit.number (outcome_at h.steps.edit.stage) (replied (at k) (at (k + 1)) p (Answered (Report Settled)) h))
-      by (works h) = absurd (work_reports_not h.what (Report Settled) h.is)
-      by (recoveries h) = absurd (recovery_reports_not h.what (Report Settled) h.is)
-      by (migrations h) = absurd (migration_reports_not h.what (Report Settled) h.is)
+      by : StepsBy (at k) p (Answered (Show Settled)) (at (k + 1)) → (start : ℕ) × IsCall events replies p start k × SettledFits run.moment start k (kept_values (at (k + 1)) p)
+      by (edits h) = absurd (edit_settles (at k).sheet.layout.processes h.steps.edit.number (outcome_at h.steps.edit.stage) (replied (at k) (at (k + 1)) p (Answered (Show Settled)) h))
+      by (works h) = absurd (work_shows_not h.what (Show Settled) h.is)
+      by (recoveries h) = absurd (recovery_reports_not h.what (Show Settled) h.is)
+      by (migrations h) = absurd (migration_reports_not h.what (Show Settled) h.is)
       by (reports h) =
-          let e : Ends k p ends.Settled = ends_of k p (Answered (Report Settled)) ends.Settled h (settles h.what h.is) in
+          let e : Ends k p ends.Settled = ends_of k p (Answered (Show Settled)) ends.Settled h (settles h.what h.is) in
           let within : k ≤ length events = (let l = lt in omega arith) in
           let r = reporting k within p e.show e.was in
           (r.start, is_call k p r, subst (λ values. SettledFits run.moment r.start k values) (sym (kept_here k p within e)) (settled_fits k p within e r (true_at k p ends.Settled within e r)))
 
   -- a word that is not at rest, or moved in the call
-  module _ (k p : ℕ) (r : IsReporting p k) (place : Place) (word : ℕ) (Bad : Type 0) (watched : (i : ℕ) → i ≤ k → IsWatched (world_of (at i)) place) (bad : (i : ℕ) → i ≤ k → Bad → IsUnrest (world_of (at i)) place word)
+  module _ (k p : ℕ) (r : IsShowing p k) (place : Place) (word : ℕ) (Bad : Type 0) (watched : (i : ℕ) → i ≤ k → IsWatched (world_of (at i)) place) (bad : (i : ℕ) → i ≤ k → Bad → IsUnrest (world_of (at i)) place word)
       (t : WasOff (world_of (at (r.start + 1 + r.n))) (past r.start r.n) place word Bad) where
     by_why : (why : Bad ⊎ ((earlier : PlainWorld) × AreInTurn earlier t.moment (world_of (at (r.start + 1 + r.n))) (past r.start r.n) × (earlier.memory.cached place ≢ word))) → UnsettledFits run.moment r.start k place word
     by_why (inl b) =
@@ -414,38 +414,38 @@ module _ (old : WorldValue) (events : List Event) (replies : List Reply) (new : 
   processes_at : (k i : ℕ) → k ≤ length events → i ≤ k → (at i).sheet.layout.processes ≡ (at k).sheet.layout.processes
   processes_at k i lt le = ap (λ (l : Layout). l.processes) (run.layouts i (omega arith) ∙ sym (run.layouts k lt))
 
-  fits_at : (k p : ℕ) (e : PlainReportCall) → k ≤ length events → (world_of (at k)).situation p ≡ Reporting e → CallFits (world_of (at k)) p (Reporting e)
+  fits_at : (k p : ℕ) (e : PlainShowCall) → k ≤ length events → (world_of (at k)).situation p ≡ Showing e → CallFits (world_of (at k)) p (Showing e)
   fits_at k p e lt is = subst (λ (s : Situation). CallFits (world_of (at k)) p s) is ((good k lt).sound.calls p (real (at k) p e (good k lt) is))
 
-  unsettled_by : (k p : ℕ) → k ≤ length events → (r : Place) (word : ℕ) (h : Ends k p (ends.Unsettled r word)) → (i : IsReporting p k) → UnsettledFits run.moment i.start k r word
+  unsettled_by : (k p : ℕ) → k ≤ length events → (r : Place) (word : ℕ) (h : Ends k p (ends.Unsettled r word)) → (i : IsShowing p k) → UnsettledFits run.moment i.start k r word
   unsettled_by k p lt (place.Mark c) word h i =
-      let there : c < cells_of (at k).sheet.layout = (let f = fits_at k p h.show lt h.was in let low = subst (λ (s : ReportStage). IsStage h.show s) h.last f.1.is.stage in let same = f.1.cells in omega arith) in
+      let there : c < cells_of (at k).sheet.layout = (let f = fits_at k p h.show lt h.was in let low = subst (λ (s : ShowStage). IsStage h.show s) h.last f.1.is.stage in let same = f.1.cells in omega arith) in
       off_fits k p i (place.Mark c) word _ (λ j le. (let same = cells_at k j lt le in omega arith)) (λ j le b. ((let same = cells_at k j lt le in omega arith), b)) (true_at k p (ends.Unsettled (place.Mark c) word) lt h i)
   unsettled_by k p lt (place.Announce q) word h i =
-      let there : q < (at k).sheet.layout.processes = (let f = fits_at k p h.show lt h.was in let low = subst (λ (s : ReportStage). IsStage h.show s) h.last f.1.is.stage in let same = f.1.processes in omega arith) in
+      let there : q < (at k).sheet.layout.processes = (let f = fits_at k p h.show lt h.was in let low = subst (λ (s : ShowStage). IsStage h.show s) h.last f.1.is.stage in let same = f.1.processes in omega arith) in
       off_fits k p i (place.Announce q) word _ (λ j le. (let same = processes_at k j lt le in omega arith)) (λ j le b. ((let same = processes_at k j lt le in omega arith), b)) (true_at k p (ends.Unsettled (place.Announce q) word) lt h i)
-  unsettled_by k p lt _ word h i = absurd (let f = fits_at k p h.show lt h.was in subst (λ (s : ReportStage). IsStage h.show s) h.last f.1.is.stage)
+  unsettled_by k p lt _ word h i = absurd (let f = fits_at k p h.show lt h.was in subst (λ (s : ShowStage). IsStage h.show s) h.last f.1.is.stage)
 
-  unsettles : (what : Turn ReportEnd) (r : Place) (word : ℕ) → Answered (Report (Unsettled r word)) ≡ report_reply what → what ≡ turns.Answers (ends.Unsettled r word)
+  unsettles : (what : Turn ShowEnd) (r : Place) (word : ℕ) → Answered (Show (Unsettled r word)) ≡ show_reply what → what ≡ turns.Answers (ends.Unsettled r word)
   unsettles turns.GoesOn r word is = absurd (cc)
   unsettles (turns.Answers end) r word is = let same : end ≡ ends.Unsettled r word = cc in ap (λ e. turns.Answers e) same
 
-  unsettled : (k p : ℕ) (place : Place) (word : ℕ) → Happens events replies k (Step p) (Answered (Report (Unsettled place word))) → (start : ℕ) × IsCall events replies p start k × UnsettledFits run.moment start k place word
-  unsettled k p place word happens = by (takes_at k (Step p) (Answered (Report (Unsettled place word))) happens)
+  unsettled : (k p : ℕ) (place : Place) (word : ℕ) → Happens events replies k (Step p) (Answered (Show (Unsettled place word))) → (start : ℕ) × IsCall events replies p start k × UnsettledFits run.moment start k place word
+  unsettled k p place word happens = by (takes_at k (Step p) (Answered (Show (Unsettled place word))) happens)
     where
       lt : k < length events
       lt = there events k (Step p) happens.event_is
 
-      by : StepsBy (at k) p (Answered (Report (Unsettled place word))) (at (k + 1)) → (start : ℕ) × IsCall events replies p start k × UnsettledFits run.moment start k place word
-      by (edits h) = absurd (edit_unsettles (at k).sheet.layout.processes h.steps.edit.number place word (outcome_at h.steps.edit.stage) (replied (at k) (at (k + 1)) p (Answered (Report (Unsettled place word))) h))
-      by (works h) = absurd (work_reports_not h.what (Report (Unsettled place word)) h.is)
-      by (recoveries h) = absurd (recovery_reports_not h.what (Report (Unsettled place word)) h.is)
-      by (migrations h) = absurd (migration_reports_not h.what (Report (Unsettled place word)) h.is)
+      by : StepsBy (at k) p (Answered (Show (Unsettled place word))) (at (k + 1)) → (start : ℕ) × IsCall events replies p start k × UnsettledFits run.moment start k place word
+      by (edits h) = absurd (edit_unsettles (at k).sheet.layout.processes h.steps.edit.number place word (outcome_at h.steps.edit.stage) (replied (at k) (at (k + 1)) p (Answered (Show (Unsettled place word))) h))
+      by (works h) = absurd (work_shows_not h.what (Show (Unsettled place word)) h.is)
+      by (recoveries h) = absurd (recovery_reports_not h.what (Show (Unsettled place word)) h.is)
+      by (migrations h) = absurd (migration_reports_not h.what (Show (Unsettled place word)) h.is)
       by (reports h) =
-          let e : Ends k p (ends.Unsettled place word) = ends_of k p (Answered (Report (Unsettled place word))) (ends.Unsettled place word) h (unsettles h.what place word h.is) in
+          let e : Ends k p (ends.Unsettled place word) = ends_of k p (Answered (Show (Unsettled place word))) (ends.Unsettled place word) h (unsettles h.what place word h.is) in
           let within : k ≤ length events = (let l = lt in omega arith) in
           let r = reporting k within p e.show e.was in
           (r.start, is_call k p r, unsettled_by k p within place word e r)
 
-  pub reports_fit : ReportsFit run.moment events replies
-  reports_fit = record { settled = settled; unsettled = unsettled }
+  pub shows_fit : ReportsFit run.moment events replies
+  shows_fit = record { settled = settled; unsettled = unsettled }

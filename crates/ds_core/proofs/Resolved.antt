@@ -1,4 +1,4 @@
--- A recovery's answer: what it does to the ledger, and what the words tell behind it.
+-- A recovery's answer: what it does to the ledger, and what the words say after it.
 use Rattle.std.proofs.Common.{ℕ, ◌≡◌, ◌≢◌, ◌<◌, ◌+◌, ◌-◌, ◌/◌, List, [], ◌∷◌, refl, ap, sym, ◌∙◌, subst, arith, inl, inr, zero, suc, Bool, true, false, Some, None}
 use Rattle.std.specs.Prelude.{Option, Contains, if◌then◌else◌}
 use Rattle.std.proofs.lemmas.Bool.{cases_eq}
@@ -57,7 +57,7 @@ itself x = elim (eqb_tells x.process x.process) [
   ]
 ]
 
--- an edit that counts ended as done
+-- a linearized edit ended as done
 pub counted_done : (es : List PlainEdit) (x : PlainEdit) → Contains es x → phase_among es x.process x.number ≡ phase.Done
 counted_done [] x there = absurd (contains_none x there)
 counted_done (y ∷ es) x (zero, lt, is) = ap (λ (z : PlainEdit). phase_among (z ∷ es) x.process x.number) is ∙ ap (λ (b : Bool). if b then phase.Done else phase_among es x.process x.number) (itself x)
@@ -77,7 +77,7 @@ out_lost (y ∷ es) p n none =
 
 -- ---- at its answer
 
--- the recovery is at its answer, and this is what it tells
+-- the recovery is at its answer, and this is what it reports
 pub record IsAtAnswer (e : PlainRecoverCall) (s : RecoverStage) (answer : Answer) : Type 0 where
   pub how : Option Bool
   pub at : s ≡ stages.Answer how
@@ -104,7 +104,7 @@ last_is : (es : List PlainEdit) (p n : ℕ) → last_announcement es p n / 4 ≡
 last_is es p zero = refl
 last_is es p (suc n) = announced_number n (phase_among es p n)
 
--- the world, with what it tells, behind a recovery's answer
+-- the world, with what it reports, after a recovery's answer
 pub record IsResolved (layout : Layout) (l : Ledger) (p : ℕ) (answer : Answer) (v' : WorldValue) : Type 0 where
   pub ledger : Ledger
   pub moves : AnswerMoves l p answer ledger
@@ -170,7 +170,7 @@ not_pending : (word n : ℕ) (b : Bool) → Announced_as word b → word ≡ ann
 not_pending word n true k is = let i = k.is in omega arith
 not_pending word n false k is = let i = k.is in omega arith
 
--- what the word of an ended edit tells
+-- what the word of an ended edit says
 tells_how : (word n : ℕ) (how : Outcome) (b : Bool) → Announced_as word b → word ≡ announcement n (phase_of how) → phase_of how ≡ phase_for b
 tells_how word n outcome.Done true k is = refl
 tells_how word n outcome.Done false k is = absurd (let i = k.is in omega arith)
@@ -229,7 +229,7 @@ module _ (layout : Layout) (l : Ledger) (v v' : WorldValue) (h : IsOf layout l v
   next_word : next ≡ (world_of v).memory.cached (Announce p) / 4
   next_word = left_number s.steps.recovery.announcement found.how (world_of v) p s.steps.recovery.cell resolved ∙ ap (λ x. x / 4) (sym cached_word)
 
-  -- ---- it repeats what it told before
+  -- ---- it repeats what it reported before
 
   sees_cell : (b : Bool) → found.how ≡ Some b → s.steps.recovery.cell ≡ cell_told v.sheet.layout ((world_of v).memory.cached (Header p (number_of s.steps.recovery)))
   sees_cell b is =

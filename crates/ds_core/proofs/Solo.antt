@@ -2,7 +2,7 @@
 use Rattle.std.proofs.Common.{ℕ, ◌≡◌, List, [], ◌∷◌, refl, ap, sym, ◌∙◌, subst, Some, None}
 use Rattle.std.specs.Prelude.{Option}
 use Rattle.ds_layout.specs.declared.place.Place.TheVariants as place
-use Rattle.ds_state.specs.Works.{PlainWorkCall, PlainReportCall, PlainRecoverCall, PlainMigrateCall}
+use Rattle.ds_state.specs.Works.{PlainWorkCall, PlainShowCall, PlainRecoverCall, PlainMigrateCall}
 use Rattle.ds_state.specs.Edits.{PlainEditCall}
 use Rattle.ds_state.specs.World.{PlainWorld}
 use Rattle.ds_state.specs.Value.{WorldValue, world_of}
@@ -12,7 +12,7 @@ use Rattle.ds_state.specs.declared.stage.Outcome.TheVariants as outcome
 use Rattle.ds_state.specs.declared.stage.Stage.{Stage}
 use Rattle.ds_state.specs.declared.stage.Stage.TheVariants.{StoreHeader, FlushNoted, BackNoted, OrDone, FlushDone, BackDone, Swap, StoreOutcome, FlushOutcome, BackOutcome, Answer}
 use Rattle.ds_state.specs.declared.situation.Situation.{Situation}
-use Rattle.ds_state.specs.declared.situation.Situation.TheVariants.{Idle, Editing, Working, Recovering, Reporting, Migrating}
+use Rattle.ds_state.specs.declared.situation.Situation.TheVariants.{Idle, Editing, Working, Recovering, Showing, Migrating}
 use Rattle.ds_edit.specs.EditSteps.{next_at}
 use Rattle.ds_edit.specs.EditTakes.{rest_behind, after}
 use Rattle.ds_edit.specs.Alone.{IsAloneAt}
@@ -22,7 +22,7 @@ use Rattle.ds_core.specs.StepEvents.{edits, works, reports, recoveries, migratio
 use Rattle.ds_state.specs.EditEndings.{outcome_at, end_of}
 use Rattle.ds_core.specs.Takes.{Takes, WorldRun}
 use Rattle.ds_core.specs.Solo.{IsSoloEvent, IsSolo, IsDoneOnly, AreDoneOnly}
-use Rattle.ds_core.proofs.Did.{Did, did, IsNothing, IsOfStep, nothing, edit_begins, work_begins, report_begins, recovery_begins, migration_begins, steps, offers, evicts, stops, crashes}
+use Rattle.ds_core.proofs.Did.{Did, did, IsNothing, IsOfStep, nothing, edit_begins, work_begins, show_begins, recovery_begins, migration_begins, steps, offers, evicts, stops, crashes}
 use Rattle.ds_core.specs.declared.event.Event.{Event}
 use Rattle.ds_state.specs.declared.answer.Answer.{Answer as ReplyAnswer}
 use Rattle.ds_state.specs.declared.answer.Answer.TheVariants.{Edit}
@@ -62,7 +62,7 @@ pub some_outcome : (processes number : ℕ) (a : ReplyAnswer) (o : Option Outcom
 some_outcome processes number a None is = absurd (cc)
 some_outcome processes number a (Some how) is = (how, refl, cc)
 
--- behind its answer an edit's process is idle, with the number behind
+-- after its answer an edit's process is idle, with the next number
 pub after_answer : (e : PlainEditCall) (s : Stage) (how : Outcome) (word : ℕ) → s ≡ Answer how → after e s word ≡ Idle (rest_behind e)
 after_answer e s how word is = ap (λ x. after e x word) is
 
@@ -112,9 +112,9 @@ module _ (old new : WorldValue) (sound : IsSound (world_of old)) (p number : ℕ
           },
         )
 
-  -- it is in no report
-  no_report : (q : ℕ) → q ≡ p → (f : PlainReportCall) → (world_of old).situation q ≡ Reporting f → ⊥
-  no_report q same f is = subst EditsOnly (ap (λ x. (world_of old).situation x) (sym same) ∙ is) a.only
+  -- it is in no show
+  no_show : (q : ℕ) → q ≡ p → (f : PlainShowCall) → (world_of old).situation q ≡ Showing f → ⊥
+  no_show q same f is = subst EditsOnly (ap (λ x. (world_of old).situation x) (sym same) ∙ is) a.only
 
   no_work : (q : ℕ) → q ≡ p → (f : PlainWorkCall) → (world_of old).situation q ≡ Working f → ⊥
   no_work q same f is = subst EditsOnly (ap (λ x. (world_of old).situation x) (sym same) ∙ is) a.only
@@ -141,12 +141,12 @@ module _ (old new : WorldValue) (sound : IsSound (world_of old)) (p number : ℕ
   by _ _ (nothing event reply none is same) solo = (silent reply none, unchanged same)
   by _ _ (edit_begins r n h) solo = absurd solo
   by _ _ (work_begins q cell h) solo = absurd solo
-  by _ _ (report_begins q h) solo = absurd solo
+  by _ _ (show_begins q h) solo = absurd solo
   by _ _ (recovery_begins q h) solo = absurd solo
   by _ _ (migration_begins q h) solo = absurd solo
   by _ _ (steps q reply is (edits h)) same = by_edit q reply same is h
   by _ _ (steps q reply is (works h)) same = absurd (no_work q same h.steps.work h.steps.works)
-  by _ _ (steps q reply is (reports h)) same = absurd (no_report q same h.steps.show h.steps.at)
+  by _ _ (steps q reply is (reports h)) same = absurd (no_show q same h.steps.show h.steps.at)
   by _ _ (steps q reply is (recoveries h)) same = absurd (no_recovery q same h.steps.recovery h.steps.at)
   by _ _ (steps q reply is (migrations h)) same = absurd (no_migration q same h.steps.migration h.steps.at)
   by _ _ (offers value h) solo = absurd solo

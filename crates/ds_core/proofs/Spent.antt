@@ -1,9 +1,9 @@
--- An edit that was answered Overtaken never counts.
+-- An edit that was answered Overtaken is never linearized.
 use Rattle.std.proofs.Common.{ℕ, ◌≡◌, ◌<◌, List, [], ◌∷◌, ◌++◌, refl, ap, sym, ◌∙◌, subst, arith, inl, inr, length}
 use Rattle.ds_state.specs.declared.turn.Turn.{Turn}
 use Rattle.ds_state.specs.declared.migration.MigrateEnd.{MigrateEnd}
 use Rattle.ds_state.specs.declared.recovery.RecoveryEnd.{RecoveryEnd}
-use Rattle.ds_state.specs.declared.report.ReportEnd.{ReportEnd}
+use Rattle.ds_state.specs.declared.show.ShowEnd.{ShowEnd}
 use Rattle.std.specs.Prelude.{Contains}
 use Rattle.std.proofs.lemmas.List.{append-nil}
 use Rattle.std.proofs.lemmas.List.Elements.{All-contains, Contains-append_cases}
@@ -26,7 +26,7 @@ use Rattle.ds_core.specs.EditEvents.{EditStepsBy}
 use Rattle.ds_state.specs.EditEndings.{end_of, outcome_at}
 use Rattle.ds_core.specs.Takes.{Takes, WorldRun}
 use Rattle.ds_core.specs.SpentNumbers.{IsOut}
-use Rattle.ds_core.proofs.Did.{Did, did, nothing, edit_begins, work_begins, report_begins, recovery_begins, migration_begins, steps, offers, evicts, stops, crashes}
+use Rattle.ds_core.proofs.Did.{Did, did, nothing, edit_begins, work_begins, show_begins, recovery_begins, migration_begins, steps, offers, evicts, stops, crashes}
 use Rattle.ds_state.specs.Spent.{IsSpent}
 use Rattle.ds_state.specs.Rely.{Keeps}
 use Rattle.ds_state.proofs.Spent.{spent_grown, spent_stays, spent_evicted, spent_crashed, swap_unspent, answer_spent}
@@ -43,12 +43,12 @@ use Rattle.ds_core.specs.declared.reply.Reply.TheVariants.{Answered}
 use Rattle.ds_edit.proofs.Driving.{counted_cases, answers_at}
 use Rattle.ds_core.proofs.Replied.{replied}
 use Rattle.ds_core.proofs.Moves.{counts_at}
-use Rattle.ds_core.specs.ReportEvents.{report_reply, ReportStepsBy}
+use Rattle.ds_core.specs.ShowEvents.{show_reply, ShowStepsBy}
 use Rattle.ds_state.specs.declared.work.WorkEnd.{WorkEnd}
 use Rattle.ds_core.specs.WorkEvents.{work_reply, WorkStepsBy}
 use Rattle.ds_core.specs.RecoveryEvents.{recovery_reply, RecoveryStepsBy}
 use Rattle.ds_core.specs.StepEvents.{edits, works, reports, recoveries, migrations}
-use Rattle.ds_core.proofs.Turns.{IsTurn, LeavesEdits, edit_turn, report_turn, report_begins_turn, stop_turn, work_leaves, work_begins_leaves, offer_leaves, recovery_turn, recovery_begins_turn, migration_turn, migration_begins_turn}
+use Rattle.ds_core.proofs.Turns.{IsTurn, LeavesEdits, edit_turn, show_turn, show_begins_turn, stop_turn, work_leaves, work_begins_leaves, offer_leaves, recovery_turn, recovery_begins_turn, migration_turn, migration_begins_turn}
 use Rattle.ds_core.proofs.Solo.{some_outcome}
 use Rattle.ds_state.proofs.Counting.{contains_one}
 
@@ -95,8 +95,8 @@ module _ (old new : WorldValue) (sound : IsSound (world_of old)) (p n : ℕ) (sp
   by_recovery : (q : ℕ) (reply : Reply) → RecoveryStepsBy old q reply new → Stays
   by_recovery q reply h = by_turn q (recovery_turn old new q reply sound h) h.steps.steps.counted
 
-  by_report : (q : ℕ) (reply : Reply) → ReportStepsBy old q reply new → Stays
-  by_report q reply h = by_turn q (report_turn old new q reply sound h) h.steps.steps.counted
+  by_show : (q : ℕ) (reply : Reply) → ShowStepsBy old q reply new → Stays
+  by_show q reply h = by_turn q (show_turn old new q reply sound h) h.steps.steps.counted
 
   by : (event : Event) (reply : Reply) → Did old new event reply → Stays
   by _ _ (nothing event reply none is same) = unchanged same
@@ -104,12 +104,12 @@ module _ (old new : WorldValue) (sound : IsSound (world_of old)) (p n : ℕ) (sp
       let same = h.begun.begins.memory.persisted (Announce p) in
       (spent_grown (world_of old) (world_of new) p n (omega (arith, same)) spent, same_list h.begun.begins.counted)
   by _ _ (work_begins q cell h) = by_leaves q (work_begins_leaves old new q cell sound h)
-  by _ _ (report_begins q h) = by_turn q (report_begins_turn old new q sound h) h.begun.begins.counted
+  by _ _ (show_begins q h) = by_turn q (show_begins_turn old new q sound h) h.begun.begins.counted
   by _ _ (recovery_begins q h) = by_turn q (recovery_begins_turn old new q sound h) h.begun.begins.counted
   by _ _ (migration_begins q h) = by_turn q (migration_begins_turn old new q sound h) h.begun.counted
   by _ _ (steps q reply is (edits h)) = by_step q reply h
   by _ _ (steps q reply is (works h)) = by_work q reply h
-  by _ _ (steps q reply is (reports h)) = by_report q reply h
+  by _ _ (steps q reply is (reports h)) = by_show q reply h
   by _ _ (steps q reply is (recoveries h)) = by_recovery q reply h
   by _ _ (steps q reply is (migrations h)) = by_turn q (migration_turn old new q reply sound h) h.steps.steps.counted
   by _ _ (offers value h) = by_leaves value.task.process (offer_leaves old new value sound h)
@@ -120,7 +120,7 @@ module _ (old new : WorldValue) (sound : IsSound (world_of old)) (p n : ℕ) (sp
   pub one_event : (event : Event) (reply : Reply) → Takes old event reply new → Stays
   one_event event reply h = by event reply (did old new event reply h)
 
--- a number that is spent and of which no edit counts stays so through a run
+-- a number that is spent and of which no edit is linearized stays so through a run
 pub stays_out : (events : List Event) (replies : List Reply) (old new : WorldValue) (p n : ℕ) → IsSound (world_of old) → IsSpent (world_of old) p n → IsOut (world_of old) p n → WorldRun old events replies new
     → IsSpent (world_of new) p n × IsOut (world_of new) p n
 stays_out [] [] old new p n sound spent out run = unchanged old new sound p n spent out run
@@ -157,8 +157,8 @@ overtaken_out old mid p n other sound h =
           omega arith),
     )
 
--- a report answers nothing as Overtaken
-not_overtaken : (what : Turn ReportEnd) (n : ℕ) (other : Other) → Answered (Edit (Overtaken n other)) ≡ report_reply what → ⊥
+-- a show answers nothing as Overtaken
+not_overtaken : (what : Turn ShowEnd) (n : ℕ) (other : Other) → Answered (Edit (Overtaken n other)) ≡ show_reply what → ⊥
 not_overtaken turns.GoesOn n other is = absurd (cc)
 not_overtaken (turns.Answers end) n other is = absurd (cc)
 
@@ -174,7 +174,7 @@ migration_not_overtaken : (what : Turn MigrateEnd) (n : ℕ) (other : Other) →
 migration_not_overtaken turns.GoesOn n other is = absurd (cc)
 migration_not_overtaken (turns.Answers end) n other is = absurd (cc)
 
--- the number of an edit that was answered Overtaken is spent, and no edit of it ever counts
+-- the number of an edit that was answered Overtaken is spent, and no edit of it is ever linearized
 pub overtaken_never : (old mid new : WorldValue) (events : List Event) (replies : List Reply) (p n : ℕ) (other : Other) → IsSound (world_of old) → Takes old (Step p) (Answered (Edit (Overtaken n other))) mid
     → WorldRun mid events replies new → IsSpent (world_of new) p n × IsOut (world_of new) p n
 overtaken_never old mid new events replies p n other sound (edits h) run =

@@ -3,30 +3,30 @@ use Rattle.std.proofs.Common.{ℕ, ◌≡◌, refl}
 use Rattle.std.specs.Prelude.{Option, Some, None, IfNone}
 use Rattle.ds_state.specs.Value.{WorldValue, world_of}
 use Rattle.ds_state.specs.declared.situation.Situation.{Situation}
-use Rattle.ds_state.specs.declared.situation.Situation.TheVariants.{Idle, Stopped, Editing, Working, Recovering, Reporting, Migrating}
+use Rattle.ds_state.specs.declared.situation.Situation.TheVariants.{Idle, Stopped, Editing, Working, Recovering, Showing, Migrating}
 use Rattle.ds_state.specs.Edits.{PlainEditCall}
-use Rattle.ds_state.specs.Works.{PlainWorkCall, PlainRecoverCall, PlainReportCall, PlainMigrateCall}
-use Rattle.ds_state.specs.declared.answer.Answer.TheVariants.{Edit, Work, Report, Recovery, Migration}
+use Rattle.ds_state.specs.Works.{PlainWorkCall, PlainRecoverCall, PlainShowCall, PlainMigrateCall}
+use Rattle.ds_state.specs.declared.answer.Answer.TheVariants.{Edit, Work, Show, Recovery, Migration}
 use Rattle.ds_state.specs.declared.answer.EditEnd.TheVariants.{Done}
 use Rattle.ds_state.specs.declared.work.WorkEnd.TheVariants.{NotDirty}
-use Rattle.ds_state.specs.declared.report.ReportEnd.TheVariants.{Settled}
+use Rattle.ds_state.specs.declared.show.ShowEnd.TheVariants.{Settled}
 use Rattle.ds_state.specs.declared.recovery.RecoveryEnd.TheVariants.{Nothing}
 use Rattle.ds_state.specs.declared.migration.MigrateEnd.TheVariants.{Already}
 use Rattle.ds_state.specs.declared.answer.EditEnd.{EditEnd}
 use Rattle.ds_state.specs.declared.work.WorkEnd.{WorkEnd}
-use Rattle.ds_state.specs.declared.report.ReportEnd.{ReportEnd}
+use Rattle.ds_state.specs.declared.show.ShowEnd.{ShowEnd}
 use Rattle.ds_state.specs.declared.recovery.RecoveryEnd.{RecoveryEnd}
 use Rattle.ds_state.specs.declared.migration.MigrateEnd.{MigrateEnd}
 use Rattle.ds_state.specs.declared.turn.Turn.{Turn}
 use Rattle.ds_state.specs.declared.turn.Turn.TheVariants.{GoesOn, Answers}
 use Rattle.ds_edit.specs.EditTakes as edit_takes
 use Rattle.ds_work.specs.WorkTakes as work_takes
-use Rattle.ds_report.specs.ReportTakes as report_takes
+use Rattle.ds_show.specs.ShowTakes as show_takes
 use Rattle.ds_recover.specs.RecoverTakes as recover_takes
 use Rattle.ds_recover.specs.MigrationTakes as migration_takes
 use Rattle.ds_core.specs.Ends as kinds
 use Rattle.ds_core.specs.Ends.{Kind, StepsAs, all_of, IsCallOf, IsOnlyIn}
-use Rattle.ds_core.specs.Kinds.{IsEditAnswer, IsWorkAnswer, IsReportAnswer, IsRecoveryAnswer, IsMigrationAnswer}
+use Rattle.ds_core.specs.Kinds.{IsEditAnswer, IsWorkAnswer, IsShowAnswer, IsRecoveryAnswer, IsMigrationAnswer}
 use Rattle.ds_core.specs.Own.{IsInCall}
 use Rattle.ds_core.specs.StepEvents.{Rests, edits, works, reports, recoveries, migrations}
 
@@ -38,7 +38,7 @@ which_edit Stopped h = absurd h.0
 which_edit (Editing e) h = (e, refl)
 which_edit (Working e) h = absurd (h.1 (Work NotDirty) tt)
 which_edit (Recovering e) h = absurd (h.1 (Recovery Nothing) tt)
-which_edit (Reporting e) h = absurd (h.1 (Report Settled) tt)
+which_edit (Showing e) h = absurd (h.1 (Show Settled) tt)
 which_edit (Migrating e) h = absurd (h.1 (Migration Already) tt)
 
 which_work : (s : Situation) → IsCallOf IsWorkAnswer s → (e : PlainWorkCall) × (s ≡ Working e)
@@ -47,17 +47,17 @@ which_work Stopped h = absurd h.0
 which_work (Editing e) h = absurd (h.1 (Edit (Done 0)) tt)
 which_work (Working e) h = (e, refl)
 which_work (Recovering e) h = absurd (h.1 (Recovery Nothing) tt)
-which_work (Reporting e) h = absurd (h.1 (Report Settled) tt)
+which_work (Showing e) h = absurd (h.1 (Show Settled) tt)
 which_work (Migrating e) h = absurd (h.1 (Migration Already) tt)
 
-which_report : (s : Situation) → IsCallOf IsReportAnswer s → (e : PlainReportCall) × (s ≡ Reporting e)
-which_report (Idle next) h = absurd h.0
-which_report Stopped h = absurd h.0
-which_report (Editing e) h = absurd (h.1 (Edit (Done 0)) tt)
-which_report (Working e) h = absurd (h.1 (Work NotDirty) tt)
-which_report (Recovering e) h = absurd (h.1 (Recovery Nothing) tt)
-which_report (Reporting e) h = (e, refl)
-which_report (Migrating e) h = absurd (h.1 (Migration Already) tt)
+which_show : (s : Situation) → IsCallOf IsShowAnswer s → (e : PlainShowCall) × (s ≡ Showing e)
+which_show (Idle next) h = absurd h.0
+which_show Stopped h = absurd h.0
+which_show (Editing e) h = absurd (h.1 (Edit (Done 0)) tt)
+which_show (Working e) h = absurd (h.1 (Work NotDirty) tt)
+which_show (Recovering e) h = absurd (h.1 (Recovery Nothing) tt)
+which_show (Showing e) h = (e, refl)
+which_show (Migrating e) h = absurd (h.1 (Migration Already) tt)
 
 which_recovery : (s : Situation) → IsCallOf IsRecoveryAnswer s → (e : PlainRecoverCall) × (s ≡ Recovering e)
 which_recovery (Idle next) h = absurd h.0
@@ -65,7 +65,7 @@ which_recovery Stopped h = absurd h.0
 which_recovery (Editing e) h = absurd (h.1 (Edit (Done 0)) tt)
 which_recovery (Working e) h = absurd (h.1 (Work NotDirty) tt)
 which_recovery (Recovering e) h = (e, refl)
-which_recovery (Reporting e) h = absurd (h.1 (Report Settled) tt)
+which_recovery (Showing e) h = absurd (h.1 (Show Settled) tt)
 which_recovery (Migrating e) h = absurd (h.1 (Migration Already) tt)
 
 which_migration : (s : Situation) → IsCallOf IsMigrationAnswer s → (e : PlainMigrateCall) × (s ≡ Migrating e)
@@ -74,7 +74,7 @@ which_migration Stopped h = absurd h.0
 which_migration (Editing e) h = absurd (h.1 (Edit (Done 0)) tt)
 which_migration (Working e) h = absurd (h.1 (Work NotDirty) tt)
 which_migration (Recovering e) h = absurd (h.1 (Recovery Nothing) tt)
-which_migration (Reporting e) h = absurd (h.1 (Report Settled) tt)
+which_migration (Showing e) h = absurd (h.1 (Show Settled) tt)
 which_migration (Migrating e) h = (e, refl)
 
 -- ---- a step of each kind
@@ -90,10 +90,10 @@ pub of_work : (old new : WorldValue) (p : ℕ) (turn : Option (Turn WorkEnd)) �
 of_work old new p None takes same done count kept = record { same = same; waits = λ low call. (let w = which_work ((world_of old).situation p) call in (w.0, w.1, takes w.0 low w.1)) }
 of_work old new p (Some turn) takes same done count kept = works (record { what = turn; steps = takes; is = refl; done = done; reports = record { settled = count; reports = kept } })
 
--- the same, of a report
-pub of_report : (old new : WorldValue) (p : ℕ) (turn : Option (Turn ReportEnd)) → report_takes.StepTakes old p turn new → StepsAs kinds.reports old p turn new
-of_report old new p None h = record { same = h.same; waits = λ low call. absurd (let w = which_report ((world_of old).situation p) call in h.none w.0 low w.1) }
-of_report old new p (Some turn) h = reports (record { what = turn; steps = h; is = refl })
+-- the same, of a show
+pub of_show : (old new : WorldValue) (p : ℕ) (turn : Option (Turn ShowEnd)) → show_takes.StepTakes old p turn new → StepsAs kinds.reports old p turn new
+of_show old new p None h = record { same = h.same; waits = λ low call. absurd (let w = which_show ((world_of old).situation p) call in h.none w.0 low w.1) }
+of_show old new p (Some turn) h = reports (record { what = turn; steps = h; is = refl })
 
 -- the same, of a recovery
 pub of_recovery : (old new : WorldValue) (p : ℕ) (turn : Option (Turn RecoveryEnd)) → recover_takes.StepTakes old p turn new → StepsAs kinds.recoveries old p turn new

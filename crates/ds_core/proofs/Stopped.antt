@@ -13,7 +13,7 @@ use Rattle.ds_state.specs.Crashes.{StopsIn, CrashesTo, is_lost, survivors}
 use Rattle.ds_state.specs.Sound.{IsOfSheet}
 use Rattle.ds_state.specs.declared.situation.Situation.{Situation}
 use Rattle.ds_state.specs.declared.situation.Situation.TheVariants as situation
-use Rattle.ds_state.specs.Underway.{reports_in, reports_under_way}
+use Rattle.ds_state.specs.Underway.{reports_in, shows_under_way}
 use Rattle.ds_state.specs.declared.reports.TheConstants.{SETTLED_MOST}
 use Rattle.ds_state.proofs.Underway.{no_more}
 use Rattle.ds_state.proofs.Stopping.{stop_keeps}
@@ -61,8 +61,8 @@ module _ (v : WorldValue) (sheet : SheetValue) (p room : ℕ) (k : IsReserved v 
 
 -- ---- a crash
 
--- no report is under way where every process has stopped
-none_stopped : (ss : List Situation) → ((p : ℕ) → p < length ss → get_or ss p (situation.Idle first_rest) ≡ situation.Stopped) → reports_under_way ss ≡ 0
+-- no show is under way where every process has stopped
+none_stopped : (ss : List Situation) → ((p : ℕ) → p < length ss → get_or ss p (situation.Idle first_rest) ≡ situation.Stopped) → shows_under_way ss ≡ 0
 none_stopped [] all = refl
 none_stopped (s ∷ ss) all =
     let first = all 0 (omega arith) in
@@ -73,7 +73,7 @@ none_stopped (s ∷ ss) all =
 abbrev pub crashed : WorldValue → SheetValue → List Situation → WorldValue
 crashed v sheet situations = record v { sheet = sheet; situations = situations; counted = survivors (memory v.sheet) v.counted }
 
--- the head of each edit that counts can be looked at
+-- the head of each linearized edit can be looked at
 pub heads_there : (v : WorldValue) → IsGood v → All (λ e. HasHeadPlace v.sheet.layout e) v.counted
 heads_there v g k d lt =
     let e : IsOfSheet (world_of v) (get_or v.counted k d) = g.sound.of_sheet k d lt in

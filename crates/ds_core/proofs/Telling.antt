@@ -1,4 +1,4 @@
--- What each event leaves of what the words tell of closed edits.
+-- What each event leaves of what the words say of closed edits.
 use Rattle.std.proofs.Common.{ℕ, ◌≡◌, ◌≢◌, ◌<◌, ◌≤◌, ◌/◌, ◌⊎◌, List, refl, ap, sym, ◌∙◌, subst, arith, inl, inr, zero, suc, length, Bool, true, false, Some, None}
 use Rattle.std.specs.Prelude.{Option, Contains, filter}
 use Rattle.std.proofs.lemmas.Bool.{cases_eq}
@@ -16,7 +16,7 @@ use Rattle.ds_state.specs.KnownWork.{IsAtRest}
 use Rattle.ds_state.specs.Crashes.{CrashesTo}
 use Rattle.ds_state.specs.Events.{Evicts}
 use Rattle.ds_state.specs.declared.situation.Situation.{Situation}
-use Rattle.ds_state.specs.declared.situation.Situation.TheVariants.{Idle, Stopped, Editing, Working, Recovering, Reporting, Migrating}
+use Rattle.ds_state.specs.declared.situation.Situation.TheVariants.{Idle, Stopped, Editing, Working, Recovering, Showing, Migrating}
 use Rattle.ds_state.specs.World.{announcement, phase_among}
 use Rattle.ds_layout.specs.declared.announcement.Phase.{Phase}
 use Rattle.ds_layout.specs.declared.announcement.Phase.TheVariants as phase
@@ -33,7 +33,7 @@ use Rattle.ds_core.proofs.Ledgers.{IsOf, doubts, numbered, no_some, one_some, co
 use Rattle.ds_core.proofs.Turns.{IsTurn, stop_turn}
 use Rattle.ds_core.proofs.Told.{cell_told, IsCounted, IsTold, Announces, Tells, LeavesOthers, told_on, turn_leaves, tells_left, tells_turn}
 
--- the number behind the one that a word announces, in any phase, is read off it
+-- the number after the one that a word announces, in any phase, is read off it
 pub announced_number : (n : ℕ) (f : Phase) → announcement n f / 4 ≡ suc n
 announced_number n phase.Pending = omega arith
 announced_number n phase.Done = omega arith
@@ -44,7 +44,7 @@ pub rest_word : (w : PlainWorld) (p next : ℕ) → IsAtRest w p next → w.memo
 rest_word w p zero h = let c = h.cached in omega arith
 rest_word w p (suc n) h = ap (λ x. x / 4) h.cached ∙ announced_number n (phase_among w.counted p n)
 
--- where no edit is open, both sides announce the same, and the number behind the last closed edit's
+-- where no edit is open, both sides announce the same, and the number after the last closed edit's
 module _ (w : PlainWorld) (sound : IsSound w) (p : ℕ) (low : p < w.layout.processes) (none : w.open_edits p ≡ None) where
   sides_of : (s : Situation) → w.situation p ≡ s → w.memory.persisted (Announce p) ≡ w.memory.cached (Announce p)
   sides_of (Idle next) is = let f = subst (λ (x : Situation). CallFits w p x) is (sound.calls p low) in f.persisted ∙ sym f.cached
@@ -53,7 +53,7 @@ module _ (w : PlainWorld) (sound : IsSound w) (p : ℕ) (low : p < w.layout.proc
   sides_of (Working e) is = let f = subst (λ (x : Situation). CallFits w p x) is (sound.calls p low) in subst (λ q. w.memory.persisted (Announce q) ≡ w.memory.cached (Announce q)) f.mine (f.rest.persisted ∙ sym f.rest.cached)
   sides_of (Recovering e) is = let f = subst (λ (x : Situation). CallFits w p x) is (sound.calls p low) in let d = subst (λ (o : Option PlainIssue). DoubtFits w p o) none f.doubt in d.rest.persisted ∙ sym d.rest.cached
   sides_of (Migrating e) is = let f = subst (λ (x : Situation). CallFits w p x) is (sound.calls p low) in let d = subst (λ (o : Option PlainIssue). DoubtFits w p o) none f.doubt in d.rest.persisted ∙ sym d.rest.cached
-  sides_of (Reporting e) is = let f = subst (λ (x : Situation). CallFits w p x) is (sound.calls p low) in subst (λ q. w.memory.persisted (Announce q) ≡ w.memory.cached (Announce q)) f.1.mine (f.1.rest.persisted ∙ sym f.1.rest.cached)
+  sides_of (Showing e) is = let f = subst (λ (x : Situation). CallFits w p x) is (sound.calls p low) in subst (λ q. w.memory.persisted (Announce q) ≡ w.memory.cached (Announce q)) f.1.mine (f.1.rest.persisted ∙ sym f.1.rest.cached)
 
   pub sides_agree : w.memory.persisted (Announce p) ≡ w.memory.cached (Announce p)
   sides_agree = sides_of (w.situation p) refl
@@ -66,7 +66,7 @@ module _ (w : PlainWorld) (sound : IsSound w) (p : ℕ) (low : p < w.layout.proc
     by_situation (Working e) is = let f = subst (λ (x : Situation). CallFits w p x) is (sound.calls p low) in ap (λ q. w.memory.cached (Announce q) / 4) (sym f.mine) ∙ rest_word w e.process e.next f.rest ∙ numbers e.next (ap numbered is)
     by_situation (Recovering e) is = carried (ap doubts is)
     by_situation (Migrating e) is = carried (ap doubts is)
-    by_situation (Reporting e) is = let f = subst (λ (x : Situation). CallFits w p x) is (sound.calls p low) in ap (λ q. w.memory.cached (Announce q) / 4) (sym f.1.mine) ∙ rest_word w e.process e.next f.1.rest ∙ numbers e.next (ap numbered is)
+    by_situation (Showing e) is = let f = subst (λ (x : Situation). CallFits w p x) is (sound.calls p low) in ap (λ q. w.memory.cached (Announce q) / 4) (sym f.1.mine) ∙ rest_word w e.process e.next f.1.rest ∙ numbers e.next (ap numbered is)
 
     pub announces_now : Announces w p told
     announces_now = by_situation (w.situation p) refl
@@ -86,7 +86,7 @@ header_is p n (Header q m) = elim (cases_eq p q) [
 ]
 header_is p n _ = inr (λ is. cc)
 
--- an eviction leaves what the words tell of closed edits
+-- an eviction leaves what the words say of closed edits
 pub tells_evicted : (l : Ledger) (v v' : WorldValue) (r : Place) → Tells l v → Evicts r (world_of v) (world_of v') → Tells l v'
 tells_evicted l v v' r t e = record {
   told = λ p c is. (let k = t.told p c is in told_on l.counted l.counted (world_of v) (world_of v') p c k e.layout (sides_evicted r (world_of v).memory (world_of v').memory (Header p c.it.edit.number) e.memory (header_is p c.it.edit.number r)) k.counted);
@@ -99,7 +99,7 @@ tells_evicted l v v' r t e = record {
 not_doubted : (s : Situation) (P : Type 0) → doubts s ≡ false → doubts s ≡ true → P
 not_doubted s P a b = let bad : false ≡ true = sym a ∙ b in absurd (cc)
 
--- a stop leaves what the words tell of closed edits
+-- a stop leaves what the words say of closed edits
 pub tells_stopped : (layout : Layout) (l : Ledger) (v v' : WorldValue) → IsOf layout l v → (t : Tells l v) (p : ℕ) → (h : StopsProcess v p v') → (l' : Ledger) → l'.counted ≡ l.counted → l'.told ≡ l.told → Tells l' v'
 tells_stopped layout l v v' h t p s l' counted told =
     let same : (q : ℕ) → l'.told q ≡ l.told q = λ q. ap (λ f. f q) told in
@@ -155,7 +155,7 @@ module _ (layout : Layout) (l : Ledger) (v v' : WorldValue) (h : IsOf layout l v
         ∙ announces_now (world_of v) h.good.sound p low none_before (l.told p) (λ n is. h.numbers p n is) (λ d. t.announced p low d none_before) ∙ ap next_number (sym (told_same p)));
   }
 
--- ---- a process's doing behind which it is in no doubt
+-- ---- a process's doing after which it is in no doubt
 
 -- which closes no edit
 module _ (q : ℕ) (l l' : Ledger) (v v' : WorldValue) (t : Tells l v) (leaves : LeavesOthers q v v') (layout : v'.sheet.layout ≡ v.sheet.layout) (told : (p : ℕ) → l'.told p ≡ l.told p)
@@ -193,9 +193,9 @@ module _ (q : ℕ) (l l' : Ledger) (v v' : WorldValue) (t : Tells l v) (turn : I
     announced = λ doubt open_none. not_doubted ((world_of v').situation q) _ sure doubt;
   }) others (λ p d ne is. on_list d (t.told p d is).counted)
 
--- ---- what a record that stands tells
+-- ---- what a record that stands says
 
--- a record whose header stands on both sides tells its cell
+-- a record whose header stands on both sides says its cell
 pub recorded_tells : (w : PlainWorld) (edition : Edition) (e : PlainEdit) (size : ℕ) → 0 < size → IsRecorded w edition e size size → e.cell < cells_of w.layout → length e.text ≤ TEXT_MOST
     → (cell_told w.layout (w.memory.cached (Header e.process e.number)) ≡ e.cell) × (cell_told w.layout (w.memory.persisted (Header e.process e.number)) ≡ e.cell)
 recorded_tells w edition e size some r low few =
@@ -205,7 +205,7 @@ recorded_tells w edition e size some r low few =
       ap (λ x. cell_told w.layout x) (r.persisted 0 some) ∙ ap cell_from back,
     )
 
--- the closed edit is told, where it is one whose record stands
+-- the closed edit is reported, where it is one whose record stands
 pub told_by : (es : List Placed) (w : PlainWorld) (p : ℕ) (c : Closed) (edition : Edition) (e : PlainEdit) (size : ℕ) → c.it.edit ≡ e → e.process ≡ p → IsCounted es c.it c.counts → 0 < size → IsRecorded w edition e size size → e.cell < cells_of w.layout → length e.text ≤ TEXT_MOST → IsTold es w p c
 told_by es w p c edition e size same mine counted some r low few =
     let tells = recorded_tells w edition e size some r low few in
@@ -218,7 +218,7 @@ told_by es w p c edition e size same mine counted some r low few =
       persisted = place w.memory.persisted tells.1;
     }
 
--- an edit with a number above those of its process's that count does not count
+-- an edit with a number above the linearized ones of its process is not linearized
 pub below_out : (l : Ledger) (v : WorldValue) (it : Placed) → edits_in l ≡ v.counted → AreBelow (world_of v) it.edit.process it.edit.number → IsCounted l.counted it false
 below_out l v it same below = λ f there process number. (
     let less = All-contains (λ (g : PlainEdit). g.process ≡ it.edit.process → g.number < it.edit.number) v.counted f.edit below (subst (λ (es : List PlainEdit). Contains es f.edit) same (contains_edit l.counted f there)) process in

@@ -1,4 +1,4 @@
--- What the words tell of a process's last edit that was closed under its number, and how that lasts.
+-- What the words say of a process's last edit that was closed under its number, and how that lasts.
 use Rattle.std.proofs.Common.{ℕ, ◌≡◌, ◌≢◌, ◌<◌, ◌/◌, ◌⊎◌, List, ◌++◌, refl, ap, sym, ◌∙◌, subst, inl, inr, Bool, true, false, Some, None}
 use Rattle.std.specs.Prelude.{Option, Contains}
 use Rattle.std.proofs.lemmas.Bool.{cases_eq}
@@ -15,7 +15,7 @@ use Rattle.ds_core.proofs.Headers.{SidesStay, sides_relied}
 use Rattle.ds_core.proofs.Ledgers.{doubts}
 use Rattle.ds_core.proofs.Turns.{IsTurn}
 
--- the cell that a header's word tells
+-- the cell that a header's word says
 abbrev pub cell_told : Layout → ℕ → ℕ
 cell_told layout word = cell_from (header_of (cells_of layout) word)
 
@@ -24,18 +24,18 @@ abbrev pub IsCounted : List Placed → Placed → Bool → Type 0
 IsCounted es it true = Contains es it
 IsCounted es it false = (f : Placed) → Contains es f → f.edit.process ≡ it.edit.process → f.edit.number ≡ it.edit.number → ⊥
 
--- the process's last edit that was closed: both sides of its header tell its cell
+-- the process's last edit that was closed: both sides of its header say its cell
 pub record IsTold (es : List Placed) (w : PlainWorld) (p : ℕ) (c : Closed) : Type 0 where
   pub process : c.it.edit.process ≡ p
   pub counted : IsCounted es c.it c.counts
   pub cached : cell_told w.layout (w.memory.cached (Header p c.it.edit.number)) ≡ c.it.edit.cell
   pub persisted : cell_told w.layout (w.memory.persisted (Header p c.it.edit.number)) ≡ c.it.edit.cell
 
--- the number that the word announces is the one behind the last closed edit's, where no edit is open
+-- the number that the word announces is the one after the last closed edit's, where no edit is open
 abbrev pub Announces : PlainWorld → ℕ → Option Closed → Type 0
 Announces w p told = w.memory.cached (Announce p) / 4 ≡ next_number told
 
--- the words tell what the ledger has of closed edits: cells, numbers, announcements
+-- the words say what the ledger has of closed edits: cells, numbers, announcements
 pub record Tells (l : Ledger) (v : WorldValue) : Type 0 where
   pub told : (p : ℕ) (c : Closed) → l.told p ≡ Some c → IsTold l.counted (world_of v) p c
   pub opens : (p : ℕ) (issue : PlainIssue) → (world_of v).open_edits p ≡ Some issue → issue.edit.number ≡ next_number (l.told p)
@@ -43,7 +43,7 @@ pub record Tells (l : Ledger) (v : WorldValue) : Type 0 where
 
 -- ---- how it lasts
 
--- what was told goes on being told
+-- what was answered stays answered
 pub told_on : (es es' : List Placed) (w w' : PlainWorld) (p : ℕ) (c : Closed) → IsTold es w p c → w'.layout ≡ w.layout → SidesStay w.memory w'.memory (Header p c.it.edit.number) → IsCounted es' c.it c.counts → IsTold es' w' p c
 told_on es es' w w' p c h layout s counted =
     let both : (word : ℕ) → cell_told w.layout word ≡ c.it.edit.cell → cell_told w'.layout word ≡ c.it.edit.cell = λ word is. subst (λ (l : Layout). cell_told l word ≡ c.it.edit.cell) (sym layout) is in
@@ -54,7 +54,7 @@ told_on es es' w w' p c h layout s counted =
       persisted = elim s.persisted [ inl is ↦ subst (λ x. cell_told w'.layout x ≡ c.it.edit.cell) (sym is) (both _ h.cached) | inr is ↦ subst (λ x. cell_told w'.layout x ≡ c.it.edit.cell) (sym is) (both _ h.persisted) ];
     }
 
--- the list of closed edits' counts, where nothing leaves it and what comes is no closed edit's
+-- whether a closed edit is linearized stays so, where nothing leaves the list and what comes is no closed edit's
 pub counted_more : (es more : List Placed) (it : Placed) (b : Bool) → IsCounted es it b → (Contains es it → Contains (es ++ more) it) → ((f : Placed) → Contains (es ++ more) f → Contains es f ⊎ Contains more f)
     → ((f : Placed) → Contains more f → f.edit.process ≡ it.edit.process → f.edit.number ≡ it.edit.number → ⊥) → IsCounted (es ++ more) it b
 counted_more es more it true h front cases new = front h
@@ -105,6 +105,6 @@ module _ (q : ℕ) (l l' : Ledger) (v v' : WorldValue) (t : Tells l v) (leaves :
     ];
   }
 
--- behind a turn the words tell of closed edits, where the process shows its own and leaves those of the others
+-- after a turn the words say the same of closed edits, where the process shows its own and leaves those of the others
 pub tells_turn : (q : ℕ) (l l' : Ledger) (v v' : WorldValue) → Tells l v → IsTurn q v v' → OwnTold q l' v v' → ((p : ℕ) → p ≢ q → l'.told p ≡ l.told p) → ((p : ℕ) (c : Closed) → p ≢ q → l.told p ≡ Some c → IsCounted l'.counted c.it c.counts) → Tells l' v'
 tells_turn q l l' v v' t turn own same counted = tells_left q l l' v v' t (turn_leaves q v v' turn) own same counted

@@ -1,4 +1,4 @@
--- Work and reports leave the headers of their process's records as they are.
+-- Work and shows leave the headers of their process's records as they are.
 use Rattle.std.proofs.Common.{ℕ, ◌≡◌, ◌<◌, subst}
 use Rattle.ds_words.specs.Memory.{Memory, SameMemory}
 use Rattle.ds_layout.specs.declared.place.Place.{Place}
@@ -11,19 +11,19 @@ use Rattle.ds_state.specs.Sound.{IsSound}
 use Rattle.ds_state.specs.Value.{WorldValue, world_of}
 use Rattle.ds_state.specs.declared.situation.Situation.{Situation}
 use Rattle.ds_state.specs.declared.situation.Situation.TheVariants.{Working}
-use Rattle.ds_state.specs.declared.report.ReportStage.{ReportStage}
-use Rattle.ds_state.specs.declared.report.ReportStage.TheVariants as stages
-use Rattle.ds_report.specs.ReportSteps as shows
+use Rattle.ds_state.specs.declared.show.ShowStage.{ShowStage}
+use Rattle.ds_state.specs.declared.show.ShowStage.TheVariants as stages
+use Rattle.ds_show.specs.ShowSteps as shows
 use Rattle.ds_state.specs.declared.turn.Turn.{Turn}
 use Rattle.ds_state.specs.declared.work.WorkEnd.{WorkEnd}
 use Rattle.ds_work.specs.WorkTakes as works
-use Rattle.ds_core.specs.ReportEvents.{ReportStepsBy}
+use Rattle.ds_core.specs.ShowEvents.{ShowStepsBy}
 use Rattle.ds_core.specs.WorkEvents.{WorkStepsBy}
 use Rattle.ds_core.specs.declared.reply.Reply.{Reply}
 use Rattle.ds_core.proofs.Headers.{SidesStay, sides_same, work_sides}
 
--- a report loads, and nothing else
-loads : (s : ReportStage) (q : ℕ) (old new : Memory Place) (word : ℕ) → PerformsAt (shows.access_at s) q old new word → SameMemory old new
+-- a show loads, and nothing else
+loads : (s : ShowStage) (q : ℕ) (old new : Memory Place) (word : ℕ) → PerformsAt (shows.access_at s) q old new word → SameMemory old new
 loads (stages.LoadAnnounce i) q old new word h = h.1
 loads (stages.LoadMark i) q old new word h = h.1
 loads (stages.LoadValue i) q old new word h = h.1
@@ -32,9 +32,9 @@ loads (stages.AgainMark i) q old new word h = h.1
 loads (stages.AgainAnnounce i) q old new word h = h.1
 loads (stages.Answer end) q old new word h = h.1
 
--- a step of a report leaves each header of its process's records the sides that it had
-pub report_sides : (p n : ℕ) (old new : WorldValue) (reply : Reply) → ReportStepsBy old p reply new → SidesStay (world_of old).memory (world_of new).memory (Header p n)
-report_sides p n old new reply h =
+-- a step of a show leaves each header of its process's records the sides that it had
+pub show_sides : (p n : ℕ) (old new : WorldValue) (reply : Reply) → ShowStepsBy old p reply new → SidesStay (world_of old).memory (world_of new).memory (Header p n)
+show_sides p n old new reply h =
     sides_same (world_of old).memory (world_of new).memory (Header p n) (loads h.steps.show.stage h.steps.show.process (world_of old).memory (world_of new).memory h.steps.word h.steps.steps.memory)
 
 module _ (p n : ℕ) (old new : WorldValue) (sound : IsSound (world_of old)) (e : PlainWorkCall) (inside : p < old.sheet.layout.processes) (is : (world_of old).situation p ≡ Working e) where

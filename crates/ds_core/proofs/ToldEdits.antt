@@ -1,4 +1,4 @@
--- What an edit's begin, steps and answer leave of what the words tell of closed edits.
+-- What an edit's begin, steps and answer leave of what the words say of closed edits.
 use Rattle.std.proofs.Common.{ℕ, ◌≡◌, ◌≢◌, List, [], ◌∷◌, ◌++◌, refl, ap, sym, ◌∙◌, subst, arith, suc, length, false, Some, None}
 use Rattle.std.specs.Prelude.{Contains}
 use Rattle.std.proofs.lemmas.List.Elements.{Contains-append_cases, Contains-append_left}
@@ -30,7 +30,7 @@ use Rattle.ds_core.proofs.Telling.{tells_on, tells_closed, told_by, below_out}
 
 -- ---- it begins
 
--- the begin of an edit with the next number leaves what the words tell of closed edits
+-- the begin of an edit with the next number leaves what the words say of closed edits
 pub tells_begun : (l l' : Ledger) (v v' : WorldValue) (edit : PlainEdit) → Tells l v → traces.Issues (world_of v) edit (world_of v') → v'.sheet.layout ≡ v.sheet.layout → SameMemory (world_of v).memory (world_of v').memory
     → ((q : ℕ) → q ≢ edit.process → (world_of v').situation q ≡ (world_of v).situation q) → doubts ((world_of v').situation edit.process) ≡ false → edit.number ≡ next_number (l.told edit.process)
     → l'.counted ≡ l.counted → ((q : ℕ) → l'.told q ≡ l.told q) → Tells l' v'
@@ -48,7 +48,7 @@ module _ (layout : _) (l : Ledger) (v v' : WorldValue) (h : IsOf layout l v) (t 
   fits : EditFits (world_of v) p s.steps.edit
   fits = subst (λ (x : Situation). CallFits (world_of v) p x) s.steps.at (h.good.sound.calls p s.steps.there)
 
-  -- its number is that behind the last closed edit's
+  -- its number is that after the last closed edit's
   number_next : s.steps.edit.number ≡ next_number (l.told p)
   number_next = t.opens p (record { edit = edit_of s.steps.edit; since = fits.since }) fits.open_edits
 
@@ -72,7 +72,7 @@ module _ (layout : _) (l : Ledger) (v v' : WorldValue) (h : IsOf layout l v) (t 
     pub tells_edit_on : Tells l v'
     tells_edit_on = tells_on p l l v v' t leaves s.steps.steps.layout (λ q. refl) (λ q c is. (t.told q c is).counted) sides opens sure
 
-    -- it comes to count
+    -- it is linearized
     module _ (l' : Ledger) (x : Placed) (counted : l'.counted ≡ l.counted ++ x ∷ []) (told : (q : ℕ) → l'.told q ≡ l.told q) (issue : PlainIssue) (open_is : (world_of v).open_edits p ≡ Some issue) (same : x.edit ≡ issue.edit) where
       mine : x.edit.process ≡ p
       mine = ap (λ (e : PlainEdit). e.process) (same ∙ its issue open_is) ∙ fits.mine

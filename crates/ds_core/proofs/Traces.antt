@@ -1,4 +1,4 @@
--- What an event of an edit does to the world's own list of edits that count, and to its issues.
+-- What an event of an edit does to the world's own list of linearized edits, and to its issues.
 use Rattle.std.specs.Prelude.{ℕ, ◌≡◌, ◌≢◌, ◌⊎◌, ◌++◌, [], ◌∷◌, length, drop, Some, None, Contains}
 use Rattle.ds_state.specs.World.{PlainEdit, PlainIssue, PlainWorld}
 use Rattle.ds_state.specs.declared.answer.Other.{Other}
@@ -12,7 +12,7 @@ pub record Stays (old new : PlainWorld) : Type 0 where
   pub counted : new.counted ≡ old.counted
   pub open_edits : (q : ℕ) → new.open_edits q ≡ old.open_edits q
 
--- the process, which had none, has an edit that is not answered; it does not count yet
+-- the process, which had none, has an edit that is not answered; it is not linearized yet
 pub record Issues (old : PlainWorld) (edit : PlainEdit) (new : PlainWorld) : Type 0 where
   pub none : old.open_edits edit.process ≡ None
   pub issued : new.open_edits edit.process ≡ Some (record { edit = edit; since = length old.counted })
@@ -20,7 +20,7 @@ pub record Issues (old : PlainWorld) (edit : PlainEdit) (new : PlainWorld) : Typ
   pub fresh : Contains old.counted edit → ⊥
   pub counted : new.counted ≡ old.counted
 
--- the process's edit, which did not count, comes to count
+-- the process's edit, which was not linearized, is linearized
 pub record Counts (old : PlainWorld) (p : ℕ) (new : PlainWorld) : Type 0 where
   pub issue : PlainIssue
   pub open_is : old.open_edits p ≡ Some issue
@@ -39,7 +39,7 @@ pub record Closes (old : PlainWorld) (p number : ℕ) (Is : PlainIssue → Type 
   pub others : (q : ℕ) → q ≢ p → new.open_edits q ≡ old.open_edits q
   pub counted : new.counted ≡ old.counted
 
--- the other edit is of the same cell, and came to count since the issue; this one does not count
+-- the other edit is of the same cell, and was linearized since the issue; this one is not linearized
 pub record IsOvertakenBy (w : PlainWorld) (other : Other) (issue : PlainIssue) : Type 0 where
   pub out : Contains w.counted issue.edit → ⊥
   pub by : PlainEdit

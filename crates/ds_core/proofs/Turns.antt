@@ -1,12 +1,12 @@
--- A process's turn: what it leaves the others to count on.
+-- A process's turn: what it leaves the others to rely on.
 use Rattle.std.proofs.Common.{ℕ, ◌≡◌, ◌≢◌, ◌<◌, refl, ap, ◌∙◌, subst}
 use Rattle.ds_state.specs.Value.{WorldValue, world_of}
 use Rattle.ds_state.specs.Sound.{IsSound}
 use Rattle.ds_state.specs.Rely.{Keeps}
 use Rattle.ds_state.proofs.Stopping.{stop_keeps}
 use Rattle.ds_edit.proofs.Sound.{step_sound}
-use Rattle.ds_report.proofs.ReportKeeps as keeping
-use Rattle.ds_report.proofs.ReportLaws as shows
+use Rattle.ds_show.proofs.ShowKeeps as keeping
+use Rattle.ds_show.proofs.ShowLaws as shows
 use Rattle.ds_state.specs.Works.{PlainWorkCall}
 use Rattle.ds_state.specs.declared.work.WorkStage.{WorkStage}
 use Rattle.ds_state.specs.declared.work.WorkStage.TheVariants as stages
@@ -26,7 +26,7 @@ use Rattle.ds_core.specs.EditEvents.{EditStepsBy}
 use Rattle.ds_core.specs.WorkEvents.{WorkStepsBy, WorkBegins, TakesEntry}
 use Rattle.ds_core.specs.RecoveryEvents.{RecoveryStepsBy, RecoveryBegins}
 use Rattle.ds_core.specs.LedgerSteps.{OneAccess}
-use Rattle.ds_core.specs.ReportEvents.{ReportStepsBy, ReportBegins}
+use Rattle.ds_core.specs.ShowEvents.{ShowStepsBy, ShowBegins}
 use Rattle.ds_core.specs.StopEvents.{StopsProcess}
 use Rattle.ds_core.specs.declared.reply.Reply.{Reply}
 
@@ -45,18 +45,18 @@ edit_turn old new q reply sound h = record {
   others = λ r ne. h.steps.steps.others r (λ same. ne (same ∙ h.steps.mine));
 }
 
--- a step of a report is a turn of its process
-pub report_turn : (old new : WorldValue) (q : ℕ) (reply : Reply) → IsSound (world_of old) → ReportStepsBy old q reply new → IsTurn q old new
-report_turn old new q reply sound h = record {
+-- a step of a show is a turn of its process
+pub show_turn : (old new : WorldValue) (q : ℕ) (reply : Reply) → IsSound (world_of old) → ShowStepsBy old q reply new → IsTurn q old new
+show_turn old new q reply sound h = record {
   there = h.steps.there;
   keeps = subst (λ (p : ℕ). Keeps p (world_of old) (world_of new)) h.steps.mine
       (shows.steps h.steps.show h.steps.word (world_of old) (world_of new) sound (rw h.steps.mine h.steps.there) (ap (λ p. (world_of old).situation p) h.steps.mine ∙ h.steps.at) h.steps.steps);
   others = λ r ne. h.steps.steps.others r (λ same. ne (same ∙ h.steps.mine));
 }
 
--- the begin of a report is a turn of its process
-pub report_begins_turn : (old new : WorldValue) (q : ℕ) → IsSound (world_of old) → ReportBegins old q new → IsTurn q old new
-report_begins_turn old new q sound h = record {
+-- the begin of a show is a turn of its process
+pub show_begins_turn : (old new : WorldValue) (q : ℕ) → IsSound (world_of old) → ShowBegins old q new → IsTurn q old new
+show_begins_turn old new q sound h = record {
   there = h.there;
   keeps = keeping.begin_keeps q h.begun.next (world_of old) (world_of new) sound h.there h.begun.begins;
   others = h.begun.begins.others;

@@ -19,7 +19,7 @@ pub record IsBehind (p n : ℕ) (l : Ledger) : Type 0 where
   pub next : n < next_number (l.told p)
   pub opens : (o : Open) → l.opens p ≡ Some o → n < o.it.edit.number
 
--- the number of a process's last closed edit is behind it, where it has no open one
+-- the number of a process's last closed edit is after it, where it has no open one
 pub behind_closed : (l : Ledger) (p : ℕ) (c : Closed) → l.told p ≡ Some c → l.opens p ≡ None → IsBehind p c.it.edit.number l
 behind_closed l p c told none = record {
   next = subst (λ (x : Option Closed). c.it.edit.number < next_number x) (sym told) (omega arith);
@@ -69,7 +69,7 @@ module _ (old : WorldValue) (events : List Event) (replies : List Reply) (new : 
   open_until zero place p it j is within later h = let same : place ≡ j = omega arith in subst (λ i. IsOpenAt i p it) same h
   open_until (suc left) place p it j is within later h = was_open_at j p it (omega arith) later (open_until left place p it (j + 1) (omega arith) within (omega arith) h)
 
-  -- so no begin is answered with the number between the edit's own and a place behind it
+  -- so no begin is answered with the number between the edit's own and a place after it
   pub unrepeated : (place p n k : ℕ) (it : Placed) → place < length events → place ≤ k → k ≤ length events → IsClosed run.moment place p it → it.edit.number ≡ n → IsBehind p n (at (place + 1))
       → (j : ℕ) (other : PlainRequest) → it.place < j → j < k → other.process ≡ p → Happens events replies j (BeginEdit other) (Begun n) → ⊥
   unfolding IsOpenAt

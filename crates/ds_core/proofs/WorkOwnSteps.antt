@@ -11,7 +11,7 @@ use Rattle.ds_state.specs.Telling.{told_from}
 use Rattle.ds_state.specs.Value.{WorldValue, world_of}
 use Rattle.ds_state.specs.Sound.{IsSound}
 use Rattle.ds_state.specs.declared.situation.Situation.{Situation}
-use Rattle.ds_state.specs.declared.situation.Situation.TheVariants.{Editing, Working, Recovering, Reporting, Migrating}
+use Rattle.ds_state.specs.declared.situation.Situation.TheVariants.{Editing, Working, Recovering, Showing, Migrating}
 use Rattle.ds_state.specs.declared.work.WorkStage.{WorkStage}
 use Rattle.ds_state.specs.declared.work.WorkStage.TheVariants.{LoadMark, Claim, FlushClaim, BackClaim, LoadHead, LoadHeader, LoadText, Read, LoadKind, Wait, StoreValue, Telling, Clear, Give}
 use Rattle.ds_state.specs.declared.spread.Spread.TheVariants.{LoadRow, OrTold, FlushTold, BackTold}
@@ -79,7 +79,7 @@ inputs_stay : (e : PlainWorkCall) (s : WorkStage) (word : ℕ) → length (input
 inputs_stay e (LoadKind i value) word = length-set e.inputs i (record { cell = cell_in e.inputs i; entry = shown_entry e.cells value word })
 inputs_stay e _ word = refl
 
--- so many steps of its own later the process is in this work, whose content is still read where it was; fewer are left,
+-- n steps of its own later the process is in this work, whose content is still read where it was; fewer are left,
 -- said for as many references as one likes, at least those that it has read
 record Goes (p : ℕ) (e : PlainWorkCall) (steps : ℕ) (new : WorldValue) : Type 0 where
   work : PlainWorkCall
@@ -161,7 +161,7 @@ goes p n e old new at (stays same) = still p e new (same ∙ at)
 goes p n e old new at (steps_once (steps.edits h)) = absurd (let bad : Working e ≡ Editing h.steps.edit = sym at ∙ h.steps.at in cc)
 goes p n e old new at (steps_once (steps.works h)) = subst (λ (x : PlainWorkCall). Goes p x 1 new) (working_same ((world_of old).situation p) e h.steps.work at h.steps.works)
     (by_taken p old new h.steps.work h.steps.mine h.steps.is h.what (stepped h.what h.is) h.steps.turn)
-goes p n e old new at (steps_once (steps.reports h)) = absurd (let bad : Working e ≡ Reporting h.steps.show = sym at ∙ h.steps.at in cc)
+goes p n e old new at (steps_once (steps.reports h)) = absurd (let bad : Working e ≡ Showing h.steps.show = sym at ∙ h.steps.at in cc)
 goes p n e old new at (steps_once (steps.recoveries h)) = absurd (let bad : Working e ≡ Recovering h.steps.recovery = sym at ∙ h.steps.at in cc)
 goes p n e old new at (steps_once (steps.migrations h)) = absurd (let bad : Working e ≡ Migrating h.steps.migration = sym at ∙ h.steps.at in cc)
 goes p n e old new at (is_offered value mine h) =

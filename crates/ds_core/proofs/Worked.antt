@@ -19,7 +19,7 @@ use Rattle.ds_layout.specs.Mark.{IsHeldBy, holder_of, present, state_by, mark_of
 use Rattle.ds_layout.specs.SheetMemory.{PerformsAt}
 use Rattle.ds_layout.specs.TextWords.{bytes_of}
 use Rattle.ds_state.specs.Edits.{PlainEditCall}
-use Rattle.ds_state.specs.Works.{PlainWorkCall, PlainReportCall, PlainRecoverCall, PlainMigrateCall, SEEN_MOST}
+use Rattle.ds_state.specs.Works.{PlainWorkCall, PlainShowCall, PlainRecoverCall, PlainMigrateCall, SEEN_MOST}
 use Rattle.ds_state.specs.Fresh.{IsNew}
 use Rattle.ds_state.specs.Owing.{HoldsNone}
 use Rattle.ds_state.specs.Shown.{header_in}
@@ -32,10 +32,10 @@ use Rattle.ds_state.specs.EditEndings.{end_of as end_by, outcome_at}
 use Rattle.ds_state.specs.declared.answer.Answer.TheVariants.{Edit, Work}
 use Rattle.ds_state.specs.declared.migration.MigrateEnd.{MigrateEnd}
 use Rattle.ds_state.specs.declared.recovery.RecoveryEnd.{RecoveryEnd}
-use Rattle.ds_state.specs.declared.report.ReportEnd.{ReportEnd}
+use Rattle.ds_state.specs.declared.show.ShowEnd.{ShowEnd}
 use Rattle.ds_state.specs.declared.situation.Situation.{Situation}
 use Rattle.ds_state.specs.declared.situation.Situation.TheVariants as situation
-use Rattle.ds_state.specs.declared.situation.Situation.TheVariants.{Idle, Editing, Working, Recovering, Reporting, Migrating}
+use Rattle.ds_state.specs.declared.situation.Situation.TheVariants.{Idle, Editing, Working, Recovering, Showing, Migrating}
 use Rattle.ds_state.specs.declared.spread.Spread.TheVariants.{LoadRow, OrTold, FlushTold, BackTold}
 use Rattle.ds_state.specs.declared.stage.Outcome.{Outcome}
 use Rattle.ds_state.specs.declared.stage.Outcome.TheVariants as outcome
@@ -48,9 +48,9 @@ use Rattle.ds_state.specs.declared.work.WorkEnd.TheVariants.{NotDirty, Missed, W
 use Rattle.ds_state.specs.declared.work.WorkStage.{WorkStage}
 use Rattle.ds_state.specs.declared.work.WorkStage.TheVariants.{LoadMark, Claim, FlushClaim, LoadHead, LoadHeader, LoadText, Read, LoadValue, LoadKind, LoadOwnValue, StoreValue, Telling, Clear, ClearDirty, Give, GiveDirty, FlushCleared, BackCleared, Answer}
 use Rattle.ds_edit.specs.EditTakes as edit_steps
-use Rattle.ds_report.specs.ReportSteps as report_steps
-use Rattle.ds_state.specs.declared.report.ReportStage.{ReportStage}
-use Rattle.ds_state.specs.declared.report.ReportStage.TheVariants as report_stages
+use Rattle.ds_show.specs.ShowSteps as show_steps
+use Rattle.ds_state.specs.declared.show.ShowStage.{ShowStage}
+use Rattle.ds_state.specs.declared.show.ShowStage.TheVariants as show_stages
 use Rattle.ds_state.specs.declared.recovery.RecoverStage.{RecoverStage}
 use Rattle.ds_state.specs.declared.recovery.RecoverStage.TheVariants as recover_stages
 use Rattle.ds_state.specs.declared.migration.MigrateStage.{MigrateStage}
@@ -67,22 +67,22 @@ use Rattle.ds_core.specs.Takes.{Takes}
 use Rattle.ds_core.specs.Headline.{Happens, mark_then, state_then, WasSo, WasLetGo, CauseFits, HasCause, WorksFit}
 use Rattle.ds_core.specs.StepEvents.{StepsBy, edits, works, reports, recoveries, migrations}
 use Rattle.ds_core.specs.WorkEvents.{work_reply, WorkStepsBy, WorkBegins, TakesEntry}
-use Rattle.ds_core.specs.ReportEvents.{report_reply, ReportStepsBy}
+use Rattle.ds_core.specs.ShowEvents.{show_reply, ShowStepsBy}
 use Rattle.ds_core.specs.RecoveryEvents.{recovery_reply, RecoveryStepsBy}
 use Rattle.ds_core.specs.MigrationEvents.{migration_reply, MigrationStepsBy}
 use Rattle.ds_core.specs.declared.event.Event.{Event}
-use Rattle.ds_core.specs.declared.event.Event.TheVariants.{BeginEdit, BeginWork, BeginReport, BeginRecover, BeginMigrate, Step, Offer, Evict, Stop}
+use Rattle.ds_core.specs.declared.event.Event.TheVariants.{BeginEdit, BeginWork, BeginShow, BeginRecover, BeginMigrate, Step, Offer, Evict, Stop}
 use Rattle.ds_core.specs.declared.reply.Reply.{Reply}
 use Rattle.ds_core.specs.declared.reply.Reply.TheVariants.{Begun, Entered, Stepped, Answered, Evicted, Stopped}
 use Rattle.ds_core.proofs.Replied.{replied}
 use Rattle.ds_core.proofs.Did as did_so
-use Rattle.ds_core.proofs.Did.{Did, did, nothing, edit_begins, work_begins, report_begins, recovery_begins, migration_begins, offers, evicts, stops, crashes}
+use Rattle.ds_core.proofs.Did.{Did, did, nothing, edit_begins, work_begins, show_begins, recovery_begins, migration_begins, offers, evicts, stops, crashes}
 use Rattle.ds_core.proofs.NewIdle.{new_idle}
 use Rattle.ds_core.proofs.Acknowledged.{within}
 use Rattle.ds_core.proofs.Carry.{RunOn, at_place}
 use Rattle.ds_core.proofs.Closing.{found_at, up}
 use Rattle.ds_core.proofs.Solo.{some_outcome}
-use Rattle.ds_core.proofs.Turns.{report_turn, recovery_turn, migration_turn}
+use Rattle.ds_core.proofs.Turns.{show_turn, recovery_turn, migration_turn}
 
 -- ---- what a work knows of the moments of its call
 
@@ -111,7 +111,7 @@ between_if false x y h k = k
 
 -- ---- one step of it
 
--- what the swaps tell that let the cell go, where they win
+-- what the swaps say that let the cell go, where they win
 record LetsGo (F : WorkEnd → Type 0) (e : PlainWorkCall) (word : ℕ) (s : WorkStage) : Type 0 where
   published : (changed : Bool) → s ≡ Clear changed → word ≡ e.mark → F (Published changed)
   again : s ≡ ClearDirty → F Again
@@ -243,7 +243,7 @@ module _ (p : ℕ) (old new : WorldValue) (good : IsGood old) (low : p < old.she
   by_same : (event : Event) (reply : Reply) → (world_of new).situation p ≡ (world_of old).situation p → Either event reply
   by_same event reply same = inr (rests (sym same ∙ now))
 
-  -- a turn behind which its process is not at work
+  -- a turn after which its process is not at work
   by_turn : (event : Event) (reply : Reply) (q : ℕ) → ((r : ℕ) → r ≢ q → (world_of new).situation r ≡ (world_of old).situation r) → ((e : PlainWorkCall) → (world_of new).situation q ≡ Working e → ⊥) → Either event reply
   by_turn event reply q others none = elim (cases_eq p q) [
     | inl same ↦ absurd (none f (ap (λ x. (world_of new).situation x) (sym same) ∙ now))
@@ -317,11 +317,11 @@ module _ (p : ℕ) (old new : WorldValue) (good : IsGood old) (low : p < old.she
       between_stage true = tt
       between_stage false = tt
 
-  report_after : (q : ℕ) (reply : Reply) → ReportStepsBy old q reply new → (e : PlainWorkCall) → (world_of new).situation q ≡ Working e → ⊥
-  report_after q reply h e is = after_shows h.steps.show h.steps.show.stage h.steps.word e (sym h.steps.steps.situation ∙ ap (λ x. (world_of new).situation x) h.steps.mine ∙ is)
+  show_after : (q : ℕ) (reply : Reply) → ShowStepsBy old q reply new → (e : PlainWorkCall) → (world_of new).situation q ≡ Working e → ⊥
+  show_after q reply h e is = after_shows h.steps.show h.steps.show.stage h.steps.word e (sym h.steps.steps.situation ∙ ap (λ x. (world_of new).situation x) h.steps.mine ∙ is)
     where
-      after_shows : (show : PlainReportCall) (s : ReportStage) (word : ℕ) (g : PlainWorkCall) → report_steps.after show s word ≡ Working g → ⊥
-      after_shows show (report_stages.Answer end) word g is = cc
+      after_shows : (show : PlainShowCall) (s : ShowStage) (word : ℕ) (g : PlainWorkCall) → show_steps.after show s word ≡ Working g → ⊥
+      after_shows show (show_stages.Answer end) word g is = cc
       after_shows show _ word g is = cc
 
   recovery_after : (q : ℕ) (reply : Reply) → RecoveryStepsBy old q reply new → (e : PlainWorkCall) → (world_of new).situation q ≡ Working e → ⊥
@@ -342,12 +342,12 @@ module _ (p : ℕ) (old new : WorldValue) (good : IsGood old) (low : p < old.she
   by _ _ (nothing event reply none is same) = by_same event reply (ap (λ (v : WorldValue). (world_of v).situation p) same)
   by _ _ (edit_begins r number h) = by_turn (BeginEdit r) (Begun number) h.begun.edit.process h.begun.begins.others (λ e is. let bad : Editing h.begun.edit ≡ Working e = sym h.begun.begins.situation ∙ is in cc)
   by _ _ (work_begins q cell h) = began q cell h
-  by _ _ (report_begins q h) = by_turn (BeginReport q) Entered q h.begun.begins.others (λ e is. let bad : Reporting _ ≡ Working e = sym h.begun.begins.situation ∙ is in cc)
+  by _ _ (show_begins q h) = by_turn (BeginShow q) Entered q h.begun.begins.others (λ e is. let bad : Showing _ ≡ Working e = sym h.begun.begins.situation ∙ is in cc)
   by _ _ (recovery_begins q h) = by_turn (BeginRecover q) Entered q h.begun.begins.others (λ e is. let bad : Recovering _ ≡ Working e = sym h.begun.begins.situation ∙ is in cc)
   by _ _ (migration_begins q h) = by_turn (BeginMigrate q) Entered q h.begun.others (λ e is. let bad : Migrating _ ≡ Working e = sym h.begun.situation ∙ is in cc)
   by _ _ (did_so.steps q reply is (edits h)) = by_turn (Step q) reply h.steps.edit.process h.steps.steps.others (λ e at. edit_after h.steps.edit h.steps.edit.stage h.steps.word e (sym h.steps.steps.situation ∙ at))
   by _ _ (did_so.steps q reply is (works h)) = by_work q reply h
-  by _ _ (did_so.steps q reply is (reports h)) = by_turn (Step q) reply q (report_turn old new q reply good.sound h).others (report_after q reply h)
+  by _ _ (did_so.steps q reply is (reports h)) = by_turn (Step q) reply q (show_turn old new q reply good.sound h).others (show_after q reply h)
   by _ _ (did_so.steps q reply is (recoveries h)) = by_turn (Step q) reply q (recovery_turn old new q reply good.sound h).others (recovery_after q reply h)
   by _ _ (did_so.steps q reply is (migrations h)) = by_turn (Step q) reply q (migration_turn old new q reply good.sound h).others (migration_after q reply h)
   by _ _ (offers value h) = by_offer value Stepped h
@@ -380,7 +380,7 @@ module _ (old : WorldValue) (events : List Event) (replies : List Reply) (new : 
     marked : state_then (run.moment seen) cell ≡ Marked
     is : mark_then (run.moment seen) cell ≡ mark
 
-  -- the cause of an end, and what was loaded, by so many events
+  -- the cause of an end, and what was loaded, by n events
   abbrev Cause : ℕ → ℕ → ℕ → Cell → WorkEnd → Type 0
   Cause p start k cell end = CauseFits run.moment p start k cell end
 
@@ -533,7 +533,7 @@ module _ (old : WorldValue) (events : List Event) (replies : List Reply) (new : 
 
   -- ---- from event to event
 
-  -- with what it knows behind one event more
+  -- with what it knows after one event more
   later_on : (k p : ℕ) (e f : PlainWorkCall) → (world_of (at_moment k)).situation p ≡ Working e → (w : IsAtWork p k e) → f.cell ≡ e.cell
       → Knows (HasLoaded w.start (k + 1) w.cell) (λ end. Cause p w.start (k + 1) w.cell end) f.mark f.stage → IsAtWork p (k + 1) f
   later_on k p e f was w same knows = record {
@@ -596,9 +596,9 @@ module _ (old : WorldValue) (events : List Event) (replies : List Reply) (new : 
   edit_works_not processes number end outcome.Done is = absurd (cc)
   edit_works_not processes number end (outcome.Overtaken noted seen) is = absurd (cc)
 
-  report_works_not : (what : Turn ReportEnd) (end : WorkEnd) → Answered (Work end) ≡ report_reply what → ⊥
-  report_works_not turns.GoesOn end is = absurd (cc)
-  report_works_not (turns.Answers e) end is = absurd (cc)
+  show_works_not : (what : Turn ShowEnd) (end : WorkEnd) → Answered (Work end) ≡ show_reply what → ⊥
+  show_works_not turns.GoesOn end is = absurd (cc)
+  show_works_not (turns.Answers e) end is = absurd (cc)
 
   recovery_works_not : (what : Turn RecoveryEnd) (end : WorkEnd) → Answered (Work end) ≡ recovery_reply what → ⊥
   recovery_works_not turns.GoesOn end is = absurd (cc)
@@ -617,7 +617,7 @@ module _ (old : WorldValue) (events : List Event) (replies : List Reply) (new : 
 
   by_steps : (k p : ℕ) (end : WorkEnd) → k ≤ length events → StepsBy (at_moment k) p (Answered (Work end)) (at_moment (k + 1)) → HasCause run.moment events replies k p end
   by_steps k p end lt (edits h) = absurd (let found = some_outcome (at_moment k).sheet.layout.processes h.steps.edit.number (Work end) (outcome_at h.steps.edit.stage) (replied (at_moment k) (at_moment (k + 1)) p (Answered (Work end)) h) in edit_works_not (at_moment k).sheet.layout.processes h.steps.edit.number end found.0 found.2)
-  by_steps k p end lt (reports h) = absurd (report_works_not h.what end h.is)
+  by_steps k p end lt (reports h) = absurd (show_works_not h.what end h.is)
   by_steps k p end lt (recoveries h) = absurd (recovery_works_not h.what end h.is)
   by_steps k p end lt (migrations h) = absurd (migration_works_not h.what end h.is)
   by_steps k p end lt (works h) =

@@ -44,7 +44,7 @@ pub record IsRecoveryOf (r : PlainRecoverCall) (f : PlainEdit) : Type 0 where
 
 -- by the rows of a recovery it finds no done bit in the first world, where it goes on as for an edit that is not done;
 -- and in the last one, which is sound, it finds another edit's head, where it goes on as for one that it does not see.
--- And yet the edit counts in both
+-- And yet the edit is linearized in both
 pub record FindsNeither (r : PlainRecoverCall) (f : PlainEdit) (first last : PlainWorld) : Type 0 where
   pub bit : next_at r recovers.LoadDone (first.memory.cached (done_place r.process (number_of r))) ≡ at r (recovers.OrMark false)
   pub head : next_at r recovers.LoadHead (last.memory.cached (place.Head r.cell)) ≡ at r recovers.LoadDone

@@ -1,11 +1,11 @@
 -- What an answer says by itself.
 use Rattle.std.specs.Prelude.{ℕ, ◌≡◌, ◌≢◌, [], slice_index_or}
 use Rattle.ds_state.specs.Value.{WorldValue}
-use Rattle.ds_state.specs.declared.answer.Answer.TheVariants.{Edit, Report}
+use Rattle.ds_state.specs.declared.answer.Answer.TheVariants.{Edit, Show}
 use Rattle.ds_state.specs.declared.answer.EditEnd.TheVariants.{Done}
-use Rattle.ds_state.specs.declared.report.ReportEnd.TheVariants.{Settled}
+use Rattle.ds_state.specs.declared.show.ShowEnd.TheVariants.{Settled}
 use Rattle.ds_core.specs.declared.event.Event.{Event}
-use Rattle.ds_core.specs.declared.event.Event.TheVariants.{BeginEdit, BeginWork, BeginReport, BeginRecover, BeginMigrate, Step, Offer, Evict, Stop, Crash}
+use Rattle.ds_core.specs.declared.event.Event.TheVariants.{BeginEdit, BeginWork, BeginShow, BeginRecover, BeginMigrate, Step, Offer, Evict, Stop, Crash}
 use Rattle.ds_core.specs.declared.reply.Reply.{Reply}
 use Rattle.ds_core.specs.declared.reply.Reply.TheVariants.{Begun, Entered, Refused, Stepped, Answered, WrongTask, Evicted, Stopped, Crashed, NotEnabled}
 
@@ -15,8 +15,8 @@ IsReplyTo (BeginEdit r) (Begun number) = Unit {0}
 IsReplyTo (BeginEdit r) (Refused why) = Unit {0}
 IsReplyTo (BeginWork p cell) Entered = Unit {0}
 IsReplyTo (BeginWork p cell) (Refused why) = Unit {0}
-IsReplyTo (BeginReport p) Entered = Unit {0}
-IsReplyTo (BeginReport p) (Refused why) = Unit {0}
+IsReplyTo (BeginShow p) Entered = Unit {0}
+IsReplyTo (BeginShow p) (Refused why) = Unit {0}
 IsReplyTo (BeginRecover p) Entered = Unit {0}
 IsReplyTo (BeginRecover p) (Refused why) = Unit {0}
 IsReplyTo (BeginMigrate p) Entered = Unit {0}
@@ -38,12 +38,12 @@ abbrev pub done_of : Reply → ℕ
 done_of (Answered (Edit (Done number))) = 1
 done_of reply = 0
 
--- how many reports a reply answers Settled: 1 or 0
+-- how many shows a reply answers Settled: 1 or 0
 abbrev pub settled_of : Reply → ℕ
-settled_of (Answered (Report Settled)) = 1
+settled_of (Answered (Show Settled)) = 1
 settled_of reply = 0
 
--- the values of each process's last settled report stay, but for that of the process which is answered Settled
+-- the values of each process's last settled show stay, but for that of the process which is answered Settled
 abbrev pub KeepsReports : WorldValue → Event → Reply → WorldValue → Type 0
-KeepsReports old (Step p) (Answered (Report Settled)) new = (q : ℕ) → q ≢ p → slice_index_or new.reports.values q [] ≡ slice_index_or old.reports.values q []
+KeepsReports old (Step p) (Answered (Show Settled)) new = (q : ℕ) → q ≢ p → slice_index_or new.reports.values q [] ≡ slice_index_or old.reports.values q []
 KeepsReports old event reply new = new.reports ≡ old.reports

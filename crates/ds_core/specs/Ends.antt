@@ -2,16 +2,16 @@
 use Rattle.std.specs.Prelude.{ℕ, Option, Some, None}
 use Rattle.ds_state.specs.Value.{WorldValue, world_of}
 use Rattle.ds_state.specs.declared.answer.Answer.{Answer}
-use Rattle.ds_state.specs.declared.answer.Answer.TheVariants.{Edit, Work, Report, Recovery, Migration}
+use Rattle.ds_state.specs.declared.answer.Answer.TheVariants.{Edit, Work, Show, Recovery, Migration}
 use Rattle.ds_state.specs.declared.answer.EditEnd.{EditEnd}
 use Rattle.ds_state.specs.declared.work.WorkEnd.{WorkEnd}
-use Rattle.ds_state.specs.declared.report.ReportEnd.{ReportEnd}
+use Rattle.ds_state.specs.declared.show.ShowEnd.{ShowEnd}
 use Rattle.ds_state.specs.declared.recovery.RecoveryEnd.{RecoveryEnd}
 use Rattle.ds_state.specs.declared.migration.MigrateEnd.{MigrateEnd}
 use Rattle.ds_state.specs.declared.turn.Turn.{Turn}
 use Rattle.ds_state.specs.declared.turn.Turn.TheVariants.{GoesOn, Answers}
 use Rattle.ds_state.specs.declared.situation.Situation.{Situation}
-use Rattle.ds_core.specs.Kinds.{IsEditAnswer, IsWorkAnswer, IsReportAnswer, IsRecoveryAnswer, IsMigrationAnswer, AnswersTo}
+use Rattle.ds_core.specs.Kinds.{IsEditAnswer, IsWorkAnswer, IsShowAnswer, IsRecoveryAnswer, IsMigrationAnswer, AnswersTo}
 use Rattle.ds_core.specs.Own.{IsInCall}
 use Rattle.ds_core.specs.Replies.{reply_of}
 use Rattle.ds_core.specs.StepEvents.{Rests, StepsBy}
@@ -29,9 +29,9 @@ edits = record { answer = Edit; is = IsEditAnswer }
 abbrev pub works : Kind WorkEnd
 works = record { answer = Work; is = IsWorkAnswer }
 
--- reports
-abbrev pub reports : Kind ReportEnd
-reports = record { answer = Report; is = IsReportAnswer }
+-- the call shows the sheet
+abbrev pub reports : Kind ShowEnd
+reports = record { answer = Show; is = IsShowAnswer }
 
 -- recoveries
 abbrev pub recoveries : Kind RecoveryEnd

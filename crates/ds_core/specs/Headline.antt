@@ -13,20 +13,20 @@ use Rattle.ds_layout.specs.declared.mark.State.TheVariants.{Clean, Marked, Held}
 use Rattle.ds_layout.specs.Announcement.{number_after}
 use Rattle.ds_layout.specs.Mark.{IsClean, generation_of, mark_of, state_of}
 use Rattle.ds_state.specs.Works.{SEEN_MOST}
-use Rattle.ds_state.specs.KnownReport.{IsStill, IsPendingWord, AreScratch, moment_of}
+use Rattle.ds_state.specs.KnownShow.{IsStill, IsPendingWord, AreScratch, moment_of}
 use Rattle.ds_state.specs.Value.{WorldValue, world_of}
 use Rattle.ds_core.specs.Takes.{Takes, WorldRun, world_at}
 use Rattle.ds_core.specs.Moments.{Placed, Open, empty_ledger, edits_in, Moment, MomentFits}
 use Rattle.ds_core.specs.Requests.{PlainRequest}
 use Rattle.ds_core.specs.LedgerSteps.{WordsMove, LedgerMoves, Forgets}
 use Rattle.ds_core.specs.declared.event.Event.{Event}
-use Rattle.ds_core.specs.declared.event.Event.TheVariants.{BeginEdit, BeginWork, BeginReport, Step}
+use Rattle.ds_core.specs.declared.event.Event.TheVariants.{BeginEdit, BeginWork, BeginShow, Step}
 use Rattle.ds_state.specs.declared.recovery.RecoveryEnd.{RecoveryEnd}
-use Rattle.ds_state.specs.declared.recovery.Told.{Told}
-use Rattle.ds_state.specs.declared.answer.Answer.TheVariants.{Work, Recovery, Report}
+use Rattle.ds_state.specs.declared.recovery.LastEdit.{LastEdit}
+use Rattle.ds_state.specs.declared.answer.Answer.TheVariants.{Work, Recovery, Show}
 use Rattle.ds_state.specs.declared.work.WorkEnd.{WorkEnd}
 use Rattle.ds_state.specs.declared.work.WorkEnd.TheVariants.{NotDirty, Missed, Worn, Published, Again, NoMemory}
-use Rattle.ds_state.specs.declared.report.ReportEnd.TheVariants.{Settled, Unsettled}
+use Rattle.ds_state.specs.declared.show.ShowEnd.TheVariants.{Settled, Unsettled}
 use Rattle.ds_core.specs.declared.reply.Reply.{Reply}
 use Rattle.ds_core.specs.declared.reply.Reply.TheVariants.{Begun, Entered, Answered}
 
@@ -40,17 +40,17 @@ abbrev pub IsIssueOf : Shape → Event → Reply → PlainEdit → Type 0
 IsIssueOf shape (BeginEdit r) (Begun number) edit = edit ≡ record { process = r.process; number = number; cell = index_of shape r.cell; text = r.text }
 IsIssueOf shape event reply edit = ⊥
 
--- ---- reports
+-- ---- shows
 
--- the process's last report before this place began at `start`: a moment of its call is behind that begin and not
--- behind the place
+-- the process's last show before this place began at `start`: a moment of its call is after that begin and not
+-- after the place
 pub record IsCall (events : List Event) (replies : List Reply) (p start k : ℕ) : Type 0 where
-  pub begins : Happens events replies start (BeginReport p) Entered
+  pub begins : Happens events replies start (BeginShow p) Entered
   pub earlier : start < k
-  pub last : (j : ℕ) → start < j → j < k → Happens events replies j (BeginReport p) Entered → ⊥
+  pub last : (j : ℕ) → start < j → j < k → Happens events replies j (BeginShow p) Entered → ⊥
 
--- of a settled report: at a moment of its call all is still, and its values are those from scratch of the edits that
--- count then
+-- of a settled show: at a moment of its call all is still, and its values are those from scratch of the linearized
+-- edits then
 pub record SettledFits (moment : ℕ → Moment) (start k : ℕ) (values : List Value) : Type 0 where
   pub at : ℕ
   pub later : start < at
@@ -64,13 +64,13 @@ IsUnrest w (place.Mark c) word = (c < cells_of w.layout) × (IsClean word → �
 IsUnrest w (place.Announce q) word = (q < w.layout.processes) × IsPendingWord word
 IsUnrest w r word = ⊥
 
--- the place is a mark or an announcement of the sheet, which a report looks at twice
+-- the place is a mark or an announcement of the sheet, which a show looks at twice
 abbrev pub IsWatched : PlainWorld → Place → Type 0
 IsWatched w (place.Mark c) = c < cells_of w.layout
 IsWatched w (place.Announce q) = q < w.layout.processes
 IsWatched w r = ⊥
 
--- of an unsettled report: at a moment of its call the place held the word, which is not at rest, or not the one that
+-- of an unsettled show: at a moment of its call the place held the word, which is not at rest, or not the one that
 -- it held earlier in the call
 pub record UnsettledFits (moment : ℕ → Moment) (start k : ℕ) (r : Place) (word : ℕ) : Type 0 where
   pub at : ℕ
@@ -81,21 +81,21 @@ pub record UnsettledFits (moment : ℕ → Moment) (start k : ℕ) (r : Place) (
   pub why : IsUnrest (world_of (moment at).world) r word
       ⊎ ((earlier : ℕ) × (start < earlier) × (earlier ≤ at) × ((world_of (moment earlier).world).memory.cached r ≢ word))
 
--- the values of the process's last settled report, which the world keeps
+-- the values of the process's last settled show, which the world keeps
 abbrev pub kept_values : WorldValue → ℕ → List Value
 kept_values v p = slice_index_or v.reports.values p []
 
--- each report that is answered settled has its values from a moment of its call, and each unsettled one its word
+-- each show that is answered settled has its values from a moment of its call, and each unsettled one its word
 pub record ReportsFit (moment : ℕ → Moment) (events : List Event) (replies : List Reply) : Type 0 where
-  pub settled : (k p : ℕ) → Happens events replies k (Step p) (Answered (Report Settled))
+  pub settled : (k p : ℕ) → Happens events replies k (Step p) (Answered (Show Settled))
       → (start : ℕ) × IsCall events replies p start k × SettledFits moment start k (kept_values (moment (k + 1)).world p)
-  pub unsettled : (k p : ℕ) (r : Place) (word : ℕ) → Happens events replies k (Step p) (Answered (Report (Unsettled r word)))
+  pub unsettled : (k p : ℕ) (r : Place) (word : ℕ) → Happens events replies k (Step p) (Answered (Show (Unsettled r word)))
       → (start : ℕ) × IsCall events replies p start k × UnsettledFits moment start k r word
 
 -- ---- works
 
--- the process's last work before this place began at `start`, on this cell: a moment of its call is behind that begin
--- and not behind the place
+-- the process's last work before this place began at `start`, on this cell: a moment of its call is after that begin
+-- and not after the place
 pub record IsCallOn (events : List Event) (replies : List Reply) (p : ℕ) (cell : Cell) (start k : ℕ) : Type 0 where
   pub begins : Happens events replies start (BeginWork p cell) Entered
   pub earlier : start < k
@@ -136,7 +136,7 @@ pub record WasLetGo (moment : ℕ → Moment) (p start k : ℕ) (cell : Cell) (n
 
 -- what an answer of the process's work says of a moment of its call. The cell was clean; another process held it, or
 -- forestalled the claim; it was marked, with a generation that is not claimed any more. Or this process held it and let
--- it go: clean where it is published, marked where it is to be worked on again or memory was wanting
+-- it go: clean where it is published, marked where it is to be worked on again or an allocation failed
 abbrev pub CauseFits : (ℕ → Moment) → ℕ → ℕ → ℕ → Cell → WorkEnd → Type 0
 CauseFits moment p start k cell NotDirty = WasSo moment start k (λ m. state_then m cell ≡ Clean)
 CauseFits moment p start k cell Missed = WasSo moment start k (λ m. (q : ℕ) × (q ≢ p) × (state_then m cell ≡ Held q)) ⊎ WasForestalled moment start k cell
@@ -162,8 +162,9 @@ WorksFit moment events replies = (k p : ℕ) (end : WorkEnd) → Happens events 
 abbrev pub SaysNone : ℕ → ℕ → Type 0
 SaysNone number word = number_after word ≤ number
 
--- the process's edit of this number was never announced: at no moment from the run's first to the one behind this place
--- does the persisted side, which a crash keeps, say its number or a later one, and at this place the cached side does not
+-- the process's edit of this number was never announced: at no moment from the run's first to the one after this place
+-- does the persisted side, which a crash keeps, say its number or a later one, and at this place the cached side does
+-- not
 pub record WasUnannounced (moment : ℕ → Moment) (k p number : ℕ) : Type 0 where
   pub persisted : (j : ℕ) → j ≤ k + 1 → SaysNone number ((world_of (moment j).world).memory.persisted (place.Announce p))
   pub cached : SaysNone number ((world_of (moment k).world).memory.cached (place.Announce p))
@@ -176,7 +177,7 @@ ForgottenFit moment events replies = (k p : ℕ) (end : RecoveryEnd) → Happens
 -- ---- the run
 
 -- the worlds are those that the processes' steps lead through, from the new world to the last one; at each moment
--- there is a ledger such that each event moves words and ledger as it may; moments, reports and works fit, and no edit
+-- there is a ledger such that each event moves words and ledger as it may; moments, shows and works fit, and no edit
 -- that is forgotten was announced
 pub record RunFits (old : WorldValue) (events : List Event) (replies : List Reply) (new : WorldValue) : Type 0 where
   pub moment : ℕ → Moment
@@ -210,8 +211,8 @@ pub record IsClosed (moment : ℕ → Moment) (k p : ℕ) (e : Placed) : Type 0 
   pub is : open_edit.it ≡ e
   pub gone : (moment (k + 1)).ledger.opens p ≡ None
 
--- the run fits; an edit, once closed, stays in the list of counted edits or stays out; and one that was closed before
--- another was begun stands before it, wherever both stand
+-- the run fits; an edit, once closed, stays in the list of linearized edits or stays out; and one that was closed
+-- before another was begun stands before it, wherever both stand
 pub record Headline (old : WorldValue) (events : List Event) (replies : List Reply) (new : WorldValue) : Type 0 where
   pub run : RunFits old events replies new
   pub closed : (k p : ℕ) (e : Placed) → k < length events → IsClosed run.moment k p e
@@ -225,7 +226,7 @@ pub record HasHeadline (old : WorldValue) (events : List Event) (replies : List 
   pub is : Headline old events replies new
   pub worlds : (k : ℕ) → k ≤ length events → (is.run.moment k).world ≡ world_at old events replies new run k
 
--- ---- what a caller is told
+-- ---- what a caller is answered
 
 -- of the process and this number the list has just one edit, with the cell and text of the last request of the process
 -- before this place whose begin was answered with this number
@@ -238,13 +239,13 @@ pub record IsAcknowledged (old : WorldValue) (events : List Event) (replies : Li
   pub last : (j : ℕ) (other : PlainRequest) → start < j → j < k → other.process ≡ p → Happens events replies j (BeginEdit other) (Begun number) → ⊥
   pub once : filter (is_edit_of p number) edits ≡ record { process = p; number = number; cell = index_of old.sheet.layout.shape request.cell; text = request.text } ∷ []
 
--- the edit that a recovery tells as done stands in the list just once, as it was asked for, and the cell that is told
--- is that of its request
-pub record IsToldDone (old : WorldValue) (events : List Event) (replies : List Reply) (k p : ℕ) (told : Told) (edits : List PlainEdit) : Type 0 where
+-- the edit that a recovery reports as done stands in the list just once, as it was asked for, and the cell that is
+-- reported is that of its request
+pub record IsToldDone (old : WorldValue) (events : List Event) (replies : List Reply) (k p : ℕ) (told : LastEdit) (edits : List PlainEdit) : Type 0 where
   pub it : IsAcknowledged old events replies k p told.number edits
   pub cell : told.cell ≡ index_of old.sheet.layout.shape it.request.cell
 
--- the next edit of the process that begins behind this place is given this number
+-- the next edit of the process that begins after this place is given this number
 abbrev pub IsGivenAgain : List Event → List Reply → ℕ → ℕ → ℕ → Type 0
 IsGivenAgain events replies k p number = (j next : ℕ) (request : PlainRequest) → k < j → Happens events replies j (BeginEdit request) (Begun next) → request.process ≡ p
     → ((i n : ℕ) (other : PlainRequest) → k < i → i < j → other.process ≡ p → Happens events replies i (BeginEdit other) (Begun n) → ⊥)

@@ -1,10 +1,10 @@
 -- Which answers the calls of each kind have.
 use Rattle.std.specs.Prelude.{◌≡◌}
 use Rattle.ds_state.specs.declared.answer.Answer.{Answer}
-use Rattle.ds_state.specs.declared.answer.Answer.TheVariants.{Edit, Work, Report, Recovery, Migration}
+use Rattle.ds_state.specs.declared.answer.Answer.TheVariants.{Edit, Work, Show, Recovery, Migration}
 use Rattle.ds_state.specs.declared.situation.Rest.{Rest}
 use Rattle.ds_state.specs.declared.situation.Situation.{Situation}
-use Rattle.ds_state.specs.declared.situation.Situation.TheVariants.{Idle, Stopped, Editing, Working, Recovering, Reporting, Migrating}
+use Rattle.ds_state.specs.declared.situation.Situation.TheVariants.{Idle, Stopped, Editing, Working, Recovering, Showing, Migrating}
 
 -- the answer is one of an edit
 abbrev pub IsEditAnswer : Answer → Type 0
@@ -16,10 +16,10 @@ abbrev pub IsWorkAnswer : Answer → Type 0
 IsWorkAnswer (Work end) = Unit {0}
 IsWorkAnswer answer = ⊥
 
--- the answer is one of a report
-abbrev pub IsReportAnswer : Answer → Type 0
-IsReportAnswer (Report end) = Unit {0}
-IsReportAnswer answer = ⊥
+-- the answer is one of a show
+abbrev pub IsShowAnswer : Answer → Type 0
+IsShowAnswer (Show end) = Unit {0}
+IsShowAnswer answer = ⊥
 
 -- the answer is one of a recovery
 abbrev pub IsRecoveryAnswer : Answer → Type 0
@@ -38,10 +38,10 @@ AnswersTo Stopped = λ answer. ⊥
 AnswersTo (Editing e) = IsEditAnswer
 AnswersTo (Working e) = IsWorkAnswer
 AnswersTo (Recovering e) = IsRecoveryAnswer
-AnswersTo (Reporting e) = IsReportAnswer
+AnswersTo (Showing e) = IsShowAnswer
 AnswersTo (Migrating e) = IsMigrationAnswer
 
--- how the process rests that is answered so: behind a migration it is stopped, behind any other call idle
+-- how the process rests that is answered so: after a migration it is stopped, after any other call idle
 abbrev pub RestsAs : Answer → Situation → Type 0
 RestsAs (Migration end) s = s ≡ Stopped
 RestsAs answer s = (next : Rest) × (s ≡ Idle next)

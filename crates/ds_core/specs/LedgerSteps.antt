@@ -9,10 +9,10 @@ use Rattle.ds_layout.specs.SheetMemory.{PerformsAt}
 use Rattle.ds_state.specs.World.{PlainEdit}
 use Rattle.ds_core.specs.Moments.{Placed, Open, Closed, Ledger}
 use Rattle.ds_core.specs.declared.event.Event.{Event}
-use Rattle.ds_core.specs.declared.event.Event.TheVariants.{BeginEdit, BeginWork, BeginReport, BeginRecover, BeginMigrate, Step, Offer, Evict, Stop, Crash}
+use Rattle.ds_core.specs.declared.event.Event.TheVariants.{BeginEdit, BeginWork, BeginShow, BeginRecover, BeginMigrate, Step, Offer, Evict, Stop, Crash}
 use Rattle.ds_state.specs.declared.answer.Other.{Other}
 use Rattle.ds_state.specs.declared.answer.Answer.{Answer}
-use Rattle.ds_state.specs.declared.answer.Answer.TheVariants.{Edit, Work, Report, Recovery, Migration}
+use Rattle.ds_state.specs.declared.answer.Answer.TheVariants.{Edit, Work, Show, Recovery, Migration}
 use Rattle.ds_state.specs.declared.answer.EditEnd.TheVariants.{Done, Overtaken}
 use Rattle.ds_state.specs.declared.recovery.RecoveryEnd.{RecoveryEnd}
 use Rattle.ds_state.specs.declared.recovery.RecoveryEnd.TheVariants.{Last, Nothing}
@@ -34,9 +34,9 @@ WordsMove old (BeginEdit r) NotEnabled new = SameMemory old new
 WordsMove old (BeginWork p cell) Entered new = SameMemory old new
 WordsMove old (BeginWork p cell) (Refused why) new = SameMemory old new
 WordsMove old (BeginWork p cell) NotEnabled new = SameMemory old new
-WordsMove old (BeginReport p) Entered new = SameMemory old new
-WordsMove old (BeginReport p) (Refused why) new = SameMemory old new
-WordsMove old (BeginReport p) NotEnabled new = SameMemory old new
+WordsMove old (BeginShow p) Entered new = SameMemory old new
+WordsMove old (BeginShow p) (Refused why) new = SameMemory old new
+WordsMove old (BeginShow p) NotEnabled new = SameMemory old new
 WordsMove old (BeginRecover p) Entered new = SameMemory old new
 WordsMove old (BeginRecover p) (Refused why) new = SameMemory old new
 WordsMove old (BeginRecover p) NotEnabled new = SameMemory old new
@@ -61,12 +61,12 @@ WordsMove old event reply new = ⊥
 abbrev pub put : {A : Type 0} → (ℕ → Option A) → ℕ → Option A → ℕ → Option A
 put f p x = λ q. if q == p then x else f q
 
--- a process's next number: the one behind the last that was closed under its number
+-- a process's next number: the one after the last that was closed under its number
 abbrev pub next_number : Option Closed → ℕ
 next_number None = 0
 next_number (Some c) = c.it.edit.number + 1
 
--- the edit is in the list of counted edits; with `false`, it is not
+-- the edit is in the list of linearized edits; with `false`, it is not
 abbrev pub Stands : List Placed → Placed → Bool → Type 0
 Stands counted it true = Contains counted it
 Stands counted it false = Contains counted it → ⊥
@@ -77,7 +77,7 @@ pub record Issues (place : ℕ) (old : Ledger) (edit : PlainEdit) (new : Ledger)
   pub next : edit.number ≡ next_number (old.told edit.process)
   pub is : new ≡ record old { opens = put old.opens edit.process (Some (record { it = record { place = place; edit = edit }; before = old.counted; doubt = false })) }
 
--- the process's open edit, which is not in doubt and does not count, comes to count
+-- the process's open edit, which is not in doubt and is not linearized, is linearized
 pub record Counts (old : Ledger) (p : ℕ) (new : Ledger) : Type 0 where
   pub open_edit : Open
   pub was : old.opens p ≡ Some open_edit
@@ -85,7 +85,7 @@ pub record Counts (old : Ledger) (p : ℕ) (new : Ledger) : Type 0 where
   pub not_yet : Contains old.counted open_edit.it → ⊥
   pub is : new ≡ record old { counted = old.counted ++ open_edit.it ∷ [] }
 
--- the process's open edit is closed under its number: as one that counts just where it does
+-- the process's open edit is closed under its number: as one that is linearized just where it is
 pub record Closes (old : Ledger) (p number : ℕ) (doubt counts : Bool) (And : Open → Type 0) (new : Ledger) : Type 0 where
   pub open_edit : Open
   pub was : old.opens p ≡ Some open_edit
@@ -95,7 +95,7 @@ pub record Closes (old : Ledger) (p number : ℕ) (doubt counts : Bool) (And : O
   pub also : And open_edit
   pub is : new ≡ record old { opens = put old.opens p None; told = put old.told p (Some (record { it = open_edit.it; counts = counts })) }
 
--- the other edit, which an answer Overtaken names, is of the open edit's cell, and came to count since that one began
+-- the other edit, which an answer Overtaken names, is of the open edit's cell, and was linearized since that one began
 pub record IsOvertakenBy (old : Ledger) (other : Other) (open_edit : Open) : Type 0 where
   pub by : Placed
   pub counts : Contains old.counted by
@@ -109,7 +109,7 @@ abbrev pub told_of : Option Closed → RecoveryEnd
 told_of None = Nothing
 told_of (Some c) = Last (record { number = c.it.edit.number; cell = c.it.edit.cell; counts = c.counts })
 
--- the process's edit in doubt was never announced: it does not count, and its number will be given out again
+-- the process's edit in doubt was never announced: it is not linearized, and its number will be given out again
 pub record Forgets (old : Ledger) (p : ℕ) (end : RecoveryEnd) (new : Ledger) : Type 0 where
   pub open_edit : Open
   pub was : old.opens p ≡ Some open_edit
@@ -118,14 +118,14 @@ pub record Forgets (old : Ledger) (p : ℕ) (end : RecoveryEnd) (new : Ledger) :
   pub repeats : end ≡ told_of (old.told p)
   pub is : new ≡ record old { opens = put old.opens p None }
 
--- the process has no open edit, and its recovery tells again of the last one that was closed under its number
+-- the process has no open edit, and its recovery reports again the last one that was closed under its number
 pub record Repeats (old : Ledger) (p : ℕ) (end : RecoveryEnd) (new : Ledger) : Type 0 where
   pub none : old.opens p ≡ None
   pub repeats : end ≡ told_of (old.told p)
   pub is : new ≡ old
 
--- a recovery's answer closes the edit in doubt as it is told, or forgets it, or, where no edit is open, repeats what
--- was told
+-- a recovery's answer closes the edit in doubt as it is reported, or forgets it, or, where no edit is open, repeats
+-- what was answered
 abbrev pub Resolves : Ledger → ℕ → RecoveryEnd → Ledger → Type 0
 Resolves old p (Last told) new = Closes old p told.number true told.counts (λ o. o.it.edit.cell ≡ told.cell) new ⊎ (Forgets old p (Last told) new ⊎ Repeats old p (Last told) new)
 Resolves old p Nothing new = Forgets old p Nothing new ⊎ Repeats old p Nothing new
@@ -135,7 +135,7 @@ abbrev pub in_doubt : Option Open → Option Open
 in_doubt None = None
 in_doubt (Some o) = Some (record o { doubt = true })
 
--- a crash: every open edit is in doubt, and of those that count some may be lost, open ones alone
+-- a crash: every open edit is in doubt, and of those that are linearized some may be lost, open ones alone
 pub record Loses (old new : Ledger) : Type 0 where
   pub stays : Placed → Bool
   pub lost_open : (e : Placed) → Contains old.counted e → stays e ≡ false → (o : Open) × (old.opens e.edit.process ≡ Some o) × (o.it ≡ e)
@@ -147,7 +147,7 @@ AnswerMoves old p (Edit (Done number)) new = Closes old p number false true (λ 
 AnswerMoves old p (Edit (Overtaken number other)) new = Closes old p number false false (IsOvertakenBy old other) new
 AnswerMoves old p (Recovery end) new = Resolves old p end new
 AnswerMoves old p (Work end) new = new ≡ old
-AnswerMoves old p (Report end) new = new ≡ old
+AnswerMoves old p (Show end) new = new ≡ old
 AnswerMoves old p (Migration end) new = new ≡ old
 
 -- what the event at this place does to the ledger, by its reply; no other reply is given
@@ -158,9 +158,9 @@ LedgerMoves place shape old (BeginEdit r) NotEnabled new = new ≡ old
 LedgerMoves place shape old (BeginWork p cell) Entered new = new ≡ old
 LedgerMoves place shape old (BeginWork p cell) (Refused why) new = new ≡ old
 LedgerMoves place shape old (BeginWork p cell) NotEnabled new = new ≡ old
-LedgerMoves place shape old (BeginReport p) Entered new = new ≡ old
-LedgerMoves place shape old (BeginReport p) (Refused why) new = new ≡ old
-LedgerMoves place shape old (BeginReport p) NotEnabled new = new ≡ old
+LedgerMoves place shape old (BeginShow p) Entered new = new ≡ old
+LedgerMoves place shape old (BeginShow p) (Refused why) new = new ≡ old
+LedgerMoves place shape old (BeginShow p) NotEnabled new = new ≡ old
 LedgerMoves place shape old (BeginRecover p) Entered new = new ≡ old
 LedgerMoves place shape old (BeginRecover p) (Refused why) new = new ≡ old
 LedgerMoves place shape old (BeginRecover p) NotEnabled new = new ≡ old

@@ -1,7 +1,7 @@
 pub mod Requests
 pub mod Replies
 pub mod EditEvents
-pub mod ReportEvents
+pub mod ShowEvents
 pub mod WorkEvents
 pub mod RecoveryEvents
 pub mod MigrationEvents

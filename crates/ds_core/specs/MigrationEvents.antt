@@ -8,7 +8,7 @@ use Rattle.ds_state.specs.declared.answer.Answer.TheVariants.{Migration}
 use Rattle.ds_core.specs.Replies.{reply_of}
 use Rattle.ds_recover.specs.MigrationSteps.{BeginsMigration}
 use Rattle.ds_recover.specs.MigrationTakes as migrations
-use Rattle.ds_core.specs.ReportEvents.{NoSuchProcess}
+use Rattle.ds_core.specs.ShowEvents.{NoSuchProcess}
 use Rattle.ds_core.specs.declared.reply.Reply.{Reply}
 use Rattle.ds_core.specs.declared.reply.Reply.TheVariants.{Entered, Refused, NotEnabled}
 
@@ -22,7 +22,7 @@ pub record MigrationStepsBy (old : WorldValue) (p : ℕ) (reply : Reply) (new : 
   pub steps : migrations.StepsBy old p what new
   pub is : reply ≡ migration_reply what
 
--- a migration by a process of the sheet begins; counts and kept reports stay
+-- a migration by a process of the sheet begins; counts and kept snapshots stay
 pub record MigrationBegins (old : WorldValue) (p : ℕ) (new : WorldValue) : Type 0 where
   pub there : p < old.sheet.layout.processes
   pub begun : BeginsMigration p (world_of old) (world_of new)

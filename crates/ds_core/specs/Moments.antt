@@ -3,7 +3,7 @@ use Rattle.std.specs.Prelude.{ℕ, ◌≡◌, ◌<◌, Bool, List, [], ◌∷◌
 use Rattle.ds_layout.specs.Places.{cells_of}
 use Rattle.ds_state.specs.World.{PlainEdit, PlainIssue, of_cell}
 use Rattle.ds_state.specs.Shown.{text_at, last_text, values_shown, IsQuiet}
-use Rattle.ds_state.specs.KnownReport.{AreScratch}
+use Rattle.ds_state.specs.KnownShow.{AreScratch}
 use Rattle.ds_state.specs.Value.{WorldValue, world_of}
 
 -- ---- the ledger
@@ -13,28 +13,28 @@ pub record Placed : Type 0 where
   pub place : ℕ
   pub edit : PlainEdit
 
--- an edit that is open, the list of counted edits when it was issued, and whether it is in doubt
+-- an edit that is open, the list of linearized edits when it was issued, and whether it is in doubt
 pub record Open : Type 0 where
   pub it : Placed
   pub before : List Placed
   pub doubt : Bool
 
--- an edit that was closed under its number, and whether it counts
+-- an edit that was closed under its number, and whether it is linearized
 pub record Closed : Type 0 where
   pub it : Placed
   pub counts : Bool
 
--- the counted edits in their order; of each process the open edit, and the last one that was closed under its number
+-- the linearized edits in their order; of each process the open edit, and the last one that was closed under its number
 pub record Ledger : Type 0 where
   pub counted : List Placed
   pub opens : ℕ → Option Open
   pub told : ℕ → Option Closed
 
--- the ledger of a new sheet: no edit counts, none is open, none was closed
+-- the ledger of a new sheet: no edit is linearized, none is open, none was closed
 abbrev pub empty_ledger : Ledger
 empty_ledger = record { counted = []; opens = λ p. None; told = λ p. None }
 
--- the counted edits of a ledger in their order, without the places of their begins
+-- the linearized edits of a ledger in their order, without the places of their begins
 abbrev pub edits_in : Ledger → List PlainEdit
 edits_in l = map (λ (e : Placed). e.edit) l.counted
 
@@ -54,8 +54,8 @@ abbrev pub NoneTwice : List Placed → Type 0
 NoneTwice [] = Unit {0}
 NoneTwice (e ∷ es) = All (AreApart e) es × NoneTwice es
 
--- the ledger is the world's; no edit counts twice; each cell's words have the text of its last edit; and where no
--- edit is open and no cell dirty or held, each cell's words show the value from scratch
+-- the ledger is the world's; no edit stands twice in the list; each cell's words have the text of its last edit; and
+-- where no edit is open and no cell dirty or held, each cell's words show the value from scratch
 pub record MomentFits (m : Moment) : Type 0 where
   pub counted : edits_in m.ledger ≡ m.world.counted
   pub opens : (p : ℕ) → option_map (λ (o : Open). o.it.edit) (m.ledger.opens p) ≡ option_map (λ (i : PlainIssue). i.edit) ((world_of m.world).open_edits p)

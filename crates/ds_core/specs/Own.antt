@@ -4,14 +4,14 @@ use Rattle.ds_layout.specs.Bits.{parts_for}
 use Rattle.ds_state.specs.Works.{PlainWorkCall, old_words}
 use Rattle.ds_state.specs.Value.{WorldValue, world_of}
 use Rattle.ds_state.specs.declared.situation.Situation.{Situation}
-use Rattle.ds_state.specs.declared.situation.Situation.TheVariants.{Idle, Stopped, Editing, Working, Recovering, Reporting, Migrating}
+use Rattle.ds_state.specs.declared.situation.Situation.TheVariants.{Idle, Stopped, Editing, Working, Recovering, Showing, Migrating}
 use Rattle.ds_edit.specs.EditSteps.{rank}
 use Rattle.ds_work.specs.WorkRank as works
-use Rattle.ds_report.specs.ReportSteps as shows
+use Rattle.ds_show.specs.ShowSteps as shows
 use Rattle.ds_recover.specs.RecoverySteps as recoveries
 use Rattle.ds_recover.specs.MigrationSteps as migrations
 use Rattle.ds_core.specs.declared.event.Event.{Event}
-use Rattle.ds_core.specs.declared.event.Event.TheVariants.{BeginEdit, BeginWork, BeginReport, BeginRecover, BeginMigrate, Step, Offer, Evict, Stop, Crash}
+use Rattle.ds_core.specs.declared.event.Event.TheVariants.{BeginEdit, BeginWork, BeginShow, BeginRecover, BeginMigrate, Step, Offer, Evict, Stop, Crash}
 use Rattle.ds_core.specs.declared.reply.Reply.{Reply}
 use Rattle.ds_core.specs.declared.reply.Reply.TheVariants as reply
 
@@ -22,7 +22,7 @@ own_step p (Step q) (reply.Answered answer) = if q == p then 1 else 0
 own_step p (Step q) _ = 0
 own_step p (BeginEdit request) _ = 0
 own_step p (BeginWork q cell) _ = 0
-own_step p (BeginReport q) _ = 0
+own_step p (BeginShow q) _ = 0
 own_step p (BeginRecover q) _ = 0
 own_step p (BeginMigrate q) _ = 0
 own_step p (Offer value) _ = 0
@@ -41,7 +41,7 @@ IsUnanswered p (Step q) (reply.Answered answer) = q ≡ p → ⊥
 IsUnanswered p (Step q) _ = Unit {0}
 IsUnanswered p (BeginEdit request) _ = Unit {0}
 IsUnanswered p (BeginWork q cell) _ = Unit {0}
-IsUnanswered p (BeginReport q) _ = Unit {0}
+IsUnanswered p (BeginShow q) _ = Unit {0}
 IsUnanswered p (BeginRecover q) _ = Unit {0}
 IsUnanswered p (BeginMigrate q) _ = Unit {0}
 IsUnanswered p (Offer value) _ = Unit {0}
@@ -60,7 +60,7 @@ abbrev pub left_in : Situation → ℕ
 left_in (Editing e) = rank e e.stage
 left_in (Working e) = works.steps_left e.cells e
 left_in (Recovering e) = recoveries.rank e.cells e.stage
-left_in (Reporting e) = shows.rank e
+left_in (Showing e) = shows.rank e
 left_in (Migrating e) = migrations.rank (old_words e.processes) e.stage
 left_in (Idle number) = 0
 left_in Stopped = 0
@@ -69,21 +69,21 @@ left_in Stopped = 0
 abbrev pub steps_left : ℕ → WorldValue → ℕ
 steps_left p v = left_in ((world_of v).situation p)
 
--- the process is in a call: an edit, a work, a recovery, a report or a migration
+-- the process is in a call: an edit, a work, a recovery, a show or a migration
 abbrev pub IsInCall : Situation → Type 0
 IsInCall (Idle number) = ⊥
 IsInCall Stopped = ⊥
 IsInCall (Editing e) = Unit {0}
 IsInCall (Working e) = Unit {0}
 IsInCall (Recovering e) = Unit {0}
-IsInCall (Reporting e) = Unit {0}
+IsInCall (Showing e) = Unit {0}
 IsInCall (Migrating e) = Unit {0}
 
 -- the event neither stops the process nor crashes the machine
 abbrev pub IsUnhalted : ℕ → Event → Type 0
 IsUnhalted p (BeginEdit request) = Unit {0}
 IsUnhalted p (BeginWork q cell) = Unit {0}
-IsUnhalted p (BeginReport q) = Unit {0}
+IsUnhalted p (BeginShow q) = Unit {0}
 IsUnhalted p (BeginRecover q) = Unit {0}
 IsUnhalted p (BeginMigrate q) = Unit {0}
 IsUnhalted p (Step q) = Unit {0}
@@ -97,7 +97,7 @@ abbrev pub AreUnhalted : ℕ → List Event → Type 0
 AreUnhalted p [] = Unit {0}
 AreUnhalted p (event ∷ events) = IsUnhalted p event × AreUnhalted p events
 
--- the process is in the work that this one has come to be, so many steps of its own later: fewer than two for each
+-- the process is in the work that this one has come to be, n steps of its own later: fewer than two for each
 -- reference that it has read, three for each cell, one for each part of an index row, and 51
 pub record WorkGoesOn (p : ℕ) (e : PlainWorkCall) (steps : ℕ) (new : WorldValue) : Type 0 where
   pub work : PlainWorkCall

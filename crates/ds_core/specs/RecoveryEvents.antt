@@ -8,7 +8,7 @@ use Rattle.ds_core.specs.Replies.{reply_of}
 use Rattle.ds_state.specs.declared.recovery.RecoveryEnd.{RecoveryEnd}
 use Rattle.ds_recover.specs.RecoverBegun.{IsBegun, Refuses}
 use Rattle.ds_recover.specs.RecoverTakes as recoveries
-use Rattle.ds_core.specs.ReportEvents.{NoSuchProcess}
+use Rattle.ds_core.specs.ShowEvents.{NoSuchProcess}
 use Rattle.ds_core.specs.declared.reply.Reply.{Reply}
 use Rattle.ds_core.specs.declared.reply.Reply.TheVariants.{Entered, Refused, NotEnabled}
 
@@ -22,7 +22,7 @@ pub record RecoveryStepsBy (old : WorldValue) (p : ℕ) (reply : Reply) (new : W
   pub steps : recoveries.StepsBy old p what new
   pub is : reply ≡ recovery_reply what
 
--- a recovery of a process of the sheet begins; counts and kept reports stay
+-- a recovery of a process of the sheet begins; counts and kept snapshots stay
 pub record RecoveryBegins (old : WorldValue) (p : ℕ) (new : WorldValue) : Type 0 where
   pub there : p < old.sheet.layout.processes
   pub begun : IsBegun (world_of old) p (world_of new)

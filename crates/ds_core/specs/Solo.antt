@@ -54,8 +54,9 @@ abbrev pub StandsInOwnRow : PlainWorld → ℕ → Type 0
 StandsInOwnRow w cell = HasBit (w.memory.cached (index_place cell cell)) cell
 
 -- an answer of work on this cell that was alone from the first world on, with what the last one shows. Published says
--- that the cell is clean, and whether it shows another value now; where it does, the cell does not stand in its own index
--- row. Where it stands there, a new value is answered Again. For want of memory the cell shows what it did.
+-- that the cell is clean, and whether it shows another value now; where it does, the cell does not stand in its own
+-- index row. Where it stands there, a new value is answered Again. Where an allocation fails the cell shows what it
+-- did.
 abbrev pub IsLoneAnswer : PlainWorld → PlainWorld → ℕ → Answer → Type 0
 IsLoneAnswer first last cell (Work (Published true)) = IsClean (last.memory.cached (Mark cell)) × (shown_in last cell ≢ shown_in first cell) × (StandsInOwnRow first cell → ⊥)
 IsLoneAnswer first last cell (Work (Published false)) = IsClean (last.memory.cached (Mark cell)) × (shown_in last cell ≡ shown_in first cell)

@@ -9,7 +9,7 @@ use Rattle.ds_state.specs.declared.situation.Situation.{Situation}
 use Rattle.ds_state.specs.declared.situation.Situation.TheVariants.{Working}
 use Rattle.ds_state.specs.declared.work.WorkStage.TheVariants.{Wait}
 use Rattle.ds_core.specs.EditEvents.{EditStepsBy}
-use Rattle.ds_core.specs.ReportEvents.{ReportStepsBy}
+use Rattle.ds_core.specs.ShowEvents.{ShowStepsBy}
 use Rattle.ds_core.specs.WorkEvents.{WorkStepsBy}
 use Rattle.ds_core.specs.RecoveryEvents.{RecoveryStepsBy}
 use Rattle.ds_core.specs.MigrationEvents.{MigrationStepsBy}
@@ -17,11 +17,11 @@ use Rattle.ds_core.specs.Own.{IsInCall}
 use Rattle.ds_core.specs.declared.reply.Reply.{Reply}
 use Rattle.ds_core.specs.declared.reply.Reply.TheVariants.{Stepped, Answered, Evicted, NotEnabled}
 
--- the process makes one step of the call that it is in: an edit, a work, a report, a recovery or a migration
+-- the process makes one step of the call that it is in: an edit, a work, a show, a recovery or a migration
 pub data StepsBy (old : WorldValue) (p : ℕ) (reply : Reply) (new : WorldValue) : Type 0 where
   edits : EditStepsBy old p reply new → StepsBy old p reply new
   works : WorkStepsBy old p reply new → StepsBy old p reply new
-  reports : ReportStepsBy old p reply new → StepsBy old p reply new
+  reports : ShowStepsBy old p reply new → StepsBy old p reply new
   recoveries : RecoveryStepsBy old p reply new → StepsBy old p reply new
   migrations : MigrationStepsBy old p reply new → StepsBy old p reply new
 
@@ -38,7 +38,7 @@ StepTakes old p (Answered answer) new = StepsBy old p (Answered answer) new
 StepTakes old p NotEnabled new = Rests IsInCall old p new
 StepTakes old p _ new = ⊥
 
--- the word of this place is evicted; counts and kept reports stay
+-- the word of this place is evicted; counts and kept snapshots stay
 pub record EvictsWord (old : WorldValue) (place : Place) (new : WorldValue) : Type 0 where
   pub evicts : Evicts place (world_of old) (world_of new)
   pub done : new.done ≡ old.done

@@ -27,7 +27,7 @@ StopTakes old p Stopped new = StopsProcess old p new
 StopTakes old p NotEnabled new = CanNotStop old p new
 StopTakes old p _ new = ⊥
 
--- a crash: every process stops, and what was not persisted is lost; counts and kept reports stay
+-- a crash: every process stops, and what was not persisted is lost; counts and kept snapshots stay
 pub record CrashesWorld (old new : WorldValue) : Type 0 where
   pub crashes : CrashesTo (world_of old) (world_of new)
   pub done : new.done ≡ old.done

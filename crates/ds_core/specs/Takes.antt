@@ -5,14 +5,14 @@ use Rattle.ds_state.specs.Value.{WorldValue, world_of, IsGood, SameReports}
 use Rattle.ds_edit.specs.Begun.{IsBegun, Refuses}
 use Rattle.ds_state.specs.declared.refusal.Refusal.{Refusal}
 use Rattle.ds_core.specs.Requests.{PlainRequest}
-use Rattle.ds_core.specs.ReportEvents.{BeginReportTakes}
+use Rattle.ds_core.specs.ShowEvents.{BeginShowTakes}
 use Rattle.ds_core.specs.WorkEvents.{BeginWorkTakes, OfferTakes}
 use Rattle.ds_core.specs.RecoveryEvents.{BeginRecoverTakes}
 use Rattle.ds_core.specs.MigrationEvents.{BeginMigrateTakes}
 use Rattle.ds_core.specs.StepEvents.{StepTakes, EvictTakes}
 use Rattle.ds_core.specs.StopEvents.{StopTakes, CrashTakes}
 use Rattle.ds_core.specs.declared.event.Event.{Event}
-use Rattle.ds_core.specs.declared.event.Event.TheVariants.{BeginEdit, BeginWork, BeginReport, BeginRecover, BeginMigrate, Step, Offer, Evict, Stop, Crash}
+use Rattle.ds_core.specs.declared.event.Event.TheVariants.{BeginEdit, BeginWork, BeginShow, BeginRecover, BeginMigrate, Step, Offer, Evict, Stop, Crash}
 use Rattle.ds_core.specs.declared.reply.Reply.{Reply}
 use Rattle.ds_core.specs.declared.reply.Reply.TheVariants.{Begun, Refused, NotEnabled}
 
@@ -21,7 +21,7 @@ pub record IsOfWorld (v : WorldValue) (r : PlainRequest) : Type 0 where
   pub process : r.process < v.sheet.layout.processes
   pub cell : IsInside v.sheet.layout.shape r.cell
 
--- the edit that is asked for begins with this number; counts and kept reports stay
+-- the edit that is asked for begins with this number; counts and kept snapshots stay
 pub record EditBegins (old : WorldValue) (r : PlainRequest) (number : ℕ) (new : WorldValue) : Type 0 where
   pub named : IsOfWorld old r
   pub begun : IsBegun (world_of old) r.process (index_of old.sheet.layout.shape r.cell) r.text number (world_of new)
@@ -50,7 +50,7 @@ BeginTakes old r _ new = ⊥
 abbrev pub Takes : WorldValue → Event → Reply → WorldValue → Type 0
 Takes old (BeginEdit r) reply new = BeginTakes old r reply new
 Takes old (BeginWork p cell) reply new = BeginWorkTakes old p cell reply new
-Takes old (BeginReport p) reply new = BeginReportTakes old p reply new
+Takes old (BeginShow p) reply new = BeginShowTakes old p reply new
 Takes old (BeginRecover p) reply new = BeginRecoverTakes old p reply new
 Takes old (BeginMigrate p) reply new = BeginMigrateTakes old p reply new
 Takes old (Step p) reply new = StepTakes old p reply new
@@ -71,7 +71,7 @@ WorldRun old (event ∷ events) (reply ∷ replies) new = (mid : WorldValue) × 
 WorldRun old [] (reply ∷ replies) new = ⊥
 WorldRun old (event ∷ events) [] new = ⊥
 
--- the world of a run before the event at this place, and behind its last event
+-- the world of a run before the event at this place, and after its last event
 abbrev pub world_at : (old : WorldValue) (events : List Event) (replies : List Reply) (new : WorldValue) → WorldRun old events replies new → ℕ → WorldValue
 world_at old (event ∷ events) (reply ∷ replies) new run (suc k) = world_at run.0 events replies new run.2 k
 world_at old events replies new run k = old

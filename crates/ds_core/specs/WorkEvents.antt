@@ -17,7 +17,7 @@ use Rattle.ds_core.specs.declared.reply.Reply.TheVariants.{Entered, Refused, Ste
 abbrev pub work_reply : Turn WorkEnd → Reply
 work_reply what = reply_of Work what
 
--- the process makes one step of its work, with the reply of that step; counts and kept reports stay
+-- the process makes one step of its work, with the reply of that step; counts and kept snapshots stay
 pub record WorkStepsBy (old : WorldValue) (p : ℕ) (reply : Reply) (new : WorldValue) : Type 0 where
   pub what : Turn WorkEnd
   pub steps : works.StepsBy (world_of old) p what (world_of new)
@@ -30,7 +30,7 @@ pub record HasWork (old : WorldValue) (p : ℕ) (cell : Cell) : Type 0 where
   pub process : p < old.sheet.layout.processes
   pub within : IsInside old.sheet.layout.shape cell
 
--- work of the process on the cell begins; counts and kept reports stay
+-- work of the process on the cell begins; counts and kept snapshots stay
 pub record WorkBegins (old : WorldValue) (p : ℕ) (cell : Cell) (new : WorldValue) : Type 0 where
   pub named : HasWork old p cell
   pub begun : works.IsBegun (world_of old) p (index_of old.sheet.layout.shape cell) (world_of new)

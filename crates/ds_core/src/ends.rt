@@ -6,14 +6,14 @@ ghost use Rattle.ds_core.specs.Ends.{IsOnlyIn, StepsAs, all, all_of};
 use ds_state::answer::{Answer, EditEnd};
 use ds_state::migration::MigrateEnd;
 use ds_state::recovery::RecoveryEnd;
-use ds_state::report::ReportEnd;
+use ds_state::show::ShowEnd;
 use ds_state::situation::Situation;
 use ds_state::turn::Turn;
 use ds_state::work::WorkEnd;
 use ds_state::world::World;
 use std::alloc::Global;
 
-/// How calls of one kind end: those of edits, of works, of reports, of recoveries, of migrations; and those of any kind,
+/// How calls of one kind end: those of edits, of works, of shows, of recoveries, of migrations; and those of any kind,
 /// which are answers.
 pub trait CallEnd: Copy {
     ghost use Rattle.ds_core.specs.Ends.{Kind, StepsAs};
@@ -25,9 +25,9 @@ pub trait CallEnd: Copy {
     fn answer(self) -> Answer
         ensures { result ≡ kind.answer self };
 
-    /// A process makes the next step of its call, and what that did to it. Where it is in no call of this kind, or in work
-    /// that waits for an entry, or the sheet has no such process, the step can not happen and nothing changes. Only the
-    /// step of work that reads a content takes memory.
+    /// A process makes the next step of its call, and what that did to it. Where it is in no call of this kind, or in
+    /// work that waits for an entry, or the sheet has no such process, the step cannot happen and nothing changes. Only
+    /// the step of work that reads a content takes memory.
     fn step(alloc: Global, world: &mut World, process: usize) -> Option<Turn<Self>>
         ensures { StepsAs kind world.old process result world.new };
 }
@@ -43,6 +43,7 @@ impl CallEnd for EditEnd {
 
     #[tactic(auto, using(crate::proofs::Stepping::of_edit))]
     fn step(alloc: Global, world: &mut World, process: usize) -> Option<Turn<EditEnd>> {
+        // The body does not use it: the signature or a clause names it.
         let _alloc = alloc;
         ds_edit::step::step(world, process)
     }
@@ -63,19 +64,20 @@ impl CallEnd for WorkEnd {
     }
 }
 
-impl CallEnd for ReportEnd {
+impl CallEnd for ShowEnd {
     ghost use Rattle.ds_core.specs.Ends.{reports};
 
     ghost kind = { reports };
 
     fn answer(self) -> Answer {
-        Answer::Report(self)
+        Answer::Show(self)
     }
 
-    #[tactic(auto, using(crate::proofs::Stepping::of_report))]
-    fn step(alloc: Global, world: &mut World, process: usize) -> Option<Turn<ReportEnd>> {
+    #[tactic(auto, using(crate::proofs::Stepping::of_show))]
+    fn step(alloc: Global, world: &mut World, process: usize) -> Option<Turn<ShowEnd>> {
+        // The body does not use it: the signature or a clause names it.
         let _alloc = alloc;
-        ds_report::step::step(world, process)
+        ds_show::step::step(world, process)
     }
 }
 
@@ -90,6 +92,7 @@ impl CallEnd for RecoveryEnd {
 
     #[tactic(auto, using(crate::proofs::Stepping::of_recovery))]
     fn step(alloc: Global, world: &mut World, process: usize) -> Option<Turn<RecoveryEnd>> {
+        // The body does not use it: the signature or a clause names it.
         let _alloc = alloc;
         ds_recover::step::step(world, process)
     }
@@ -106,6 +109,7 @@ impl CallEnd for MigrateEnd {
 
     #[tactic(auto, using(crate::proofs::Stepping::of_migration))]
     fn step(alloc: Global, world: &mut World, process: usize) -> Option<Turn<MigrateEnd>> {
+        // The body does not use it: the signature or a clause names it.
         let _alloc = alloc;
         ds_recover::migrate_step::step(world, process)
     }
@@ -146,7 +150,7 @@ impl CallEnd for Answer {
         match &world.situations[process] {
             Situation::Editing(_) => step_as::<EditEnd>(alloc, world, process),
             Situation::Working(_) => step_as::<WorkEnd>(alloc, world, process),
-            Situation::Reporting(_) => step_as::<ReportEnd>(alloc, world, process),
+            Situation::Showing(_) => step_as::<ShowEnd>(alloc, world, process),
             Situation::Recovering(_) => step_as::<RecoveryEnd>(alloc, world, process),
             Situation::Migrating(_) => step_as::<MigrateEnd>(alloc, world, process),
             Situation::Idle(_) | Situation::Stopped => None,

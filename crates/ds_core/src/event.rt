@@ -7,7 +7,7 @@ use std::marker::Model;
 
 /// An edit that is asked for.
 #[derive(Debug, Drop)]
-pub struct Request {
+pub struct EditRequest {
     /// The process that is to run it.
     pub process: usize,
     /// The cell.
@@ -16,7 +16,7 @@ pub struct Request {
     pub text: Vec<u8>,
 }
 
-impl Model for Request {
+impl Model for EditRequest {
     ghost use Rattle.ds_core.specs.Requests.{PlainRequest};
 
     ghost Value = { PlainRequest };
@@ -28,11 +28,11 @@ impl Model for Request {
 #[derive(Debug, Drop)]
 pub enum Event {
     /// A process begins an edit.
-    BeginEdit(Request),
+    BeginEdit(EditRequest),
     /// A process begins to work on a cell.
     BeginWork(usize, Cell),
-    /// A process begins a report.
-    BeginReport(usize),
+    /// A process begins a show.
+    BeginShow(usize),
     /// A process begins to recover.
     BeginRecover(usize),
     /// A process begins to migrate the sheet to the second layout.

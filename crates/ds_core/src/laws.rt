@@ -7,17 +7,17 @@ ghost use Rattle.ds_state.specs.Fresh.{IsNew};
 ghost use Rattle.ds_state.specs.Value.{WorldValue, world_of, IsGood};
 ghost use Rattle.ds_state.specs.Sound.{IsSound};
 ghost use Rattle.ds_state.specs.declared.stage.Stage.TheVariants.{StoreHeader};
-ghost use Rattle.ds_state.specs.declared.situation.Situation.TheVariants.{Editing, Working, Recovering, Reporting, Migrating};
+ghost use Rattle.ds_state.specs.declared.situation.Situation.TheVariants.{Editing, Working, Recovering, Showing, Migrating};
 ghost use Rattle.ds_core.specs.declared.event.Event.{Event};
-ghost use Rattle.ds_core.specs.declared.event.Event.TheVariants.{Step, BeginReport};
+ghost use Rattle.ds_core.specs.declared.event.Event.TheVariants.{Step, BeginShow};
 ghost use Rattle.ds_state.specs.declared.answer.Other.{Other};
-ghost use Rattle.ds_state.specs.declared.recovery.Told.{Told};
+ghost use Rattle.ds_state.specs.declared.recovery.LastEdit.{LastEdit};
 ghost use Rattle.ds_state.specs.declared.answer.Answer.{Answer};
-ghost use Rattle.ds_state.specs.declared.answer.Answer.TheVariants.{Edit, Work, Recovery, Report};
+ghost use Rattle.ds_state.specs.declared.answer.Answer.TheVariants.{Edit, Work, Recovery, Show};
 ghost use Rattle.ds_state.specs.declared.answer.EditEnd.TheVariants.{Done, Overtaken};
 ghost use Rattle.ds_state.specs.declared.recovery.RecoveryEnd.{RecoveryEnd};
 ghost use Rattle.ds_state.specs.declared.recovery.RecoveryEnd.TheVariants.{Last, Nothing};
-ghost use Rattle.ds_state.specs.declared.report.ReportEnd.TheVariants.{Settled};
+ghost use Rattle.ds_state.specs.declared.show.ShowEnd.TheVariants.{Settled};
 ghost use Rattle.ds_state.specs.declared.work.WorkEnd.{WorkEnd};
 ghost use Rattle.ds_core.specs.declared.reply.Reply.TheVariants.{Answered, Entered};
 ghost use Rattle.ds_core.specs.declared.reply.Reply.{Reply};
@@ -31,7 +31,7 @@ ghost use Rattle.ds_state.specs.Spent.{IsSpent};
 ghost use Rattle.ds_core.specs.SpentNumbers.{IsOut};
 ghost use Rattle.ds_core.specs.BitFirst.{HasNoBit, TakesOver, IsRecoveryOf, FindsNeither};
 ghost use Rattle.ds_core.specs.Solo.{IsSolo, AreDoneOnly, IsLone, IsLoneAnswer, AreLoneReplies};
-ghost use Rattle.ds_state.specs.Works.{PlainWorkCall, PlainReportCall, PlainRecoverCall, PlainMigrateCall};
+ghost use Rattle.ds_state.specs.Works.{PlainWorkCall, PlainShowCall, PlainRecoverCall, PlainMigrateCall};
 ghost use Rattle.ds_state.specs.declared.work.WorkStage.TheVariants.{LoadMark};
 ghost use Rattle.ds_layout.specs.Bits.{parts_for};
 ghost use Rattle.ds_layout.specs.declared.head.Head.{Head};
@@ -39,7 +39,7 @@ ghost use Rattle.ds_layout.specs.Places.{cells_of};
 ghost use Rattle.ds_state.specs.Shown.{IsQuiet};
 ghost use Rattle.ds_work.specs.WorkAlone.{IsMarkedAt};
 
-/// An edit that is answered Overtaken does not count then and never will: its number is spent, and
+/// An edit that is answered Overtaken is not linearized then and never will be: its number is spent, and
 /// stays so.
 pub fn overtaken_edits_stay_out()
     ensures { (old mid new : WorldValue) (events : List Event) (replies : List Reply)
@@ -72,15 +72,15 @@ pub fn work_own_steps_are_few()
 {}
 
 /// A call that is not answered has made fewer steps of its own than it had left, whatever the other
-/// processes do between them; a report has at most 2P + 4N + 1 left, a recovery N(3N + 30) + 23, a
+/// processes do between them; a show has at most 2P + 4N + 1 left, a recovery N(3N + 30) + 23, a
 /// migration 15,360P + 5, on a sheet of N cells for P processes.
-#[tactic(auto, using(crate::proofs::CallSteps::short, crate::proofs::CallSteps::report_left, crate::proofs::CallSteps::recovery_left, crate::proofs::CallSteps::migration_left))]
+#[tactic(auto, using(crate::proofs::CallSteps::short, crate::proofs::CallSteps::show_left, crate::proofs::CallSteps::recovery_left, crate::proofs::CallSteps::migration_left))]
 pub fn calls_are_short()
     ensures fewer { (old : WorldValue) (events : List Event) (replies : List Reply) (new : WorldValue)
         (p : ℕ) → IsSound (world_of old) → p < old.sheet.layout.processes
         → IsInCall ((world_of old).situation p) → WorldRun old events replies new
         → AreUnanswered p events replies → own_steps p events replies < steps_left p old }
-    ensures report { (v : WorldValue) (p : ℕ) (e : PlainReportCall) → (world_of v).situation p ≡ Reporting e
+    ensures report { (v : WorldValue) (p : ℕ) (e : PlainShowCall) → (world_of v).situation p ≡ Showing e
         → steps_left p v ≤ 2 * e.processes + 4 * e.cells + 1 }
     ensures recovery { (v : WorldValue) (p : ℕ) (e : PlainRecoverCall) → IsSound (world_of v)
         → p < v.sheet.layout.processes → (world_of v).situation p ≡ Recovering e
@@ -113,13 +113,13 @@ pub fn solo_edits_are_done()
         → WorldRun old events replies new → IsSolo p events → AreDoneOnly e.number replies }
 {}
 
-/// The headline, for every list of events, those that can happen and those that can not: a ledger
-/// exists at each moment of the run, which each event moves as it may, with one list of the edits
-/// that count. At each moment no edit stands in it twice, each cell's words have the text of its last
+/// The headline, for every list of events, those that can happen and those that cannot: a ledger
+/// exists at each moment of the run, which each event moves as it may, with one list of the linearized
+/// edits. At each moment no edit stands in it twice, each cell's words have the text of its last
 /// edit there, and where no edit is open and no cell is dirty or held they show the values of its
 /// sheet from scratch. A recovery's answer closes the edit in doubt as done just where it stands in
 /// the list. An edit, once closed, stays in the list or stays out, through stops and crashes, and
-/// stands before each edit that is begun later. Each report that is answered fits a moment of its
+/// stands before each edit that is begun later. Each show that is answered fits a moment of its
 /// call, and so does each work's answer. No edit that a recovery's answer forgets was ever announced
 /// on a persisted side. Detectable execution (Friedman, Herlihy, Marathe, Petrank, PPoPP 2018).
 pub fn runs_have_the_headline()
@@ -128,7 +128,7 @@ pub fn runs_have_the_headline()
         → HasHeadline old events replies new run }
 {}
 
-/// A run that fits has the headline: an edit, once closed, stays in the list of those that count or
+/// A run that fits has the headline: an edit, once closed, stays in the list of the linearized ones or
 /// stays out, through stops and crashes, and stands before each edit that is begun later.
 #[tactic(auto, using(crate::proofs::Closing::headline))]
 pub fn fitting_runs_have_the_headline()
@@ -146,28 +146,28 @@ pub fn acknowledged_edits_stand_once()
         → IsAcknowledged old events replies k p number new.counted }
 {}
 
-/// An edit that a recovery tells as done stands in the last list exactly once, with the cell and the
-/// text of its request, and the cell that is told is that one.
+/// An edit that a recovery reports as done stands in the last list exactly once, with the cell and the
+/// text of its request, and the cell that is reported is that one.
 #[tactic(auto, using(crate::proofs::Acknowledged::resolved_once))]
-pub fn edits_told_as_done_stand_once()
+pub fn edits_reported_done_stand_once()
     ensures { (old : WorldValue) (events : List Event) (replies : List Reply) (new : WorldValue)
-        (k p : ℕ) (told : Told) → Headline old events replies new
+        (k p : ℕ) (told : LastEdit) → Headline old events replies new
         → Happens events replies k (Step p) (Answered (Recovery (Last told))) → told.counts ≡ true
         → IsToldDone old events replies k p told new.counted }
 {}
 
-/// An edit that a recovery tells as not done does not count then and never will: its number is
+/// An edit that a recovery reports as not done is not linearized then and never will be: its number is
 /// spent, and stays so.
-pub fn edits_told_as_not_done_stay_out()
+pub fn edits_reported_not_done_stay_out()
     ensures { (old mid new : WorldValue) (events : List Event) (replies : List Reply)
-        (p : ℕ) (told : Told) → IsSound (world_of old)
+        (p : ℕ) (told : LastEdit) → IsSound (world_of old)
         → Takes old (Step p) (Answered (Recovery (Last told))) mid → told.counts ≡ false
         → WorldRun mid events replies new
         → IsSpent (world_of new) p told.number × IsOut (world_of new) p told.number }
 {}
 
 /// What a recovery's answer forgets is an edit that its process was asked for at an earlier place. At
-/// no moment of the run up to that answer, or behind it, did the persisted side of the process's
+/// no moment of the run up to that answer, or after it, did the persisted side of the process's
 /// announcement have its number, in any phase, or a later one, so that no crash could leave word of
 /// it; nor does the cached side at that answer. Its number is given to the next edit that the process
 /// begins.
@@ -179,13 +179,13 @@ pub fn forgotten_edits_were_never_announced()
         → IsForgotten h.run.moment events replies k p f.open_edit.it }
 {}
 
-/// A work's answer is of the cell of the process's last begin of work, and tells of a moment of that
+/// A work's answer is of the cell of the process's last begin of work, and reports a moment of that
 /// call. NotDirty: the cell was clean then. Missed: another process held it then, or its mark was
 /// another one than at an earlier moment of the call, at which the cell was marked. Worn: it was
 /// marked then, with a generation above 2^58. Published: this process held it then, and at the next
 /// moment it was clean. Again, NoMemory: this process held it then, and at the next moment it was
 /// marked.
-pub fn works_tell_of_their_calls()
+pub fn work_answers_have_causes()
     ensures { (old : WorldValue) (events : List Event) (replies : List Reply) (new : WorldValue)
         (h : Headline old events replies new) (k p : ℕ) (end : WorkEnd)
         → Happens events replies k (Step p) (Answered (Work end))
@@ -193,7 +193,7 @@ pub fn works_tell_of_their_calls()
 {}
 
 /// A recovery that answered Nothing always would not move the ledger as it may: not where the open
-/// edit of its process counts, as in a script `begin 0 set A1 5`, `run 0 to swung`, `stop 0`,
+/// edit of its process is linearized, as in a script `begin 0 set A1 5`, `run 0 to swung`, `stop 0`,
 /// `recover 0`; and not where an edit of the process was closed before, as in `set 0 A1 5`,
 /// `recover 0`.
 #[tactic(auto, using(crate::proofs::Refused::nothing_of_counted, crate::proofs::Refused::nothing_of_closed))]
@@ -204,13 +204,13 @@ pub fn nothing_is_no_answer()
         → Resolves old p Nothing new → ⊥ }
 {}
 
-/// A recovery that looked at the done bit of its edit before the head could tell an edit that counts
+/// A recovery that looked at the done bit of its edit before the head could report a linearized edit
 /// as not done. Between the two loads an edit of another process may take over, by four lawful steps:
-/// before them the bit is not set, behind them the head is another one, and the edit counts all the
-/// while. Behind `begin 0 set A1 5`, `run 0 to swung`, `stop 0`, `begin 1 set A1 7`,
-/// `run 1 to indexed` and three times `step 1` the bit of the first edit is not set; behind
-/// `run 1 to swung` the head is the second one's, and `recover 0` tells done.
-pub fn bits_before_heads_tell_nothing()
+/// before them the bit is not set, after them the head is another one, and the edit is linearized all the
+/// while. After `begin 0 set A1 5`, `run 0 to swung`, `stop 0`, `begin 1 set A1 7`,
+/// `run 1 to indexed` and three times `step 1` the bit of the first edit is not set; after
+/// `run 1 to swung` the head is the second one's, and `recover 0` says done.
+pub fn bits_read_before_heads_decide_nothing()
     ensures { (e : PlainEditCall) (head : Head) (f : PlainEdit) (r : PlainRecoverCall)
         (first last : PlainWorld) → IsSound first → IsRecoveryOf r f → e.process ≢ f.process
         → e.cell ≡ f.cell → Contains first.counted f → HasNoBit first f
@@ -229,15 +229,15 @@ pub fn solo_edits_are_answered()
         → (k : ℕ) × Happens events replies k (Step p) (Answered (Edit (Done e.number))) }
 {}
 
-/// A report that begins in a quiet world, and is alone from its beginning on but for evictions, is
+/// A show that begins in a quiescent world, and is alone from its beginning on but for evictions, is
 /// answered within 2P + 4N + 1 steps of its own on a sheet of N cells for P processes, and the answer
 /// is Settled.
-pub fn solo_reports_are_answered()
+pub fn solo_shows_are_answered()
     ensures { (old mid new : WorldValue) (events : List Event) (replies : List Reply)
         (p : ℕ) → IsSound (world_of old) → IsQuiet (world_of old)
-        → Takes old (BeginReport p) Entered mid → WorldRun mid events replies new → IsSolo p events
+        → Takes old (BeginShow p) Entered mid → WorldRun mid events replies new → IsSolo p events
         → 2 * old.sheet.layout.processes + 4 * cells_of old.sheet.layout + 1 ≤ own_steps p events replies
-        → (k : ℕ) × Happens events replies k (Step p) (Answered (Report Settled)) }
+        → (k : ℕ) × Happens events replies k (Step p) (Answered (Show Settled)) }
 {}
 
 /// Work on a marked cell whose mark has generations left, which is alone from its beginning on, but

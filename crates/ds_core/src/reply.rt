@@ -8,7 +8,7 @@ use ds_state::refusal::Refusal;
 pub enum Reply {
     /// The call has begun; an edit has this number.
     Begun(usize),
-    /// The work, the report or the recovery has begun.
+    /// The work, the show or the recovery has begun.
     Entered,
     /// The call has not begun, for this cause. The world is unchanged.
     Refused(Refusal),
@@ -24,6 +24,6 @@ pub enum Reply {
     Stopped,
     /// All that was not persisted is lost, and each process is stopped.
     Crashed,
-    /// The event can not happen now. The world is unchanged.
+    /// The event cannot happen now. The world is unchanged.
     NotEnabled,
 }

@@ -12,7 +12,7 @@ use ds_state::world::World;
 use std::alloc::Global;
 
 /// A process makes the next step of its call. Where it is in none, or in work that waits for an
-/// entry, or the sheet has no such process, the step can not happen and nothing changes. Only the
+/// entry, or the sheet has no such process, the step cannot happen and nothing changes. Only the
 /// step of work that reads a content takes memory.
 #[tactic(auto, using(crate::proofs::Stepping::of_any))]
 pub fn step(alloc: Global, world: &mut World, process: usize) -> Reply

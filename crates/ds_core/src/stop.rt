@@ -53,7 +53,7 @@ fn stop_all(situations: &mut Vec<Situation>)
 }
 
 /// A process stops: it loses its call and its buffer, and its words stay. Where it has stopped
-/// already, or the sheet has no such process, it can not happen and nothing changes.
+/// already, or the sheet has no such process, it cannot happen and nothing changes.
 pub fn stop(world: &mut World, process: usize) -> Reply
     ensures { StopTakes world.old process result world.new }
 {
@@ -69,7 +69,7 @@ pub fn stop(world: &mut World, process: usize) -> Reply
 }
 
 /// A crash: each word keeps its persisted side alone, every buffer is emptied, every process stops,
-/// and of the edits that count those are lost whose head only the cached side had.
+/// and of the linearized edits those are lost whose head only the cached side had.
 pub fn crash(world: &mut World) -> Reply
     ensures { CrashTakes world.old result world.new }
 {

@@ -5,7 +5,7 @@ ghost use Rattle.ds_core.specs.declared.event.Event.TheVariants.{BeginEdit, Step
 ghost use Rattle.ds_core.specs.declared.reply.Reply.TheVariants.{Stepped};
 ghost use Rattle.ds_core.specs.Counts.{IsReplyTo, KeepsReports, done_of, settled_of};
 ghost use Rattle.ds_core.specs.Own.{steps_left};
-ghost use Rattle.ds_core.specs.ReportEvents.{BeginReportTakes};
+ghost use Rattle.ds_core.specs.ShowEvents.{BeginShowTakes};
 ghost use Rattle.ds_core.specs.WorkEvents.{BeginWorkTakes, OfferTakes};
 ghost use Rattle.ds_core.specs.RecoveryEvents.{BeginRecoverTakes};
 ghost use Rattle.ds_core.specs.MigrationEvents.{BeginMigrateTakes};
@@ -37,8 +37,8 @@ fn edit_takes(alloc: Global, world: &mut World, process: usize, cell: Cell, text
 }
 
 /// A process begins an edit of the cell to the text: what `take` does by that event, which would own the text. It is
-/// answered by its number, from 0; by a refusal with its cause, want of memory among them; or as not enabled, where the
-/// sheet has no such process or cell. Behind the last two the world is as before.
+/// answered by its number, from 0; by a refusal with its cause, out of memory among them; or as not enabled, where the
+/// sheet has no such process or cell. After the last two the world is as before.
 pub fn begin_edit(
     alloc: Global,
     world: &mut World,
@@ -106,14 +106,14 @@ fn begin_migrate(world: &mut World, process: usize) -> Reply
     }
 }
 
-// A report begins, or is refused.
-fn begin_report(alloc: Global, world: &mut World, process: usize) -> Reply
-    ensures { BeginReportTakes world.old process result world.new }
+// A show begins, or is refused.
+fn begin_show(alloc: Global, world: &mut World, process: usize) -> Reply
+    ensures { BeginShowTakes world.old process result world.new }
 {
     if process >= world.words.layout().processes {
         return Reply::NotEnabled;
     }
-    match ds_report::begin::begin(alloc, world, process) {
+    match ds_show::begin::begin(alloc, world, process) {
         Ok(()) => Reply::Entered,
         Err(refusal) => Reply::Refused(refusal),
     }
@@ -131,7 +131,7 @@ fn happen(alloc: Global, world: &mut World, event: &Event) -> Reply
         Event::Evict(place) => evict(world, *place),
         Event::Stop(process) => stop(world, *process),
         Event::Crash => crash(world),
-        Event::BeginReport(process) => begin_report(alloc, world, *process),
+        Event::BeginShow(process) => begin_show(alloc, world, *process),
         Event::BeginWork(process, cell) => begin_work(alloc, world, *process, *cell),
         Event::BeginRecover(process) => begin_recover(world, *process),
         Event::BeginMigrate(process) => begin_migrate(world, *process),
@@ -160,7 +160,7 @@ pub fn take(alloc: Global, world: &mut World, event: &Event) -> Reply
 }
 
 /// Events one after the other, whether they can happen or not, and the answer to each. Room for the
-/// answers is taken first: an error is a want of memory, and the world is unchanged.
+/// answers is taken first: an error means that an allocation failed, and the world is unchanged.
 pub fn run(alloc: Global, world: &mut World, events: &[Event]) -> Result<Vec<Reply>, AllocError>
     ensures run { IfOk result (λ replies. WorldRun world.old events.now replies.items world.new) }
     ensures unchanged { OnErr result (world.new ≡ world.old) }

@@ -7,24 +7,24 @@ use Rattle.ds_eval.specs.declared.value.Value.{Value}
 use Rattle.ds_state.specs.Value.{WorldValue, IsGood, world_of}
 use Rattle.ds_state.specs.CallsFit.{CallFits}
 use Rattle.ds_state.specs.Reports.{PlainReports, with_report}
-use Rattle.ds_state.specs.declared.report.ReportEnd.{ReportEnd}
-use Rattle.ds_state.specs.declared.report.ReportEnd.TheVariants.{Settled, Unsettled}
+use Rattle.ds_state.specs.declared.show.ShowEnd.{ShowEnd}
+use Rattle.ds_state.specs.declared.show.ShowEnd.TheVariants.{Settled, Unsettled}
 use Rattle.ds_state.specs.declared.situation.Situation.{Situation}
-use Rattle.ds_state.specs.declared.situation.Situation.TheVariants.{Reporting}
+use Rattle.ds_state.specs.declared.situation.Situation.TheVariants.{Showing}
 use Rattle.ds_state.specs.declared.turn.Turn.{Turn}
 use Rattle.ds_state.specs.declared.turn.Turn.TheVariants.{GoesOn, Answers}
 use Rattle.ds_core.specs.Counts.{done_of, settled_of}
 use Rattle.ds_core.specs.Ends.{Kind, StepsAs}
-use Rattle.ds_report.specs.ReportSteps.{answered}
-use Rattle.ds_report.specs.ReportTakes.{reports_by}
-use Rattle.ds_core.specs.ReportEvents.{ReportStepsBy, report_reply}
+use Rattle.ds_show.specs.ShowSteps.{answered}
+use Rattle.ds_show.specs.ShowTakes.{reports_by}
+use Rattle.ds_core.specs.ShowEvents.{ShowStepsBy, show_reply}
 use Rattle.ds_core.specs.StepEvents.{StepsBy, edits, works, reports, recoveries, migrations}
 use Rattle.ds_core.specs.Takes.{Fits}
 use Rattle.ds_core.specs.declared.event.Event.TheVariants.{Step}
 use Rattle.ds_core.specs.declared.reply.Reply.{Reply}
 use Rattle.ds_core.proofs.Counts.{adds}
 use Rattle.ds_crew.specs.LockedCalls.{IsKindOf, call_in, came_reply, step_reply}
-use Rattle.ds_crew.specs.Kept.{HasReport, HasSettled, HasStepped, StepsIn, settled_reply, report_of}
+use Rattle.ds_crew.specs.Kept.{HasShow, HasSettled, HasStepped, StepsIn, settled_reply, report_of}
 use Rattle.ds_crew.specs.declared.came.Came.{Came}
 use Rattle.ds_crew.specs.declared.steps.Call.{Call}
 
@@ -66,22 +66,22 @@ done_by process old new reply fits = (adds old new (Step process) reply fits.tak
 pub counted_by : (process : ℕ) (old new : WorldValue) (reply : Reply) → Fits old (Step process) reply new → new.settled ≡ old.settled + settled_of reply
 counted_by process old new reply fits = (adds old new (Step process) reply fits.takes).settled
 
--- ---- the values of a report that is answered Settled
+-- ---- the values of a show that is answered Settled
 
-settles : (what : Turn ReportEnd) → settled_reply ≡ report_reply what → what ≡ Answers Settled
+settles : (what : Turn ShowEnd) → settled_reply ≡ show_reply what → what ≡ Answers Settled
 settles GoesOn is = absurd (cc)
 settles (Answers Settled) is = refl
 settles (Answers (Unsettled place word)) is = absurd (cc)
 
-report_left : (process : ℕ) (old new : WorldValue) → IsGood old → ReportStepsBy old process settled_reply new → HasReport old.sheet.layout process new.reports
-report_left process old new good h =
+show_left : (process : ℕ) (old new : WorldValue) → IsGood old → ShowStepsBy old process settled_reply new → HasShow old.sheet.layout process new.reports
+show_left process old new good h =
     let e = h.steps.show in
     let kept : new.reports ≡ with_report old.reports e.process (answered e) = h.steps.reports ∙ ap (reports_by old.reports e) (settles h.what h.is) in
     let mine : new.reports ≡ with_report old.reports process (answered e) = kept ∙ ap (λ (q : ℕ). with_report old.reports q (answered e)) h.steps.mine in
     let many : length old.reports.values ≡ old.sheet.layout.processes = good.reports.processes in
     let there = h.steps.there in
     let low : process < length old.reports.values = omega (arith, many, there) in
-    let fits : CallFits (world_of old) process (Reporting e) = subst (λ (s : Situation). CallFits (world_of old) process s) h.steps.at (good.sound.calls process there) in
+    let fits : CallFits (world_of old) process (Showing e) = subst (λ (s : Situation). CallFits (world_of old) process s) h.steps.at (good.sound.calls process there) in
     record {
       process_is = subst (λ (r : PlainReports). process < length r.values) (sym mine) (subst (λ (n : ℕ). process < n) (sym (length-set old.reports.values process (answered e))) low);
       full =
@@ -89,18 +89,18 @@ report_left process old new good h =
           ∙ sym fits.1.cells;
     }
 
-by_report : (process : ℕ) (old new : WorldValue) → IsGood old → StepsBy old process settled_reply new → new.settled ≡ old.settled + 1 → HasReport old.sheet.layout process new.reports
-by_report process old new good (edits h) more = absurd (let same = h.steps.reports.settled in omega (arith, same, more))
-by_report process old new good (works h) more = absurd (let same = h.reports.settled in omega (arith, same, more))
-by_report process old new good (reports h) more = report_left process old new good h
-by_report process old new good (recoveries h) more = absurd (let same = h.steps.settled in omega (arith, same, more))
-by_report process old new good (migrations h) more = absurd (let same = h.steps.settled in omega (arith, same, more))
+by_show : (process : ℕ) (old new : WorldValue) → IsGood old → StepsBy old process settled_reply new → new.settled ≡ old.settled + 1 → HasShow old.sheet.layout process new.reports
+by_show process old new good (edits h) more = absurd (let same = h.steps.reports.settled in omega (arith, same, more))
+by_show process old new good (works h) more = absurd (let same = h.reports.settled in omega (arith, same, more))
+by_show process old new good (reports h) more = show_left process old new good h
+by_show process old new good (recoveries h) more = absurd (let same = h.steps.settled in omega (arith, same, more))
+by_show process old new good (migrations h) more = absurd (let same = h.steps.settled in omega (arith, same, more))
 
 -- the process has a last report, with a value for each cell
-pub reported_by : (process : ℕ) (old new : WorldValue) (reply : Reply) → IsGood old → Fits old (Step process) reply new → reply ≡ settled_reply → HasReport old.sheet.layout process new.reports
+pub reported_by : (process : ℕ) (old new : WorldValue) (reply : Reply) → IsGood old → Fits old (Step process) reply new → reply ≡ settled_reply → HasShow old.sheet.layout process new.reports
 reported_by process old new reply good fits is =
     let settled = subst (λ (r : Reply). Fits old (Step process) r new) is fits in
-    by_report process old new good settled.takes (counted_by process old new settled_reply settled)
+    by_show process old new good settled.takes (counted_by process old new settled_reply settled)
 
 -- ---- ends
 

@@ -32,7 +32,7 @@ pub record IsMissing (shape : Shape) (counted : List PlainEdit) (receipts : List
   pub first : IsFirstAt shape counted receipts place receipt
   pub none : Stands shape counted receipt → ⊥
 
--- the receipt at this place is the first that is not right: it tells of a counted edit, and the same one stands before it
+-- the receipt at this place is the first that is not right: it names a linearized edit, and the same one stands before it
 pub record IsTwice (shape : Shape) (counted : List PlainEdit) (receipts : List PlainReceipt) (place : ℕ) : Type 0 where
   pub receipt : PlainReceipt
   pub first : IsFirstAt shape counted receipts place receipt

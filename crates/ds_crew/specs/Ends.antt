@@ -1,12 +1,12 @@
 -- What the ends of locked calls say, and what they do to a pass.
 use Rattle.std.specs.Prelude.{ℕ, ◌≡◌, ◌+◌, List, length}
 use Rattle.ds_formula.specs.declared.cells.Cell.{Cell}
-use Rattle.ds_state.specs.declared.answer.Answer.TheVariants.{Edit, Report, Recovery}
+use Rattle.ds_state.specs.declared.answer.Answer.TheVariants.{Edit, Show, Recovery}
 use Rattle.ds_state.specs.declared.answer.EditEnd.TheVariants as edits
-use Rattle.ds_state.specs.declared.report.ReportEnd.TheVariants as reports
+use Rattle.ds_state.specs.declared.show.ShowEnd.TheVariants as reports
 use Rattle.ds_state.specs.declared.recovery.RecoveryEnd.TheVariants as recoveries
 use Rattle.ds_core.specs.declared.event.Event.{Event}
-use Rattle.ds_core.specs.declared.event.Event.TheVariants.{BeginEdit, BeginWork, BeginReport, BeginRecover}
+use Rattle.ds_core.specs.declared.event.Event.TheVariants.{BeginEdit, BeginWork, BeginShow, BeginRecover}
 use Rattle.ds_core.specs.declared.reply.Reply.{Reply}
 use Rattle.ds_core.specs.declared.reply.Reply.TheVariants.{Answered}
 use Rattle.ds_core.specs.declared.reply.Reply.TheVariants as replies
@@ -25,16 +25,16 @@ abbrev pub done_by : Edited → ℕ
 done_by (edited.Done receipt) = 1
 done_by end = 0
 
--- the pass has counted one report more as settled, and keeps its values, which are so many; all else stays
+-- the pass has counted one report more as settled, and keeps its values, of which there is this number; all else stays
 pub record IsSettled (cells : ℕ) (old new : PlainPass) : Type 0 where
   pub is : new ≡ record old { last = new.last; settleds = old.settleds + 1 }
   pub full : length new.last ≡ cells
   pub settled : HasSettled old.process new.last
 
--- the pass after a step of its process's report: a Settled is counted in its share, and the pass then keeps so many
+-- the pass after a step of its process's report: a Settled is counted in its share, and the pass then keeps this number of
 -- values; else all stays
 abbrev pub AfterStep : ℕ → PlainPass → Reply → PlainPass → Type 0
-AfterStep cells old (Answered (Report reports.Settled)) new = IsSettled cells old new
+AfterStep cells old (Answered (Show reports.Settled)) new = IsSettled cells old new
 AfterStep cells old reply new = new ≡ old
 
 -- the last reply of an edit that ended so
@@ -44,12 +44,12 @@ edit_reply (edited.Overtaken number by) = Answered (Edit (edits.Overtaken number
 edit_reply (edited.Refused why) = replies.Refused why
 edit_reply edited.NotEnabled = replies.NotEnabled
 
--- the last reply of a report that ended so
-abbrev pub report_reply : Reported → Reply
-report_reply reported.Settled = settled_reply
-report_reply (reported.Unsettled place word) = Answered (Report (reports.Unsettled place word))
-report_reply (reported.Refused why) = replies.Refused why
-report_reply reported.NotEnabled = replies.NotEnabled
+-- the last reply of a show that ended so
+abbrev pub show_reply : Reported → Reply
+show_reply reported.Settled = settled_reply
+show_reply (reported.Unsettled place word) = Answered (Show (reports.Unsettled place word))
+show_reply (reported.Refused why) = replies.Refused why
+show_reply reported.NotEnabled = replies.NotEnabled
 
 -- the last reply of a recovery that ended so
 abbrev pub recovery_reply : Recovered → Reply
@@ -71,11 +71,11 @@ after_edit cell text pass end = record (asked pass (edit_begin pass cell text) (
 abbrev pub after_recovery : PlainPass → Recovered → PlainPass
 after_recovery pass end = asked pass (BeginRecover pass.process) (recovery_reply end)
 
--- the beginning of a call of the lock's: an edit, work, a report or a recovery
+-- the beginning of a call of the lock's: an edit, work, a show or a recovery
 abbrev pub BeginsCall : Event → Type 0
 BeginsCall (BeginEdit request) = Unit {0}
 BeginsCall (BeginWork process cell) = Unit {0}
-BeginsCall (BeginReport process) = Unit {0}
+BeginsCall (BeginShow process) = Unit {0}
 BeginsCall (BeginRecover process) = Unit {0}
 BeginsCall event = ⊥
 
@@ -84,10 +84,10 @@ abbrev pub IsBegin : Event → Type 0
 IsBegin (BeginEdit request) = Unit {0}
 IsBegin event = ⊥
 
--- the beginning of a report
-abbrev pub IsReportBegin : Event → Type 0
-IsReportBegin (BeginReport process) = Unit {0}
-IsReportBegin event = ⊥
+-- the beginning of a show
+abbrev pub IsShowBegin : Event → Type 0
+IsShowBegin (BeginShow process) = Unit {0}
+IsShowBegin event = ⊥
 
 -- the receipt names this process, this cell and this text
 pub record Names (process : ℕ) (cell : Cell) (text : List ℕ) (receipt : PlainReceipt) : Type 0 where
@@ -105,8 +105,8 @@ abbrev pub HasReceiptOf : Event → Edited → Type 0
 HasReceiptOf (BeginEdit request) end = HasReceipt request.process request.cell request.text end
 HasReceiptOf begin end = ⊥
 
--- the pass after a report of a sheet with so many cells: it has the report as its last call; a Settled is counted, and
+-- the pass after a show of a sheet with this number of cells: it has the show as its last call; a Settled is counted, and
 -- the pass then keeps a value for each cell; else all else stays
-abbrev pub AfterReport : ℕ → PlainPass → Reported → PlainPass → Type 0
-AfterReport cells old reported.Settled new = IsSettled cells (asked old (BeginReport old.process) settled_reply) new
-AfterReport cells old end new = new ≡ asked old (BeginReport old.process) (report_reply end)
+abbrev pub AfterShow : ℕ → PlainPass → Reported → PlainPass → Type 0
+AfterShow cells old reported.Settled new = IsSettled cells (asked old (BeginShow old.process) settled_reply) new
+AfterShow cells old end new = new ≡ asked old (BeginShow old.process) (show_reply end)

@@ -6,32 +6,32 @@ use Rattle.ds_layout.specs.Places.{cells_of}
 use Rattle.ds_state.specs.Reports.{PlainReports}
 use Rattle.ds_state.specs.Value.{WorldValue, IsGood, world_of}
 use Rattle.ds_state.specs.declared.answer.Answer.TheVariants as answers
-use Rattle.ds_state.specs.declared.report.ReportEnd.TheVariants.{Settled}
+use Rattle.ds_state.specs.declared.show.ShowEnd.TheVariants.{Settled}
 use Rattle.ds_core.specs.Takes.{Fits}
 use Rattle.ds_core.specs.declared.event.Event.{Event}
-use Rattle.ds_core.specs.declared.event.Event.TheVariants.{Step, BeginEdit, BeginReport, BeginRecover}
+use Rattle.ds_core.specs.declared.event.Event.TheVariants.{Step, BeginEdit, BeginShow, BeginRecover}
 use Rattle.ds_core.specs.declared.reply.Reply.{Reply}
 use Rattle.ds_core.specs.declared.reply.Reply.TheVariants.{Answered, Begun, Entered, NotEnabled}
 use Rattle.ds_crew.specs.LockedCalls.{call_in}
 use Rattle.ds_crew.specs.declared.steps.Call.{Call}
-use Rattle.ds_crew.specs.declared.steps.Call.TheVariants.{Edit, Report, Recovery}
+use Rattle.ds_crew.specs.declared.steps.Call.TheVariants.{Edit, Show, Recovery}
 
--- the reply to a step by which a report is settled
+-- the reply to a step by which a show is settled
 abbrev pub settled_reply : Reply
-settled_reply = Answered (answers.Report Settled)
+settled_reply = Answered (answers.Show Settled)
 
--- the values of the process's last settled report; none where it has had none, or the sheet has no such process
+-- the values of the process's last settled show; none where it has had none, or the sheet has no such process
 abbrev pub report_of : PlainReports → ℕ → List Value
 report_of reports process = slice_index_or reports.values process []
 
 -- the process has a last report, with a value for each cell
-pub record HasReport (layout : Layout) (process : ℕ) (reports : PlainReports) : Type 0 where
+pub record HasShow (layout : Layout) (process : ℕ) (reports : PlainReports) : Type 0 where
   pub process_is : process < length reports.values
   pub full : length (report_of reports process) ≡ cells_of layout
 
--- the values that are kept after a reply: those of the report that is answered Settled, else those before
+-- the values that are kept after a reply: those of the show that is answered Settled, else those before
 abbrev pub last_after : Reply → List Value → List Value → List Value
-last_after (Answered (answers.Report Settled)) report before = report
+last_after (Answered (answers.Show Settled)) report before = report
 last_after reply report before = before
 
 -- a process in this call makes its next step: the world takes it as any step; a process that is not in the call makes none
@@ -61,11 +61,11 @@ pub record HasSettled (process : ℕ) (values : List Value) : Type 0 where
   pub fits : Fits old (Step process) settled_reply new
   pub values_are : values ≡ report_of new.reports process
 
--- a process's next step in this call was asked of a good world, with this reply; or it was of a report whose values there
+-- a process's next step in this call was asked of a good world, with this reply; or it was of a show whose values there
 -- is no room for
 pub data HasMade (call : Call) (process : ℕ) (reply : Reply) : Type 0 where
   stepped : HasStepped call process reply → HasMade call process reply
-  no_room : call ≡ Report → reply ≡ NotEnabled → HasMade call process reply
+  no_room : call ≡ Show → reply ≡ NotEnabled → HasMade call process reply
 
 -- by this reply a call is under way
 abbrev pub IsEntry : Reply → Type 0
@@ -87,6 +87,6 @@ pub data HasEnded (call : Call) (process : ℕ) (begin : Event) (reply : Reply) 
 -- the process's edit, report or recovery that this event begins ended with this reply
 abbrev pub HasUsed : ℕ → Event → Reply → Type 0
 HasUsed process (BeginEdit request) reply = (request.process ≡ process) × HasEnded Edit process (BeginEdit request) reply
-HasUsed process (BeginReport p) reply = (p ≡ process) × HasEnded Report process (BeginReport p) reply
+HasUsed process (BeginShow p) reply = (p ≡ process) × HasEnded Show process (BeginShow p) reply
 HasUsed process (BeginRecover p) reply = (p ≡ process) × HasEnded Recovery process (BeginRecover p) reply
 HasUsed process begin reply = ⊥

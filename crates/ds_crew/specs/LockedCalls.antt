@@ -12,7 +12,7 @@ use Rattle.ds_core.specs.Replies.{reply_of}
 use Rattle.ds_crew.specs.declared.came.Came.{Came}
 use Rattle.ds_crew.specs.declared.came.Came.TheVariants as came
 use Rattle.ds_crew.specs.declared.steps.Call.{Call}
-use Rattle.ds_crew.specs.declared.steps.Call.TheVariants.{Edit, Work, Report, Recovery}
+use Rattle.ds_crew.specs.declared.steps.Call.TheVariants.{Edit, Work, Show, Recovery}
 
 -- the call that a process is in, by its situation; of none of the lock's calls where it migrates the sheet
 abbrev pub call_in : Situation → Option Call
@@ -21,7 +21,7 @@ call_in situations.Stopped = None
 call_in (situations.Editing e) = Some Edit
 call_in (situations.Working e) = Some Work
 call_in (situations.Recovering e) = Some Recovery
-call_in (situations.Reporting e) = Some Report
+call_in (situations.Showing e) = Some Show
 call_in (situations.Migrating e) = None
 
 -- a process that is in this call is in one of this kind
@@ -47,5 +47,5 @@ IsNoStep event = Unit {0}
 -- the call answers neither edits nor reports
 abbrev pub CountsNothing : Call → Type 0
 CountsNothing Edit = ⊥
-CountsNothing Report = ⊥
+CountsNothing Show = ⊥
 CountsNothing call = Unit {0}

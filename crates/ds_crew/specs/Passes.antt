@@ -7,7 +7,7 @@ use Rattle.ds_core.specs.declared.event.Event.{Event}
 use Rattle.ds_core.specs.declared.reply.Reply.{Reply}
 use Rattle.ds_crew.specs.Kept.{HasUsed, report_of}
 
--- a process, the values of its last settled report, its shares of the counts of Done and of Settled answers, and the
+-- a process, the values of its last settled show, its shares of the counts of Done and of Settled answers, and the
 -- edits, reports and recoveries that the pass was used for, in order: of each the event that began it, and its last
 -- reply
 pub record PlainPass : Type 0 where
@@ -48,7 +48,7 @@ first_pass w process = record {
   calls = [];
 }
 
--- these are the values of each process's last settled report
+-- these are the values of each process's last settled show
 pub record AreLasts (w : WorldValue) (lasts : List (List Value)) : Type 0 where
   pub count : length lasts ≡ w.sheet.layout.processes
   pub each : (process : ℕ) → process < length lasts → slice_index_or lasts process [] ≡ report_of w.reports process

@@ -6,9 +6,9 @@ ghost use Rattle.ds_core.specs.Counts.{IsReplyTo, done_of};
 ghost use Rattle.ds_core.specs.declared.event.Event.TheVariants.{BeginRecover};
 ghost use Rattle.ds_core.specs.Ends.{edits, reports, recoveries};
 ghost use Rattle.ds_crew.specs.LockedCalls.{CountsNothing, IsKindOf, IsNoStep, came_reply, step_reply};
-ghost use Rattle.ds_crew.specs.Ends.{AfterReport, AfterStep, BeginsCall, HasReceipt, HasReceiptOf, IsBegin, IsReportBegin, after_edit, after_recovery, edit_reply, recovery_reply, report_reply};
+ghost use Rattle.ds_crew.specs.Ends.{AfterShow, AfterStep, BeginsCall, HasReceipt, HasReceiptOf, IsBegin, IsShowBegin, after_edit, after_recovery, edit_reply, recovery_reply, show_reply};
 ghost use Rattle.ds_crew.specs.Kept.{Happened, HasBegun, HasEnded, HasMade, HasStepped, IsEntry};
-ghost use Rattle.ds_crew.specs.declared.steps.Call.TheVariants.{Edit, Recovery, Report};
+ghost use Rattle.ds_crew.specs.declared.steps.Call.TheVariants.{Edit, Recovery, Show};
 
 use crate::came::Came;
 use crate::ended::{Edited, Receipt, Recovered, Reported, Worked};
@@ -17,13 +17,13 @@ use crate::pass::Pass;
 use crate::steps::Call;
 use crate::workers::{Gate, Open};
 use ds_core::ends::CallEnd;
-use ds_core::event::{Event, Request};
+use ds_core::event::{EditRequest, Event};
 use ds_core::reply::Reply;
 use ds_eval::task::{Task, evaluate};
 use ds_formula::cells::Cell;
 use ds_state::answer::EditEnd;
 use ds_state::recovery::RecoveryEnd;
-use ds_state::report::ReportEnd;
+use ds_state::show::ShowEnd;
 use ds_state::turn::Turn;
 use ds_state::work::WorkEnd;
 use ds_work::offer::TaskFault;
@@ -91,14 +91,14 @@ impl<L: Ledger, M: Ledger> LockedSheet<L, M> {
         self.kept.lock(rt).step_edit(alloc, *process, dones)
     }
 
-    // A step of a report, and what it did to it; none where the pass's process is in none.
-    fn step_report<R: Wait>(
+    // A step of a show, and what it did to it; none where the pass's process is in none.
+    fn step_show<R: Wait>(
         &self,
         rt: &R,
         alloc: Global,
         pass: &mut Pass<L, M>,
-    ) -> Option<Turn<ReportEnd>>
-        ensures happened { HasMade Report pass.old.process (step_reply reports result) }
+    ) -> Option<Turn<ShowEnd>>
+        ensures happened { HasMade Show pass.old.process (step_reply reports result) }
         ensures process { pass.new.process ≡ pass.old.process }
         ensures pass { AfterStep (cells_of self.now.layout) pass.old (step_reply reports result) pass.new }
     {
@@ -112,7 +112,7 @@ impl<L: Ledger, M: Ledger> LockedSheet<L, M> {
         } = pass;
         self.kept
             .lock(rt)
-            .step_report(alloc, *process, cells, settleds, last)
+            .step_show(alloc, *process, cells, settleds, last)
     }
 
     /// The first cell that is marked, from this one on, by its number; none where the sheet has none.
@@ -153,13 +153,13 @@ fn edited_by(begin: Event, came: Came<EditEnd>) -> Edited
     }
 }
 
-// How a report ended, by what it came to.
-fn reported_by(came: Came<ReportEnd>) -> Reported
-    ensures { report_reply result ≡ came_reply reports came }
+// How a show ended, by what it came to.
+fn reported_by(came: Came<ShowEnd>) -> Reported
+    ensures { show_reply result ≡ came_reply reports came }
 {
     match came {
-        Came::Ended(ReportEnd::Settled) => Reported::Settled,
-        Came::Ended(ReportEnd::Unsettled(place, word)) => Reported::Unsettled(place, word),
+        Came::Ended(ShowEnd::Settled) => Reported::Settled,
+        Came::Ended(ShowEnd::Unsettled(place, word)) => Reported::Unsettled(place, word),
         Came::Refused(why) => Reported::Refused(why),
         Came::NotEnabled => Reported::NotEnabled,
     }
@@ -238,7 +238,7 @@ impl<L: Ledger, M: Ledger> LockedSheet<L, M> {
         ensures pass { pass.new ≡ after_edit cell text.items pass.old result }
         ensures receipt { HasReceipt pass.old.process cell text.items result }
     {
-        let begin = Event::BeginEdit(Request {
+        let begin = Event::BeginEdit(EditRequest {
             process: pass.process,
             cell,
             text,
@@ -248,20 +248,15 @@ impl<L: Ledger, M: Ledger> LockedSheet<L, M> {
         edited_by(begin, came)
     }
 
-    // The steps of a report, until it ends, or none of it is enabled.
-    fn finish_report<R: Wait>(
-        &self,
-        rt: &R,
-        alloc: Global,
-        pass: &mut Pass<L, M>,
-    ) -> Came<ReportEnd>
-        ensures happened { HasMade Report pass.old.process (came_reply reports result) }
+    // The steps of a show, until it ends, or none of it is enabled.
+    fn finish_show<R: Wait>(&self, rt: &R, alloc: Global, pass: &mut Pass<L, M>) -> Came<ShowEnd>
+        ensures happened { HasMade Show pass.old.process (came_reply reports result) }
         ensures process { pass.new.process ≡ pass.old.process }
         ensures pass { AfterStep (cells_of self.now.layout) pass.old (came_reply reports result) pass.new }
     {
         let mut came = Came::NotEnabled;
         for _ in rt.forever() {
-            match self.step_report(rt, alloc, pass) {
+            match self.step_show(rt, alloc, pass) {
                 Some(Turn::GoesOn) => {}
                 Some(Turn::Answers(end)) => {
                     came = Came::Ended(end);
@@ -273,34 +268,34 @@ impl<L: Ledger, M: Ledger> LockedSheet<L, M> {
         came
     }
 
-    // A report, from the event that begins it to what it comes to.
-    fn report_as<R: Wait>(
+    // A show, from the event that begins it to what it comes to.
+    fn show_as<R: Wait>(
         &self,
         rt: &R,
         alloc: Global,
         pass: &mut Pass<L, M>,
         begin: &Event,
-    ) -> Came<ReportEnd>
-        requires { IsReportBegin begin.now }
-        ensures ended { HasEnded Report pass.old.process begin.now (came_reply reports result) }
+    ) -> Came<ShowEnd>
+        requires { IsShowBegin begin.now }
+        ensures ended { HasEnded Show pass.old.process begin.now (came_reply reports result) }
         ensures process { pass.new.process ≡ pass.old.process }
         ensures pass { AfterStep (cells_of self.now.layout) pass.old (came_reply reports result) pass.new }
     {
         match self.begin(rt, alloc, begin) {
             Some(came) => came,
-            None => self.finish_report(rt, alloc, pass),
+            None => self.finish_show(rt, alloc, pass),
         }
     }
 
-    /// Reports the values of all cells: a whole report by the pass's process, which the pass remembers,
+    /// Reports the values of all cells: a whole show by the pass's process, which the pass remembers,
     /// with its end. A Settled is counted in the pass's share, and its values are those that the pass then
     /// keeps: `Pass::last`. Any other end leaves both as they were. Where the process migrates the sheet, it is
     /// refused as `Busy`.
-    pub fn report<R: Wait>(&self, rt: &R, alloc: Global, pass: &mut Pass<L, M>) -> Reported
-        ensures { AfterReport (cells_of self.now.layout) pass.old result pass.new }
+    pub fn show<R: Wait>(&self, rt: &R, alloc: Global, pass: &mut Pass<L, M>) -> Reported
+        ensures { AfterShow (cells_of self.now.layout) pass.old result pass.new }
     {
-        let begin = Event::BeginReport(pass.process);
-        let came = self.report_as(rt, alloc, pass, &begin);
+        let begin = Event::BeginShow(pass.process);
+        let came = self.show_as(rt, alloc, pass, &begin);
         pass.remember(&begin, &came.reply());
         reported_by(came)
     }

@@ -10,7 +10,7 @@ use ds_state::world::World;
 use std::alloc::{AllocError, Global};
 use std::sync::ledger::{Ledger, Share};
 
-// The values of a process's last settled report, with room for those of the next one.
+// The values of a process's last settled show, with room for those of the next one.
 fn last_of(alloc: Global, world: &World, process: usize) -> Result<Vec<Value>, AllocError>
     requires { process < length world.now.reports.values }
     ensures { IfOk result (λ v. v.items ≡ report_of world.now.reports process) }
@@ -22,8 +22,8 @@ fn last_of(alloc: Global, world: &World, process: usize) -> Result<Vec<Value>, A
     Ok(last)
 }
 
-// The values of each process's last settled report, each with room for those of the next one. An
-// error is a want of memory.
+// The values of each process's last settled show, each with room for those of the next one. An
+// error is that an allocation failed.
 pub(crate) fn lasts_of(alloc: Global, world: &World) -> Result<Vec<Vec<Value>>, AllocError>
     ensures { IfOk result (λ v. AreLasts world.now (map (λ last. last.items) v.items)) }
 {
@@ -110,7 +110,7 @@ fn same(left: &[Value], right: &[Value]) -> bool
     true
 }
 
-// Whether a process's last settled report has these values. A process that the sheet has not has none.
+// Whether a process's last settled show has these values. A process that the sheet has not has none.
 fn keeps(world: &World, process: usize, last: &[Value]) -> bool
     ensures { IsTrue result ↔ (report_of world.now.reports process ≡ last.now) }
 {
@@ -122,7 +122,7 @@ fn keeps(world: &World, process: usize, last: &[Value]) -> bool
     }
 }
 
-// The process of the first pass that keeps other values of its last settled report than the world.
+// The process of the first pass that keeps other values of its last settled show than the world.
 pub(crate) fn stray_of<L: Ledger, M: Ledger>(world: &World, passes: &[Pass<L, M>]) -> Option<usize>
     ensures { FirstStray world.now.reports passes.now result }
 {

@@ -3,7 +3,7 @@
 use ds_formula::cells::Cell;
 use ds_layout::place::Place;
 use ds_state::answer::Other;
-use ds_state::recovery::Told;
+use ds_state::recovery::LastEdit;
 use ds_state::refusal::Refusal;
 use ds_state::work::WorkEnd;
 use std::marker::Model;
@@ -59,7 +59,7 @@ pub enum Worked {
     NotEnabled,
 }
 
-/// How a report ended.
+/// How a show ended.
 #[derive(Clone, Copy, Debug, PartialEq, Eq)]
 pub enum Reported {
     /// Its values are those of one moment. The pass keeps them as its last ones.
@@ -76,7 +76,7 @@ pub enum Reported {
 #[derive(Clone, Copy, Debug, PartialEq, Eq)]
 pub enum Recovered {
     /// The process's last edit that was announced ended so.
-    Last(Told),
+    Last(LastEdit),
     /// The process has announced no edit.
     Nothing,
     /// It has not begun, for this cause: `Busy`, where the process is in a call or migrates the sheet; else

@@ -1,25 +1,26 @@
 //! What lies under the lock.
 
-ghost use Rattle.std.specs.Prelude.{◌≡◌, ◌+◌, ◌<◌, ◌≤◌, IfSome, length, vec_capacity};
+ghost use Rattle.std.specs.Prelude.{◌≡◌, ◌+◌, ◌-◌, ◌<◌, ◌≤◌, IfSome, length, vec_capacity};
 ghost use Rattle.ds_layout.specs.Places.{cells_of};
+ghost use Rattle.ds_calls.specs.Marked.{marked_from};
+ghost use Rattle.ds_state.specs.Value.{world_of};
 ghost use Rattle.ds_core.specs.Takes.{Fits};
 ghost use Rattle.ds_core.specs.Counts.{done_of, settled_of, IsReplyTo};
 ghost use Rattle.ds_core.specs.Ends.{edits, reports};
 ghost use Rattle.ds_crew.specs.LockedCalls.{CountsNothing, IsKindOf, IsNoStep, step_reply};
 ghost use Rattle.ds_crew.specs.Kept.{Happened, HasMade, HasSettled, HasStepped, StepsIn, settled_reply, last_after, report_of};
-ghost use Rattle.ds_crew.specs.declared.steps.Call.TheVariants.{Edit, Report};
+ghost use Rattle.ds_crew.specs.declared.steps.Call.TheVariants.{Edit, Show};
 
 use crate::steps::{Call, step};
+use ds_calls::marked::{cells, next_marked};
 use ds_core::ends::CallEnd;
 use ds_core::event::Event;
 use ds_core::reply::Reply;
 use ds_core::take::take;
 use ds_eval::task::Task;
 use ds_eval::value::Value;
-use ds_layout::mark::State;
 use ds_state::answer::EditEnd;
-use ds_state::report::ReportEnd;
-use ds_state::shown::mark;
+use ds_state::show::ShowEnd;
 use ds_state::turn::Turn;
 use ds_state::world::World;
 use ds_work::offer::{TaskFault, task_of};
@@ -118,21 +119,21 @@ impl<L: Ledger, M: Ledger> Kept<L, M> {
         turn
     }
 
-    // A step of a report, and what it did to it; none where the process is in none. A Settled is counted in the share,
+    // A step of a show, and what it did to it; none where the process is in none. A Settled is counted in the share,
     // and its values are the last ones from then on. None also where the last ones have too little room, or the sheet
     // another number of cells.
-    pub(crate) fn step_report(
+    pub(crate) fn step_show(
         &mut self,
         alloc: Global,
         process: usize,
         cells: usize,
         share: &mut Share<M>,
         last: &mut Vec<Value>,
-    ) -> Option<Turn<ReportEnd>>
+    ) -> Option<Turn<ShowEnd>>
         requires { 0 < share.old.parts }
         ensures steps { cells_of self.old.world.sheet.layout ≡ cells → cells ≤ vec_capacity last.old
-            → StepsIn Report process self.old.world (step_reply reports result) self.new.world }
-        ensures happened { HasMade Report process (step_reply reports result) }
+            → StepsIn Show process self.old.world (step_reply reports result) self.new.world }
+        ensures happened { HasMade Show process (step_reply reports result) }
         ensures settled { step_reply reports result ≡ settled_reply → HasSettled process last.new.items }
         ensures amount { share.new.amount ≡ share.old.amount + settled_of (step_reply reports result) }
         ensures parts { share.new.parts ≡ share.old.parts }
@@ -147,8 +148,8 @@ impl<L: Ledger, M: Ledger> Kept<L, M> {
         if world.words.layout().cells() != cells || last.capacity() < cells {
             return None;
         }
-        let turn = step(alloc, world, process, Call::Report);
-        if let Some(Turn::Answers(ReportEnd::Settled)) = turn {
+        let turn = step(alloc, world, process, Call::Show);
+        if let Some(Turn::Answers(ShowEnd::Settled)) = turn {
             settleds.add(share, 1);
             replace(last, world.reports.of(process));
         }
@@ -162,14 +163,13 @@ impl<L: Ledger, M: Ledger> Kept<L, M> {
 
     // The first cell that is marked, from this one on, by its number.
     pub(crate) fn next_marked(&self, from: usize) -> Option<usize>
-        ensures { IfSome result (λ cell. from ≤ cell) }
+        ensures value { result ≡ marked_from (world_of self.now.world) (cells_of self.now.world.sheet.layout - from) from }
+        ensures above { IfSome result (λ cell. from ≤ cell) }
     {
-        for cell in from..self.world.words.layout().cells() {
-            if mark(&self.world.words, cell).state() == State::Marked {
-                return Some(cell);
-            }
+        if from > cells(&self.world) {
+            return None;
         }
-        None
+        next_marked(&self.world, from)
     }
 
     // The world, whose counts are those of shares with all parts.

@@ -41,7 +41,7 @@ pub struct Unmade {
 pub struct Closed {
     /// Its world.
     pub world: World,
-    /// The process of the first pass that keeps other values of its last settled report than the
+    /// The process of the first pass that keeps other values of its last settled show than the
     /// world, if one does.
     pub stray: Option<usize>,
 }
@@ -49,7 +49,7 @@ pub struct Closed {
 impl<L: Ledger, M: Ledger> LockedSheet<L, M> {
     /// A sheet behind a lock, and a pass for each of its processes, in their order. The first one's
     /// shares begin with what the world has counted, the others' with 0; each keeps the world's values
-    /// of its process's last settled report, in room for those of the next ones.
+    /// of its process's last settled show, in room for those of the next ones.
     ///
     /// The blanks are of as many parts as the world has processes. Where memory is refused, all is
     /// handed back as it was.

@@ -12,7 +12,7 @@ use std::marker::Model;
 use std::sync::ledger::{Ledger, Share};
 
 /// The right to drive one process of a locked sheet, with its shares of both counts, the values of its
-/// last settled report, and a list, for proofs alone, of the calls that it was used for: of each the event
+/// last settled show, and a list, for proofs alone, of the calls that it was used for: of each the event
 /// that began it, and its last reply. The list takes no memory, and only this crate adds to it.
 #[derive(Drop)]
 pub struct Pass<L: Ledger, M: Ledger> {
@@ -80,7 +80,7 @@ impl<L: Ledger, M: Ledger> Pass<L, M> {
         self.calls = self.calls.and(begin, reply);
     }
 
-    /// The values of the process's last settled report, row by row from the left; none where it has
+    /// The values of the process's last settled show, row by row from the left; none where it has
     /// had none.
     pub fn last(&self) -> &[Value]
         ensures { result.now ≡ self.now.last }

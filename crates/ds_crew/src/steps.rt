@@ -4,7 +4,7 @@ ghost use Rattle.std.specs.Prelude.{◌≡◌, ◌+◌, ◌↔◌, IsTrue, Some}
 ghost use Rattle.ds_state.specs.Value.{world_of};
 ghost use Rattle.ds_core.specs.Counts.{done_of, settled_of};
 ghost use Rattle.ds_crew.specs.LockedCalls.{call_in, step_reply, IsKindOf};
-ghost use Rattle.ds_crew.specs.Kept.{HasMade, HasReport, HasSettled, HasStepped, StepsIn, settled_reply, report_of};
+ghost use Rattle.ds_crew.specs.Kept.{HasMade, HasShow, HasSettled, HasStepped, StepsIn, settled_reply, report_of};
 
 use ds_core::ends::CallEnd;
 use ds_state::situation::Situation;
@@ -19,8 +19,8 @@ pub(crate) enum Call {
     Edit,
     /// Work.
     Work,
-    /// A report.
-    Report,
+    /// A show.
+    Show,
     /// A recovery.
     Recovery,
 }
@@ -34,7 +34,7 @@ fn call_in(situation: &Situation) -> Option<Call>
         Situation::Editing(_) => Some(Call::Edit),
         Situation::Working(_) => Some(Call::Work),
         Situation::Recovering(_) => Some(Call::Recovery),
-        Situation::Reporting(_) => Some(Call::Report),
+        Situation::Showing(_) => Some(Call::Show),
     }
 }
 
@@ -60,7 +60,7 @@ pub(crate) fn step<E: CallEnd>(
     ensures settles { step_reply E.kind result ≡ settled_reply → HasSettled process (report_of world.new.reports process) }
     ensures done { world.new.done ≡ world.old.done + done_of (step_reply E.kind result) }
     ensures settled { world.new.settled ≡ world.old.settled + settled_of (step_reply E.kind result) }
-    ensures report { step_reply E.kind result ≡ settled_reply → HasReport world.old.sheet.layout process world.new.reports }
+    ensures report { step_reply E.kind result ≡ settled_reply → HasShow world.old.sheet.layout process world.new.reports }
 {
     world.is_always_good();
     if !is_in(world, process, call) {

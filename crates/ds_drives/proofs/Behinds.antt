@@ -1,6 +1,6 @@
--- What stands behind the words goes on by a step of one process.
-use Rattle.std.proofs.Common.{ℕ, ◌≡◌, ◌≢◌, ◌*◌, ◌<◌, ◌≤◌, List, [], ◌∷◌, length, get_or, set, map, refl, sym, ap, subst, ◌∙◌, inl, inr, arith, le_refl, le_trans}
-use Rattle.std.proofs.lemmas.List.{length-map}
+-- What stands below the words goes on by a step of one process.
+use Rattle.std.proofs.Common.{ℕ, ◌≡◌, ◌≢◌, ◌*◌, ◌<◌, ◌≤◌, List, [], ◌∷◌, ◌++◌, length, get_or, set, map, refl, sym, ap, subst, ◌∙◌, inl, inr, arith, le_refl, le_trans}
+use Rattle.std.proofs.lemmas.List.{length-map, append_assoc, append-nil}
 use mathlib.Core.Logic.{dite}
 use native.Mathlib.Decide.{ℕ_discrete}
 use Rattle.std.specs.Prelude.{Contains, Option, Bool, true, false}
@@ -25,18 +25,33 @@ use Rattle.ds_state.specs.declared.stage.Outcome.{Outcome}
 use Rattle.ds_state.specs.declared.stage.Outcome.TheVariants.{Done, Overtaken}
 use Rattle.ds_state.specs.declared.situation.Situation.{Situation}
 use Rattle.ds_state.specs.declared.recovery.RecoveryEnd.TheVariants.{Last, Nothing}
+use Rattle.ds_core.specs.declared.event.Event.{Event}
+use Rattle.ds_core.specs.declared.reply.Reply.{Reply}
 use Rattle.ds_drives.specs.declared.board.Seated.{Seated}
+use Rattle.ds_drives.specs.declared.board.Deeds.{Deeds}
 use Rattle.ds_drives.specs.declared.board.Told.{Told}
-use Rattle.ds_drives.specs.declared.board.Told.TheVariants.{Edited, Worked, Recovered, Reported}
+use Rattle.ds_drives.specs.declared.board.Told.TheVariants.{Began, Edited, Worked, Recovered, Reported}
 use Rattle.ds_drives.specs.Table.{two_sided, word_of, change, answer, oldest_of, buffer_after}
-use Rattle.ds_drives.specs.Views.{In}
-use Rattle.ds_drives.specs.Rule.{put, Behind, world_on, class_in, IsSecond, IsTold, IsTrueTold, CountsAs, CallsHold, After, Serves}
+use Rattle.ds_drives.specs.Views.{In, seated, told_more}
+use Rattle.ds_drives.specs.Rule.{put, Behind, IsBare, world_on, class_in, IsSecond, IsTold, IsTrueTold, CountsAs, Origin, WasTold, all_of, IsPast, After, Serves}
+use Rattle.ds_drives.specs.History.{Happened, IsTidy, Moves, Run, told_from}
 use Rattle.ds_drives.proofs.Words.{IsThere, performs}
+use Rattle.ds_drives.proofs.Histories.{run_both, told_both, stood_both, begins_still}
 use Rattle.ds_drives.proofs.Seconds.{both_one}
 
--- ---- what was told stays true
+-- what was answered by a stretch of what happened was answered by one of what happened with more after it
+pub was_further : (more all : List Happened) (e : Seated) → WasTold all e → WasTold (more ++ all) e
+was_further more all e h = record {
+  since = more ++ h.since;
+  stretch = h.stretch;
+  before = h.before;
+  parts = ap (λ (z : List Happened). more ++ z) h.parts ∙ sym (append_assoc more h.since (h.stretch ++ h.before));
+  told = h.told;
+}
 
-module _ (layout : Layout) (words words' : List ℕ) (b b' : Behind) (p : ℕ) (s : Situation) (x : List (BufferEntry ℕ)) (f : After layout words words' b b' p s x) where
+-- ---- what was answered stays true
+
+module _ (layout : Layout) (words words' : List ℕ) (b b' : Behind) (p : ℕ) (s : Situation) (x : List (BufferEntry ℕ)) (ts : List Told) (f : After layout words words' b b' p s x ts) where
   -- no edit with a spent number came
   none_came : (d : PlainEdit) → IsSpent (world_on layout words b) d.process d.number → (Contains b.counted d → ⊥) → Contains b'.counted d → ⊥
   none_came d spent out there = elim (f.came d there) [
@@ -55,6 +70,7 @@ module _ (layout : Layout) (words words' : List ℕ) (b b' : Behind) (p : ℕ) (
   counts q n false spent out = λ d there own is. none_came d (subst (λ (z : ℕ × ℕ). IsSpent (world_on layout words b) z.0 z.1) (λ i. (sym own i, sym is i)) spent) (λ was. out d was own is) there
 
   pub told_on : (q : ℕ) (t : Told) → IsTold (world_on layout words b) q t → IsTold (world_on layout words' b') q t
+  told_on q (Began event reply) h = tt
   told_on q (Edited d how) h = record {
     own = h.own;
     spent = le_trans h.spent (f.announced q);
@@ -65,9 +81,45 @@ module _ (layout : Layout) (words words' : List ℕ) (b b' : Behind) (p : ℕ) (
   told_on q (Recovered e (Last told)) h = record { spent = le_trans h.spent (f.announced q); holds = counts q told.number told.counts h.spent h.holds }
   told_on q (Reported e end) h = tt
 
+  -- a run goes on
+  pub ran_on : Run b.origin.opened b.happened (world_on layout words b) → Run b'.origin.opened b'.happened (world_on layout words' b')
+  ran_on r = subst (λ (z : Origin × List Happened). Run z.0.opened z.1 (world_on layout words' b')) (λ k. (sym f.origin k, sym f.happened k))
+      (run_both b.origin.opened (world_on layout words b) (world_on layout words' b') b.happened f.more r f.run)
+
+  -- all that happened goes on by these events
+  pub all_on : all_of b' ≡ f.more ++ all_of b
+  all_on = (λ i. f.happened i ++ (f.origin i).older) ∙ append_assoc f.more b.happened b.origin.older
+
+  -- what was answered at sheets before stays so
+  pub past_on : (e : Seated) → IsPast layout words b e → IsPast layout words' b' e
+  past_on e h = record {
+    told = λ t here. told_on e.process t (h.told t here);
+    was = subst (λ (z : List Happened). WasTold z e) (sym all_on) (was_further f.more (all_of b) e h.was);
+    saw = λ seen is. begins_still f.more (all_of b) (all_of b') seen all_on (h.saw seen is);
+  }
+
+-- one event of the process, by which it was answered this
+pub record Does (layout : Layout) (words words' : List ℕ) (b b' : Behind) (p : ℕ) (ts : List Told) : Type 0 where
+  pub event : Event
+  pub reply : Reply
+  pub moves : Moves (world_on layout words b) event reply (world_on layout words' b')
+  pub origin : b'.origin ≡ b.origin
+  pub happened : b'.happened ≡ record { before = world_on layout words b; event = event; reply = reply } ∷ b.happened
+  pub own : told_from p (world_on layout words b) event reply ≡ ts
+  pub others : (q : ℕ) → q ≢ p → told_from q (world_on layout words b) event reply ≡ []
+  pub low : p < layout.processes
+  pub open_others : (q : ℕ) → q ≢ p → b'.open_edits q ≡ b.open_edits q
+
+far_off : (p q n : ℕ) → p < n → n ≤ q → q ≢ p
+far_off p q n low far same = omega arith
+
+-- a world of a table is tidy
+pub tidy_on : (layout : Layout) (words : List ℕ) (b : Behind) → IsBare layout b → IsTidy (world_on layout words b)
+tidy_on layout words b h = record { words = words; buffer = b.buffer; memory = refl; buffers = h.buffers; situations = h.situations; open_edits = h.open_edits }
+
 module _ (layout : Layout) where
-  pub after_both : (words mid words' : List ℕ) (a b c : Behind) (p : ℕ) (s t : Situation) (x y : List (BufferEntry ℕ)) → After layout words mid a b p s x → After layout mid words' b c p t y → After layout words words' a c p t y
-  after_both words mid words' a b c p s t x y f g = record {
+  pub after_both : (words mid words' : List ℕ) (a b c : Behind) (p : ℕ) (s t : Situation) (x y : List (BufferEntry ℕ)) (ts us : List Told) → After layout words mid a b p s x ts → After layout mid words' b c p t y us → After layout words words' a c p t y (us ++ ts)
+  after_both words mid words' a b c p s t x y ts us f g = record {
     sound = g.sound;
     now = g.now;
     buffer = g.buffer;
@@ -76,12 +128,19 @@ module _ (layout : Layout) where
     announced = λ q. le_trans (f.announced q) (g.announced q);
     kept = λ d h. g.kept d (f.kept d h);
     came = λ d h. elim (g.came d h) [ inl k ↦ f.came d k | inr k ↦ inr (k.0, λ m spent. k.1 m (le_trans spent (f.announced p))) ];
-    middles = λ h. g.middles (f.middles h);
     second = λ h. g.second (f.second h);
+    origin = g.origin ∙ f.origin;
+    more = g.more ++ f.more;
+    happened = g.happened ∙ (ap (λ (z : List Happened). g.more ++ z) f.happened ∙ sym (append_assoc g.more f.more a.happened));
+    run = run_both (world_on layout words a) (world_on layout mid b) (world_on layout words' c) f.more g.more f.run g.run;
+    own = told_both p g.more f.more ∙ (λ i. g.own i ++ f.own i);
+    others_told = λ q ne. told_both q g.more f.more ∙ (λ i. g.others_told q ne i ++ f.others_told q ne i);
+    bare = λ h. g.bare (f.bare h);
+    stood = λ s h. stood_both g.more f.more (g.stood f.sound (f.bare h)) (f.stood s h);
   }
 
-  pub after_none : (words : List ℕ) (b : Behind) (p : ℕ) (s : Situation) (x : List (BufferEntry ℕ)) → IsSound (world_on layout words b) → b.situation p ≡ s → b.buffer p ≡ x → After layout words words b b p s x
-  after_none words b p s x sound now buffer = record { sound = sound; now = now; buffer = buffer; others = λ q ne. refl; other_buffers = λ q ne. refl; announced = λ q. le_refl _; kept = λ d h. h; came = λ d h. inl h; middles = λ h. h; second = λ h. h }
+  pub after_none : (words : List ℕ) (b : Behind) (p : ℕ) (s : Situation) (x : List (BufferEntry ℕ)) → IsSound (world_on layout words b) → b.situation p ≡ s → b.buffer p ≡ x → After layout words words b b p s x []
+  after_none words b p s x sound now buffer = record { sound = sound; now = now; buffer = buffer; others = λ q ne. refl; other_buffers = λ q ne. refl; announced = λ q. le_refl _; kept = λ d h. h; came = λ d h. inl h; second = λ h. h; origin = refl; more = []; happened = refl; run = refl; own = refl; others_told = λ q ne. refl; bare = λ h. h; stood = λ s h. tt }
 
   -- the second layout stays, where the version's word does not lessen and the process does not migrate the sheet
   second_on : (words words' : List ℕ) (b b' : Behind) (p : ℕ) (s : Situation) → Leaves p (world_on layout words b) (world_on layout words' b') → b'.situation p ≡ s
@@ -96,9 +155,9 @@ module _ (layout : Layout) where
       }
 
   -- what a process leaves
-  pub after_left : (words words' : List ℕ) (b b' : Behind) (p : ℕ) (s : Situation) (x : List (BufferEntry ℕ)) → Leaves p (world_on layout words b) (world_on layout words' b') → b'.situation p ≡ s → b'.buffer p ≡ x
-      → ((q : ℕ) → q ≢ p → b'.buffer q ≡ b.buffer q) → (world_on layout words b).memory.persisted Version ≤ (world_on layout words' b').memory.persisted Version → (IsMoving s → ⊥) → After layout words words' b b' p s x
-  after_left words words' b b' p s x k now buffer other_buffers grows rests = record {
+  pub after_left : (words words' : List ℕ) (b b' : Behind) (p : ℕ) (s : Situation) (x : List (BufferEntry ℕ)) (ts : List Told) → Leaves p (world_on layout words b) (world_on layout words' b') → b'.situation p ≡ s → b'.buffer p ≡ x
+      → ((q : ℕ) → q ≢ p → b'.buffer q ≡ b.buffer q) → (world_on layout words b).memory.persisted Version ≤ (world_on layout words' b').memory.persisted Version → (IsMoving s → ⊥) → Does layout words words' b b' p ts → After layout words words' b b' p s x ts
+  after_left words words' b b' p s x ts k now buffer other_buffers grows rests does = record {
     sound = k.sound;
     now = now;
     buffer = buffer;
@@ -107,8 +166,19 @@ module _ (layout : Layout) where
     announced = k.announced;
     kept = lasts_counts (world_on layout words b) (world_on layout words' b') k.lasts;
     came = k.came;
-    middles = k.middles;
     second = second_on words words' b b' p s k now grows rests;
+    origin = does.origin;
+    more = record { before = world_on layout words b; event = does.event; reply = does.reply } ∷ [];
+    happened = does.happened;
+    run = (does.moves, refl);
+    own = append-nil (told_from p (world_on layout words b) does.event does.reply) ∙ does.own;
+    others_told = λ q ne. append-nil (told_from q (world_on layout words b) does.event does.reply) ∙ does.others q ne;
+    bare = λ h. record {
+      situations = λ q far. k.situations q (far_off p q layout.processes does.low far) ∙ h.situations q far;
+      buffers = λ q far. other_buffers q (far_off p q layout.processes does.low far) ∙ h.buffers q far;
+      open_edits = λ q far. does.open_others q (far_off p q layout.processes does.low far) ∙ h.open_edits q far;
+    };
+    stood = λ s h. (record { sound = s; tidy = tidy_on layout words b h }, tt);
   }
 
   -- ---- one access
@@ -176,16 +246,19 @@ module _ (layout : Layout) where
   nothing_kept [] e = refl
   nothing_kept (y ∷ x) e = cc
 
-  -- ---- what stands behind after a step
+  -- ---- what stands below after a step
 
-  -- the process is in another situation, with another buffer, other edits count and other edits are open
-  abbrev pub came_to : Behind → ℕ → Situation → List (BufferEntry ℕ) → List PlainEdit → (ℕ → Option PlainIssue) → Behind
-  came_to b p s x counted open_edits = record { situation = put b.situation p s; buffer = put b.buffer p x; counted = counted; open_edits = open_edits }
+  -- the process is in another situation, with another buffer, other edits are linearized and other edits are open
+  abbrev pub came_to : Behind → ℕ → Situation → List (BufferEntry ℕ) → List PlainEdit → (ℕ → Option PlainIssue) → Happened → Behind
+  came_to b p s x counted open_edits h = record { situation = put b.situation p s; buffer = put b.buffer p x; counted = counted; open_edits = open_edits; origin = b.origin; happened = h ∷ b.happened }
 
-  -- where only the answer is left, it is given
-  pub record Ends (words : List ℕ) (b : Behind) (p : ℕ) (e : Seated) : Type 0 where
+  -- where only the answer is left, it is given: the process, whatever it has done, lands in this situation, answered
+  -- this more
+  pub record Ends (words : List ℕ) (b : Behind) (p : ℕ) (land : Deeds → Seated) : Type 0 where
     pub behind : Behind
-    pub own : e.process ≡ p
-    pub after : After layout words words b behind p e.now e.buffer
-    pub told : (t : Told) → In e.deeds.told t → IsTold (world_on layout words behind) p t
-    pub calls : CallsHold layout p e.deeds.told
+    pub now : Situation
+    pub buffer : List (BufferEntry ℕ)
+    pub more : List Told
+    pub after : After layout words words b behind p now buffer more
+    pub lands : (held : Deeds) → land held ≡ seated p now buffer (told_more held more)
+    pub told : (t : Told) → In more t → IsTold (world_on layout words behind) p t

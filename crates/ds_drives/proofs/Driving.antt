@@ -12,12 +12,21 @@ use Rattle.ds_layout.specs.SheetMemory.{access_at, NamesPlace}
 use Rattle.ds_layout.proofs.Places.{number_of_below, place_of-number_of}
 use Rattle.ds_drives.specs.Table.{word_of, oldest_of, buffer_after, class_flushed, HasRoom, IsBelow}
 use Rattle.ds_state.specs.declared.situation.Situation.{Situation}
-use Rattle.ds_drives.specs.declared.board.Deeds.{Deeds}
 use Rattle.ds_drives.specs.declared.board.Seated.{Seated}
 use Rattle.ds_drives.specs.declared.board.View.{View}
 use Rattle.ds_drives.specs.Fuses.{Asked}
-use Rattle.ds_drives.specs.Views.{lone, steps_later, deeds_at}
-use Rattle.ds_drives.specs.Rule.{Serves, Ready, Poised, class_in}
+use Rattle.std.proofs.Common.{inl, inr}
+use Rattle.std.specs.Prelude.{Some}
+use Rattle.ds_core.specs.declared.event.Event.{Event}
+use Rattle.ds_core.specs.declared.reply.Reply.{Reply}
+use Rattle.ds_drives.specs.declared.board.HistoryEntry.{HistoryEntry}
+use Rattle.ds_drives.specs.declared.board.Told.{Told}
+use Rattle.ds_drives.specs.declared.board.Told.TheVariants.{Began}
+use Rattle.ds_drives.specs.Views.{In, lone, deeds_at}
+use Rattle.ds_drives.specs.Machines.{Grows}
+use Rattle.ds_drives.specs.Rule.{IsTold, Serves, Ready, Poised, class_in}
+use Rattle.ds_drives.proofs.Histories.{grows_none}
+use Rattle.ds_state.specs.World.{PlainWorld}
 
 -- the words of an access lie on the table, and a flush finds room
 pub below : (layout : Layout) (a : Access Place) → NamesPlace layout a → IsBelow (words_of layout) (access_at layout a)
@@ -54,31 +63,27 @@ room layout (SwapIf n o v) x s = tt
 room layout (Flush n) x s = s
 room layout Back x s = tt
 
--- the seat has done just this
-abbrev pub HeldBy : Deeds → Me ℕ View → Type 0
-HeldBy held me = (deeds_at me ≡ held) × (me.1 ≡ [])
-
--- a seat that is poised has done just what it has
-pub held_still : (layout : Layout) (held : Deeds) (me : Me ℕ View) (p : ℕ) (s : Situation) (x : List (BufferEntry ℕ)) → Poised layout held me p s x → HeldBy held me
-held_still layout held me p s x h = subst (HeldBy held) (sym h.at) (h.held_is, refl)
-
--- no step is none, and one more is one more
-pub none_more : (d : Deeds) → d ≡ steps_later d 0
-none_more d = let e : d.steps ≡ d.steps + 0 = omega arith in ap (λ (n : ℕ). (let x : Deeds = record { told = d.told; steps = n } in x)) e
-
--- so many steps, and one step later, are one step more
-pub one_more : (d : Deeds) (n : ℕ) → steps_later (steps_later d n) 1 ≡ steps_later d (n + 1)
-one_more d n = let e : d.steps + n + 1 ≡ d.steps + (n + 1) = omega arith in ap (λ (m : ℕ). (let x : Deeds = record { told = d.told; steps = m } in x)) e
+-- a seat that is poised has looked: it grew by nothing until now
+pub grows_poised : (layout : Layout) (begins : List Told) (me : Me ℕ View) (p : ℕ) (s : Situation) (x : List (BufferEntry ℕ)) → Poised layout begins me p s x → Grows p (deeds_at me) (deeds_at me) 0
+grows_poised layout begins me p s x h = grows_none p (deeds_at me) h.seen (ap (λ (z : Me ℕ View). (deeds_at z).seen) h.at ∙ h.looked)
 
 -- a seat with one process, which may begin a call
-pub sits : (layout : Layout) (me : Me ℕ View) (seat : Seated) (q : ℕ) (now : Situation) → me ≡ (lone seat, []) → seat.process ≡ q → Ready layout seat q now [] → Poised layout (steps_later (deeds_at me) 0) me q now []
-sits layout me seat q now alone own ready = record {
+pub sits : (layout : Layout) (begins : List Told) (me : Me ℕ View) (seat : Seated) (q : ℕ) (now : Situation) → me ≡ (lone seat, []) → seat.process ≡ q → ((seen : List HistoryEntry) × (seat.deeds.seen ≡ Some seen))
+    → ((w : PlainWorld) (r : ℕ) (t : Told) → In begins t → IsTold w r t) → Ready layout seat q now [] begins → Poised layout begins me q now []
+sits layout begins me seat q now alone own looked known ready = record {
   seat = seat;
   at = alone;
-  held_is = sym (ap deeds_at alone) ∙ none_more (deeds_at me);
   own = own;
+  seen = looked.0;
+  looked = looked.1;
+  known = known;
   ready = ready;
 }
+
+-- that a call begins is reported, and says nothing of the world
+pub begins_known : (event : Event) (reply : Reply) (w : PlainWorld) (q : ℕ) (t : Told) → In (Began event reply ∷ []) t → IsTold w q t
+begins_known event reply w q t (inl is) = subst (IsTold w q) is tt
+begins_known event reply w q t (inr none) = absurd none
 
 -- ---- fuses
 

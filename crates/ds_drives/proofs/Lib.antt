@@ -1,6 +1,8 @@
 pub mod Words
 pub mod Seconds
+pub mod Histories
 pub mod Behinds
+pub mod Seating
 pub mod Machines
 pub mod Resting
 pub mod Edits
@@ -9,5 +11,6 @@ pub mod Works
 pub mod Reports
 pub mod Driving
 pub mod Dealt
+pub mod Looking
 pub mod Contents
 pub mod Crossing

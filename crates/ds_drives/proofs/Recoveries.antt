@@ -1,5 +1,5 @@
 -- Recoveries are calls whose steps the rule allows.
-use Rattle.std.proofs.Common.{ℕ, ◌≡◌, ◌*◌, ◌<◌, ◌≤◌, ◌/◌, ◌-◌, List, [], ◌∷◌, length, refl, sym, ap, subst, ◌∙◌, inl, inr, arith, suc, zero, le_refl}
+use Rattle.std.proofs.Common.{ℕ, ◌≡◌, ◌*◌, ◌<◌, ◌/◌, ◌-◌, List, [], ◌∷◌, length, refl, sym, ap, subst, ◌∙◌, inl, inr, arith, suc, zero, le_refl}
 use Rattle.std.specs.Prelude.{Contains, Option, Some, None, Bool, true, false, ◌==◌, ◌&&◌, if◌then◌else◌}
 use Rattle.std.proofs.lemmas.Bool.{eqb-true, eq-eqb}
 use Rattle.ds_words.specs.declared.access.BufferEntry.{BufferEntry}
@@ -15,11 +15,10 @@ use Rattle.ds_state.specs.KnownRecovery.{phase_for, Tells}
 use Rattle.ds_state.specs.CallsFit.{RecoveryFits}
 use Rattle.ds_state.specs.LayoutsFit.{LayoutFits}
 use Rattle.ds_state.specs.Sound.{IsSound}
-use Rattle.ds_state.specs.Middles.{HaveMiddles}
 use Rattle.ds_state.specs.Spent.{IsSpent}
 use Rattle.ds_state.specs.declared.situation.Rest.{Rest}
 use Rattle.ds_state.specs.declared.situation.Situation.{Situation}
-use Rattle.ds_state.specs.declared.situation.Situation.TheVariants.{Idle, Stopped, Editing, Working, Recovering, Reporting, Migrating}
+use Rattle.ds_state.specs.declared.situation.Situation.TheVariants.{Idle, Stopped, Editing, Working, Recovering, Showing, Migrating}
 use Rattle.ds_layout.specs.declared.announcement.Announcement.{Announcement}
 use Rattle.ds_layout.specs.Announcement.{announcement_of}
 use Rattle.ds_layout.specs.Head.{head_of}
@@ -27,7 +26,6 @@ use Rattle.ds_layout.specs.Bits.{bit_in}
 use Rattle.ds_state.specs.declared.spread.Spread.{Spread}
 use Rattle.ds_state.specs.declared.spread.Spread.TheVariants as spreads
 use Rattle.ds_state.specs.declared.recovery.RecoverStage.TheVariants as stages
-use Rattle.ds_state.specs.declared.recovery.RecoveryEnd.{RecoveryEnd}
 use Rattle.ds_state.specs.declared.recovery.RecoverStage.{RecoverStage}
 use Rattle.ds_state.specs.declared.recovery.RecoverStage.TheVariants.{Answer}
 use Rattle.ds_recover.specs.RecoverySteps as recovery
@@ -40,17 +38,20 @@ use Rattle.ds_state.specs.RecoverStages.{IsRecovery}
 use Rattle.ds_drives.specs.declared.board.Seated.{Seated}
 use Rattle.ds_drives.specs.declared.board.Deeds.{Deeds}
 use Rattle.ds_drives.specs.declared.board.Told.{Told}
-use Rattle.ds_drives.specs.declared.board.Told.TheVariants.{Edited, Recovered}
-use Rattle.ds_drives.specs.Views.{In, seated, second_rest}
-use Rattle.ds_drives.specs.Rules.{Ran}
-use Rattle.ds_drives.specs.Rule.{put, Behind, world_on, IsSecond, IsTold, CallHolds, CallsHold, Recalls, CountsAs, After, Ready}
-use Rattle.ds_drives.specs.Machines.{Lawful, IsSettled}
-use Rattle.atomic_table.specs.Table.{Me}
-use Rattle.ds_drives.specs.declared.board.View.{View}
+use Rattle.ds_drives.specs.declared.board.Told.TheVariants.{Began, Recovered}
+use Rattle.ds_drives.specs.Views.{second_rest, seated}
+use Rattle.ds_drives.specs.Rule.{put, Behind, world_on, IsSecond, IsTold, CountsAs, After, Ready}
+use Rattle.ds_drives.specs.Machines.{Lawful}
 use Rattle.ds_drives.specs.RecoverRules.{IsGoing, IsRecoveryOn, landed_at, recover_rules}
 use Rattle.ds_drives.proofs.Words.{put_here, put_else}
 use Rattle.ds_drives.proofs.Seconds.{version_grows, noted_second}
-use Rattle.ds_drives.proofs.Behinds.{told_on, after_none, after_left, after_both, written, answered, kept_back, performed, serves, came_to, Ends}
+use Rattle.ds_core.specs.RecoveryEvents.{recovery_reply}
+use Rattle.ds_core.specs.declared.event.Event.TheVariants.{BeginRecover, Step}
+use Rattle.ds_core.specs.declared.reply.Reply.{Reply}
+use Rattle.ds_core.specs.declared.reply.Reply.TheVariants.{Entered}
+use Rattle.ds_drives.specs.History.{recovery as step_recovery, recovery_told}
+use Rattle.ds_drives.proofs.Histories.{told_own, told_else, begun_own, begun_else}
+use Rattle.ds_drives.proofs.Behinds.{Does, after_none, after_left, after_both, written, answered, kept_back, performed, serves, came_to, Ends}
 use Rattle.ds_drives.proofs.Resting.{stopped, stops, still}
 use Rattle.ds_drives.proofs.Machines.{lawful}
 
@@ -61,6 +62,15 @@ after_going e _ word g = refl
 landed_going : (e : PlainRecoverCall) (s : RecoverStage) (x : List (BufferEntry ℕ)) (held : Deeds) → IsGoing s → landed_at e s x held ≡ seated e.process (Recovering (record e { stage = s })) x held
 landed_going e (Answer how) x held g = absurd g
 landed_going e _ x held g = refl
+
+-- a step that goes on reports nothing
+silent : (e : PlainRecoverCall) (s : RecoverStage) → IsGoing s → recovery_told e s ≡ []
+silent e (Answer how) g = absurd g
+silent e _ g = refl
+
+silent_end : (e : PlainRecoverCall) (how : Option Bool) → recovery_told (record e { stage = Answer how }) (Answer how) ≡ Recovered (record e { stage = Answer how }) (end_of e how) ∷ []
+silent_end e None = refl
+silent_end e (Some k) = refl
 
 -- the same process, on the same sheet
 pub record Same (e f : PlainRecoverCall) : Type 0 where
@@ -114,7 +124,7 @@ next_same e (stages.FlushOutcome how) word = same _ _ refl refl refl
 next_same e (stages.BackOutcome how) word = same _ _ refl refl refl
 next_same e (stages.Answer how) word = same _ _ refl refl refl
 
--- ---- what it tells
+-- ---- what it reports
 
 is_edit : (e : PlainEdit) (p n : ℕ) → is_edit_of p n e ≡ true → (e.process ≡ p) × (e.number ≡ n)
 is_edit e p n is = both (e.process == p) (e.number == n) refl refl is
@@ -162,23 +172,17 @@ tells e (Some how) w fits says = record {
   holds = counts_as w.counted e.process (number_of e) how says.1;
 }
 
--- what was told before is of an edit that was announced
-recalls : (e : PlainRecoverCall) (how : Option Bool) (w : PlainWorld) (held : List Told) → RecoveryFits w e.process (record e { stage = Answer how }) → ((t : Told) → In held t → IsTold w e.process t) → Recalls held (end_of e how)
-recalls e None w held fits told = λ d ended here. let t = told (Edited d ended) here in let spent = t.spent in let there = fits.resolved.1 in let is = fits.resolved.2 in absurd (omega (arith, spent, there, is))
-recalls e (Some k) w held fits told = λ d ended here. let t = told (Edited d ended) here in at_most d.number k t.spent fits.resolved.1 fits.resolved.2
-  where
-    at_most : (n : ℕ) (k : Bool) → IsSpent w e.process n → w.memory.persisted (place.Announce e.process) ≡ e.announcement → Tells e.announcement k → n ≤ number_of e
-    at_most n true spent there t = let is = t.is in omega (arith, spent, there, is)
-    at_most n false spent there t = let is = t.is in omega (arith, spent, there, is)
-
 module _ (layout : Layout) where
   module _ (words : List ℕ) (b : Behind) (e : PlainRecoverCall) (x : List (BufferEntry ℕ)) (long : length words ≡ 8 * words_of layout)
       (sound : IsSound (world_on layout words b)) (low : e.process < layout.processes) (at : b.situation e.process ≡ Recovering e) (same : b.buffer e.process ≡ x) where
     abbrev word : ℕ
     word = answered layout words (recovery.access_at e e.stage) x
 
+    abbrev said : Reply
+    said = recovery_reply (recovery.effect_at e e.stage)
+
     abbrev behind : Behind
-    behind = came_to layout b e.process (after e e.stage word) (kept_back layout words (recovery.access_at e e.stage) x) b.counted (put b.open_edits e.process (recovery.open_edit_at (b.open_edits e.process) e.stage))
+    behind = came_to layout b e.process (after e e.stage word) (kept_back layout words (recovery.access_at e e.stage) x) b.counted (put b.open_edits e.process (recovery.open_edit_at (b.open_edits e.process) e.stage)) (record { before = world_on layout words b; event = Step e.process; reply = said })
 
     abbrev old : PlainWorld
     old = world_on layout words b
@@ -197,24 +201,38 @@ module _ (layout : Layout) where
       others_open_edits = λ q n. put_else b.open_edits e.process (recovery.open_edit_at (b.open_edits e.process) e.stage) q n;
     }
 
+    does : IsGoing e.stage → Does layout words (written layout words (recovery.access_at e e.stage) x) b behind e.process []
+    does going = record {
+      event = Step e.process;
+      reply = said;
+      moves = (low, step_recovery (record { recovery = e; mine = refl; at = at; word = word; steps = steps; is = refl }));
+      origin = refl;
+      happened = refl;
+      own = told_own e.process old said (Recovering e) [] at (silent e e.stage going);
+      others = λ q n. told_else e.process q old said n;
+      low = low;
+      open_others = steps.others_open_edits;
+    }
+
     pub recovery_step : IsGoing e.stage
-        → (b' : Behind) × After layout words (written layout words (recovery.access_at e e.stage) x) b b' e.process (Recovering (recovery.got_at e word)) (kept_back layout words (recovery.access_at e e.stage) x)
+        → (b' : Behind) × After layout words (written layout words (recovery.access_at e e.stage) x) b b' e.process (Recovering (recovery.got_at e word)) (kept_back layout words (recovery.access_at e e.stage) x) []
     recovery_step going = (
       behind,
-      after_left layout words (written layout words (recovery.access_at e e.stage) x) b behind e.process (Recovering (recovery.got_at e word)) (kept_back layout words (recovery.access_at e e.stage) x)
+      after_left layout words (written layout words (recovery.access_at e e.stage) x) b behind e.process (Recovering (recovery.got_at e word)) (kept_back layout words (recovery.access_at e e.stage) x) []
           (recovery_leaves e word old new sound low at steps) (steps.situation ∙ after_going e e.stage word going) (put_here b.buffer e.process _ e.process refl) (λ q n. put_else b.buffer e.process _ q n)
-          (version_grows old new.memory e.process (recovery.access_at e e.stage) word sound low steps.memory) (λ moving. moving),
+          (version_grows old new.memory e.process (recovery.access_at e e.stage) word sound low steps.memory) (λ moving. moving) (does going),
     )
 
-  ends : (s : RecoverStage) (words : List ℕ) (b : Behind) (e : PlainRecoverCall) (x : List (BufferEntry ℕ)) (ts : Deeds) → Ran recover_rules layout (record e { stage = s }) → IsSound (world_on layout words b) → IsSecond (world_on layout words b) → HaveMiddles (world_on layout words b) → e.process < layout.processes
-      → b.situation e.process ≡ Recovering (record e { stage = s }) → b.buffer e.process ≡ x → ((t : Told) → In ts.told t → IsTold (world_on layout words b) e.process t) → CallsHold layout e.process ts.told → Ends layout words b e.process (landed_at e s x ts)
-  ends (Answer how) words b e x ts ran sound second middles low at same old reports =
+  ends : (s : RecoverStage) (words : List ℕ) (b : Behind) (e : PlainRecoverCall) (x : List (BufferEntry ℕ)) → IsSound (world_on layout words b) → IsSecond (world_on layout words b) → e.process < layout.processes
+      → b.situation e.process ≡ Recovering (record e { stage = s }) → b.buffer e.process ≡ x → Ends layout words b e.process (landed_at e s x)
+  ends (Answer how) words b e x sound second low at same =
       let e' : PlainRecoverCall = record e { stage = Answer how } in
       let s' : Situation = Idle (second_rest (next_number e.announcement how)) in
       let noted : rest_after e' how ≡ second_rest (next_number e.announcement how) = knows (noted_second (world_on layout words b) e.edition second (subst (λ (z : Situation). LayoutFits (world_on layout words b) e.process z) at (sound.layouts e.process low))) in
       let b' : Behind = record b {
         situation = put b.situation e.process s';
         open_edits = put b.open_edits e.process None;
+        happened = record { before = world_on layout words b; event = Step e.process; reply = recovery_reply (recovery.effect_at e' (Answer how)) } ∷ b.happened;
       } in
       let w : PlainWorld = world_on layout words b in
       let w' : PlainWorld = world_on layout words b' in
@@ -228,26 +246,39 @@ module _ (layout : Layout) where
         others_open_edits = λ q n. put_else b.open_edits e.process None q n;
       } in
       let says : IsTold w' e.process (Recovered e' (end_of e how)) = same_told how (tells e how w (laws.fits_of e' w sound low at) (laws.repeated e' how w sound low at refl)) in
-      let aft : After layout words words b b' e.process s' x = after_left layout words words b b' e.process s' x (recovery_leaves e' 0 w w' sound low at t) (put_here b.situation e.process s' e.process refl) same (λ q n. refl) (le_refl _) (λ moving. moving) in
+      let does_so : Does layout words words b b' e.process (Recovered e' (end_of e how) ∷ []) = record {
+        event = Step e.process;
+        reply = recovery_reply (recovery.effect_at e' (Answer how));
+        moves = (low, step_recovery (record { recovery = e'; mine = refl; at = at; word = 0; steps = t; is = refl }));
+        origin = refl;
+        happened = refl;
+        own = told_own e.process w (recovery_reply (recovery.effect_at e' (Answer how))) (Recovering e') (Recovered e' (end_of e how) ∷ []) at (silent_end e how);
+        others = λ q n. told_else e.process q w (recovery_reply (recovery.effect_at e' (Answer how))) n;
+        low = low;
+        open_others = t.others_open_edits;
+      } in
+      let aft : After layout words words b b' e.process s' x (Recovered e' (end_of e how) ∷ []) = after_left layout words words b b' e.process s' x (Recovered e' (end_of e how) ∷ []) (recovery_leaves e' 0 w w' sound low at t) (put_here b.situation e.process s' e.process refl) same (λ q n. refl) (le_refl _) (λ moving. moving) does_so in
       record {
         behind = b';
-        own = refl;
+        now = s';
+        buffer = x;
+        more = Recovered e' (end_of e how) ∷ [];
         after = aft;
+        lands = λ held. refl;
         told = λ u inside. elim inside [
           | inl new ↦ subst (λ (z : Told). IsTold w' e.process z) new says
-          | inr last ↦ told_on layout words words b b' e.process s' x aft e.process u (old u last)
+          | inr none ↦ absurd none
         ];
-        calls = ((ran, (how, refl, refl), recalls e how w ts.told (laws.fits_of e' w sound low at) old), reports);
       }
     where
       knows : e.edition ≡ Second → rest_after e how ≡ second_rest (next_number e.announcement how)
       knows noted = ap (λ (d : Edition). (let r : Rest = record { number = next_number e.announcement how; edition = d } in r)) noted
 
       same_told : (o : Option Bool) → IsTold (world_on layout words b) e.process (Recovered (record e { stage = Answer how }) (end_of e o))
-          → IsTold (world_on layout words (record b { situation = put b.situation e.process (Idle (second_rest (next_number e.announcement how))); open_edits = put b.open_edits e.process None })) e.process (Recovered (record e { stage = Answer how }) (end_of e o))
+          → IsTold (world_on layout words (record b { situation = put b.situation e.process (Idle (second_rest (next_number e.announcement how))); open_edits = put b.open_edits e.process None; happened = record { before = world_on layout words b; event = Step e.process; reply = recovery_reply (recovery.effect_at (record e { stage = Answer how }) (Answer how)) } ∷ b.happened })) e.process (Recovered (record e { stage = Answer how }) (end_of e o))
       same_told None h = tt
       same_told (Some k) h = record { spent = h.spent; holds = h.holds }
-  ends _ words b e x ts ran sound second middles low at same old reports = record { behind = b; own = refl; after = after_none layout words b e.process _ x sound at same; told = old; calls = reports }
+  ends s words b e x sound second low at same = record { behind = b; now = _; buffer = x; more = []; after = after_none layout words b e.process _ x sound at same; lands = λ held. refl; told = λ u none. absurd none }
 
   apart : (s : RecoverStage) (how : Option Bool) → IsGoing s → s ≡ Answer how → ⊥
   apart s how go is = subst IsGoing is go
@@ -259,7 +290,8 @@ module _ (layout : Layout) where
       (λ words b e f x sound low at same is. (b, after_none layout words b e.process (Recovering f) x sound (at ∙ ap Recovering is) same))
       (λ e f is. sym (ap (λ (z : PlainRecoverCall). z.process) is))
       (λ first e n h. (next_same e e.stage n).process ∙ h)
-      (λ words b e x ts ran sound second middles low at same old reports. ends e.stage words b e x ts ran sound second middles low at same old reports)
+      (λ first e h. h)
+      (λ words b e0 e word x fits go is_next sound second low at same. ends e.stage words b e x sound second low at same)
       (λ e f x ts is go. landed_going e e.stage x ts (subst (λ (z : PlainRecoverCall). IsGoing z.stage) (sym is) go))
       (λ e f end is over. is)
       (λ e end go over. apart e.stage over.0 go over.1)
@@ -269,10 +301,10 @@ module _ (layout : Layout) where
 
   -- a process in no call begins
   begins : (words : List ℕ) (b : Behind) (p : ℕ) → IsSound (world_on layout words b) → IsSecond (world_on layout words b) → p < layout.processes → MayRecover (b.situation p) → b.buffer p ≡ []
-      → (b' : Behind) × After layout words words b b' p (Recovering (fresh p (cells_of layout) layout.processes)) []
+      → (b' : Behind) × After layout words words b b' p (Recovering (fresh p (cells_of layout) layout.processes)) [] (Began (BeginRecover p) Entered ∷ [])
   begins words b p sound second low free empty =
       let s : Situation = Recovering (fresh p (cells_of layout) layout.processes) in
-      let b' : Behind = record b { situation = put b.situation p s } in
+      let b' : Behind = record b { situation = put b.situation p s; happened = record { before = world_on layout words b; event = BeginRecover p; reply = Entered } ∷ b.happened } in
       let t : IsBegun (world_on layout words b) p (world_on layout words b') = record {
         free = free;
         alone = λ q inside other. second.settled q inside;
@@ -285,25 +317,37 @@ module _ (layout : Layout) where
           open_edits = λ q. refl;
         };
       } in
-      (b', after_left layout words words b b' p s [] (begin_leaves p (world_on layout words b) (world_on layout words b') sound low t) t.begins.situation empty (λ q n. refl) (le_refl _) (λ moving. moving))
+      let told : List Told = Began (BeginRecover p) Entered ∷ [] in
+      let does_so : Does layout words words b b' p told = record {
+        event = BeginRecover p;
+        reply = Entered;
+        moves = (low, t);
+        origin = refl;
+        happened = refl;
+        own = begun_own p told;
+        others = λ q n. begun_else p q told n;
+        low = low;
+        open_others = λ q n. refl;
+      } in
+      (b', after_left layout words words b b' p s [] told (begin_leaves p (world_on layout words b) (world_on layout words b') sound low t) t.begins.situation empty (λ q n. refl) (le_refl _) (λ moving. moving) does_so)
 
   -- a process that runs stops first
-  begins_after : (words : List ℕ) (b c : Behind) (p : ℕ) → IsSecond (world_on layout words b) → p < layout.processes → After layout words words b c p Stopped []
-      → (b' : Behind) × After layout words words b b' p (Recovering (fresh p (cells_of layout) layout.processes)) []
+  begins_after : (words : List ℕ) (b c : Behind) (p : ℕ) → IsSecond (world_on layout words b) → p < layout.processes → After layout words words b c p Stopped [] []
+      → (b' : Behind) × After layout words words b b' p (Recovering (fresh p (cells_of layout) layout.processes)) [] (Began (BeginRecover p) Entered ∷ [])
   begins_after words b c p second low f =
       let g = begins words c p f.sound (f.second second) low (subst MayRecover (sym f.now) tt) f.buffer in
-      (g.0, after_both layout words words words b c g.0 p Stopped (Recovering (fresh p (cells_of layout) layout.processes)) [] [] f g.1)
+      (g.0, after_both layout words words words b c g.0 p Stopped (Recovering (fresh p (cells_of layout) layout.processes)) [] [] [] (Began (BeginRecover p) Entered ∷ []) f g.1)
 
-  pub recovery_begins : (seat : Seated) (p : ℕ) → Ready layout seat p (Recovering (fresh p (cells_of layout) layout.processes)) []
+  pub recovery_begins : (seat : Seated) (p : ℕ) → Ready layout seat p (Recovering (fresh p (cells_of layout) layout.processes)) [] (Began (BeginRecover p) Entered ∷ [])
   recovery_begins seat p words b sound second low at same = by (b.situation p) refl
     where
-      by : (s : Situation) → b.situation p ≡ s → (b' : Behind) × After layout words words b b' p (Recovering (fresh p (cells_of layout) layout.processes)) []
+      by : (s : Situation) → b.situation p ≡ s → (b' : Behind) × After layout words words b b' p (Recovering (fresh p (cells_of layout) layout.processes)) [] (Began (BeginRecover p) Entered ∷ [])
       by Stopped is = begins_after words b b p second low (still layout words b p sound low is)
       by (Idle n) is = begins_after words b (stopped layout words b p) p second low (stops layout words b p sound low (λ e. cc))
       by (Editing e) is = begins_after words b (stopped layout words b p) p second low (stops layout words b p sound low (λ e'. cc))
       by (Working e) is = begins_after words b (stopped layout words b p) p second low (stops layout words b p sound low (λ e'. cc))
       by (Recovering e) is = begins_after words b (stopped layout words b p) p second low (stops layout words b p sound low (λ e'. cc))
-      by (Reporting e) is = begins_after words b (stopped layout words b p) p second low (stops layout words b p sound low (λ e'. cc))
+      by (Showing e) is = begins_after words b (stopped layout words b p) p second low (stops layout words b p sound low (λ e'. cc))
       by (Migrating e) is = begins_after words b (stopped layout words b p) p second low (stops layout words b p sound low (λ e'. cc))
 
 -- ---- one step
@@ -318,20 +362,10 @@ fewer_left e f word is good go =
     let h : recovery.rank e.cells (recovery.got_at e word).stage < recovery.rank e.cells e.stage = falls_going e (recovery.got_at e word) e.stage go (each_falls e word good) in
     subst (λ (z : ℕ × RecoverStage). recovery.rank z.0 z.1 < recovery.rank e.cells e.stage) (λ i. (sym (ap (λ (z : PlainRecoverCall). z.cells) is ∙ (next_same e e.stage word).cells) i, sym (ap (λ (z : PlainRecoverCall). z.stage) is) i)) h
 
--- a recovery of the sheet is one of it behind its step, too
+-- a recovery of the sheet is one of it after its step, too
 pub fits_still : (layout : Layout) (e f : PlainRecoverCall) (word : ℕ) → f ≡ recovery.got_at e word → IsRecovery f → IsRecoveryOn layout e → IsRecoveryOn layout f
 fits_still layout e f word is good on = record {
   is = good;
   cells = on.cells ∙ sym (ap (λ (z : PlainRecoverCall). z.cells) is ∙ (next_same e e.stage word).cells);
   processes = on.processes ∙ sym (ap (λ (z : PlainRecoverCall). z.processes) is ∙ (next_same e e.stage word).processes);
 }
-
--- the call that has ended is told as it is
-pub held_at : (layout : Layout) (e : PlainRecoverCall) (s : RecoverStage) (x : List (BufferEntry ℕ)) (held : Deeds) (how : Option Bool) → s ≡ Answer how → CallsHold layout e.process (landed_at e s x held).deeds.told → CallHolds layout e.process held.told (Recovered (record e { stage = s }) (end_of e how))
-held_at layout e s x held how is h = subst (λ (z : RecoverStage). CallHolds layout e.process held.told (Recovered (record e { stage = z }) (end_of e how))) (sym is) (one (subst (λ (z : RecoverStage). CallsHold layout e.process (landed_at e z x held).deeds.told) is h))
-  where
-    one : CallsHold layout e.process (landed_at e (Answer how) x held).deeds.told → CallHolds layout e.process held.told (Recovered (record e { stage = Answer how }) (end_of e how))
-    one k = k.0
-
-pub call_held : (layout : Layout) (held : Deeds) (me : Me ℕ View) (e : PlainRecoverCall) (end : RecoveryEnd) → IsSettled recover_rules layout held me e end → CallHolds layout e.process held.told (Recovered e end)
-call_held layout held me e end s = subst (λ (r : RecoveryEnd). CallHolds layout e.process held.told (Recovered e r)) (sym s.ends.2) (held_at layout e e.stage s.buffer held s.ends.0 s.ends.1 s.calls)

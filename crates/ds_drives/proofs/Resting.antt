@@ -1,5 +1,5 @@
--- Every process stops: what was told stays true.
-use Rattle.std.proofs.Common.{ℕ, ◌≡◌, ◌≢◌, ◌<◌, ◌≤◌, List, [], zero, suc, refl, ap, subst, ◌∙◌, arith, le_refl, map}
+-- Every process stops: what was answered stays true.
+use Rattle.std.proofs.Common.{ℕ, ◌≡◌, ◌≢◌, ◌<◌, ◌≤◌, List, [], zero, suc, refl, sym, ap, subst, ◌∷◌, ◌∙◌, arith, le_refl, map}
 use mathlib.Core.Logic.{dite}
 use native.Mathlib.Decide.{ℕ_discrete}
 use Rattle.ds_layout.specs.declared.layout.Layout.{Layout}
@@ -8,16 +8,20 @@ use Rattle.ds_state.specs.CallsFit.{CallFits, StoppedFits}
 use Rattle.ds_state.specs.Crashes.{StopsIn}
 use Rattle.ds_state.specs.Sound.{IsSound}
 use Rattle.ds_state.specs.declared.situation.Situation.{Situation}
-use Rattle.ds_state.specs.declared.situation.Situation.TheVariants.{Idle, Stopped, Editing, Working, Recovering, Reporting, Migrating}
+use Rattle.ds_state.specs.declared.situation.Situation.TheVariants.{Idle, Stopped, Editing, Working, Recovering, Showing, Migrating}
 use Rattle.ds_state.proofs.Leaves.{stop_leaves}
-use Rattle.ds_drives.specs.declared.board.Told.{Told}
-use Rattle.ds_drives.specs.Rule.{put, Behind, world_on, IsSecond, IsTold, After, AtRest, Stops, none, stop}
+use Rattle.ds_core.specs.declared.event.Event.TheVariants.{Stop}
+use Rattle.ds_core.specs.declared.reply.Reply.TheVariants as reply
+use Rattle.ds_drives.specs.declared.board.Seated.{Seated}
+use Rattle.ds_drives.specs.History.{Run, Stood}
+use Rattle.ds_drives.proofs.Histories.{stood_both}
+use Rattle.ds_drives.specs.Rule.{put, Behind, IsBare, world_on, IsSecond, IsPast, IsOrigin, After, AtRest, Stops, none, stop}
 use Rattle.ds_drives.proofs.Words.{put_here, put_else}
-use Rattle.ds_drives.proofs.Behinds.{told_on, after_none, after_left, nothing_kept}
+use Rattle.ds_drives.proofs.Behinds.{Does, past_on, ran_on, after_none, after_left, nothing_kept}
 
 module _ (layout : Layout) (words : List ℕ) where
   abbrev pub stopped : Behind → ℕ → Behind
-  stopped b p = record b { situation = put b.situation p Stopped; buffer = put b.buffer p [] }
+  stopped b p = record b { situation = put b.situation p Stopped; buffer = put b.buffer p []; happened = record { before = world_on layout words b; event = Stop p; reply = reply.Stopped } ∷ b.happened }
 
   -- a process that runs stops
   pub stops_in : (b : Behind) (p : ℕ) → b.situation p ≢ Stopped → StopsIn p (world_on layout words b) (world_on layout words (stopped b p))
@@ -36,13 +40,24 @@ module _ (layout : Layout) (words : List ℕ) where
     open_edits = λ q. refl;
   }
 
-  pub stops : (b : Behind) (p : ℕ) → IsSound (world_on layout words b) → p < layout.processes → b.situation p ≢ Stopped → After layout words words b (stopped b p) p Stopped []
+  pub stops : (b : Behind) (p : ℕ) → IsSound (world_on layout words b) → p < layout.processes → b.situation p ≢ Stopped → After layout words words b (stopped b p) p Stopped [] []
   stops b p sound low runs =
       let t : StopsIn p (world_on layout words b) (world_on layout words (stopped b p)) = stops_in b p runs in
-      after_left layout words words b (stopped b p) p Stopped [] (stop_leaves p (world_on layout words b) (world_on layout words (stopped b p)) sound low t) t.situation (put_here b.buffer p [] p refl) (λ q n. put_else b.buffer p [] q n) (le_refl _) (λ moving. moving)
+      let does_so : Does layout words words b (stopped b p) p [] = record {
+        event = Stop p;
+        reply = reply.Stopped;
+        moves = (low, t);
+        origin = refl;
+        happened = refl;
+        own = refl;
+        others = λ q n. refl;
+        low = low;
+        open_others = λ q n. refl;
+      } in
+      after_left layout words words b (stopped b p) p Stopped [] [] (stop_leaves p (world_on layout words b) (world_on layout words (stopped b p)) sound low t) t.situation (put_here b.buffer p [] p refl) (λ q n. put_else b.buffer p [] q n) (le_refl _) (λ moving. moving) does_so
 
   -- a process that has stopped has an empty buffer
-  pub still : (b : Behind) (p : ℕ) → IsSound (world_on layout words b) → p < layout.processes → b.situation p ≡ Stopped → After layout words words b b p Stopped []
+  pub still : (b : Behind) (p : ℕ) → IsSound (world_on layout words b) → p < layout.processes → b.situation p ≡ Stopped → After layout words words b b p Stopped [] []
   still b p sound low at =
       let fits : StoppedFits (world_on layout words b) p = subst (λ (s : Situation). CallFits (world_on layout words b) p s) at (sound.calls p low) in
       after_none layout words b p Stopped [] sound at (nothing_kept layout (b.buffer p) fits.buffer)
@@ -50,7 +65,7 @@ module _ (layout : Layout) (words : List ℕ) where
   -- it comes to rest: by a stop, or it has stopped
   record Rested (first b : Behind) (p : ℕ) : Type 0 where
     behind : Behind
-    after : After layout words words b behind p Stopped []
+    after : After layout words words b behind p Stopped [] []
     by : Stops layout words first behind
 
   -- whatever it does
@@ -66,10 +81,10 @@ module _ (layout : Layout) (words : List ℕ) where
       by_stop (Editing e) at = runs (λ e'. cc)
       by_stop (Working e) at = runs (λ e'. cc)
       by_stop (Recovering e) at = runs (λ e'. cc)
-      by_stop (Reporting e) at = runs (λ e'. cc)
+      by_stop (Showing e) at = runs (λ e'. cc)
       by_stop (Migrating e) at = runs (λ e'. cc)
 
-  -- the first so many processes have stopped, and what was told stayed true
+  -- the first n processes have stopped, and what was answered stayed true
   pub record Rest (b : Behind) (n : ℕ) : Type 0 where
     pub behind : Behind
     pub by : Stops layout words b behind
@@ -77,12 +92,16 @@ module _ (layout : Layout) (words : List ℕ) where
     pub second : IsSecond (world_on layout words behind)
     pub now : (p : ℕ) → p < n → behind.situation p ≡ Stopped
     pub buffer : (p : ℕ) → p < n → behind.buffer p ≡ []
-    pub told : (q : ℕ) (t : Told) → IsTold (world_on layout words b) q t → IsTold (world_on layout words behind) q t
+    pub told : (e : Seated) → IsPast layout words b e → IsPast layout words behind e
+    pub run : Run behind.origin.opened behind.happened (world_on layout words behind)
+    pub bare : IsBare layout behind
+    pub stood : Stood behind.happened
+    pub from : IsOrigin behind.origin
 
-  first_rest : (b : Behind) (n : ℕ) → n ≤ layout.processes → IsSound (world_on layout words b) → IsSecond (world_on layout words b) → Rest b n
-  first_rest b zero few sound second = record { behind = b; by = none; sound = sound; second = second; now = λ p low. absurd (omega arith); buffer = λ p low. absurd (omega arith); told = λ q t h. h }
-  first_rest b (suc n) few sound second =
-      let r : Rest b n = first_rest b n (omega arith) sound second in
+  first_rest : (b : Behind) (n : ℕ) → n ≤ layout.processes → IsSound (world_on layout words b) → IsSecond (world_on layout words b) → Run b.origin.opened b.happened (world_on layout words b) → IsBare layout b → Stood b.happened → IsOrigin b.origin → Rest b n
+  first_rest b zero few sound second run bare stood from = record { behind = b; by = none; sound = sound; second = second; now = λ p low. absurd (omega arith); buffer = λ p low. absurd (omega arith); told = λ e h. h; run = run; bare = bare; stood = stood; from = from }
+  first_rest b (suc n) few sound second run bare stood from =
+      let r : Rest b n = first_rest b n (omega arith) sound second run bare stood from in
       let one : Rested b r.behind n = comes_to_rest b r.behind n r.by r.sound (omega arith) in record {
         behind = one.behind;
         by = one.by;
@@ -90,19 +109,23 @@ module _ (layout : Layout) (words : List ℕ) where
         second = one.after.second r.second;
         now = λ p low. dite (ℕ_discrete p n) (λ e. ap one.behind.situation e ∙ one.after.now) (λ ne. one.after.others p ne ∙ r.now p (omega arith));
         buffer = λ p low. dite (ℕ_discrete p n) (λ e. ap one.behind.buffer e ∙ one.after.buffer) (λ ne. one.after.other_buffers p ne ∙ r.buffer p (omega arith));
-        told = λ q t h. told_on layout words words r.behind one.behind n Stopped [] one.after q t (r.told q t h);
+        told = λ e h. past_on layout words words r.behind one.behind n Stopped [] [] one.after e (r.told e h);
+        run = ran_on layout words words r.behind one.behind n Stopped [] [] one.after r.run;
+        bare = one.after.bare r.bare;
+        stood = subst Stood (sym one.after.happened) (stood_both one.after.more r.behind.happened (one.after.stood r.sound r.bare) r.stood);
+        from = subst IsOrigin (sym one.after.origin) r.from;
       }
 
   pub record Rests (b : Behind) : Type 0 where
     pub behind : Behind
     pub by : Stops layout words b behind
     pub rests : AtRest layout words behind
-    pub told : (q : ℕ) (t : Told) → IsTold (world_on layout words b) q t → IsTold (world_on layout words behind) q t
+    pub told : (e : Seated) → IsPast layout words b e → IsPast layout words behind e
 
-  pub rests : (b : Behind) → IsSound (world_on layout words b) → IsSecond (world_on layout words b) → Rests b
-  rests b sound second = let r = first_rest b layout.processes (le_refl layout.processes) sound second in record {
+  pub rests : (b : Behind) → IsSound (world_on layout words b) → IsSecond (world_on layout words b) → Run b.origin.opened b.happened (world_on layout words b) → IsBare layout b → Stood b.happened → IsOrigin b.origin → Rests b
+  rests b sound second run bare stood from = let r = first_rest b layout.processes (le_refl layout.processes) sound second run bare stood from in record {
     behind = r.behind;
     by = r.by;
-    rests = record { sound = r.sound; second = r.second; stopped = r.now; buffer = r.buffer };
+    rests = record { sound = r.sound; second = r.second; run = r.run; bare = r.bare; stood = r.stood; from = r.from; stopped = r.now; buffer = r.buffer };
     told = r.told;
   }

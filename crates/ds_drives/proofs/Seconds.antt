@@ -30,7 +30,7 @@ use Rattle.ds_state.specs.Sound.{IsSound}
 use Rattle.ds_state.specs.declared.migration.MigrateStage.{MigrateStage}
 use Rattle.ds_state.specs.declared.migration.MigrateStage.TheVariants.{LoadVersion, LoadOld, StoreNew, FlushNew, BackNew, Swap, FlushVersion, BackVersion, Answer}
 use Rattle.ds_state.specs.declared.situation.Situation.{Situation}
-use Rattle.ds_state.specs.declared.situation.Situation.TheVariants.{Idle, Stopped, Editing, Working, Recovering, Reporting, Migrating}
+use Rattle.ds_state.specs.declared.situation.Situation.TheVariants.{Idle, Stopped, Editing, Working, Recovering, Showing, Migrating}
 use Rattle.ds_drives.specs.Rule.{IsSecond}
 
 -- ---- the oldest entry of a buffer has the class of its word
@@ -95,7 +95,7 @@ in_call w p Stopped x rest h at = none x rest at h.buffer
 in_call w p (Editing e) x rest h at = in_edit w e.edition (edit_of e) (held_at (text_parts e.text) e.refs e.stage) x rest h.buffer (ap w.memory.buffer h.mine ∙ at)
 in_call w p (Working e) x rest h at = in_work w e (work_held e e.stage) x rest h.buffer (ap w.memory.buffer h.mine ∙ at)
 in_call w p (Recovering e) x rest h at = in_recovery w e.process e.announcement e.cell (recovery_held e.cell e.stage) x rest h.buffer (ap w.memory.buffer h.mine ∙ at)
-in_call w p (Reporting e) x rest h at = none x rest (ap w.memory.buffer h.1.mine ∙ at) h.1.buffer
+in_call w p (Showing e) x rest h at = none x rest (ap w.memory.buffer h.1.mine ∙ at) h.1.buffer
 in_call w p (Migrating e) x rest h at = in_migration w p e e.stage x rest h.buffer at
 
 -- ---- the persisted side of the version's word grows
@@ -134,7 +134,7 @@ version_grows w m p Back word sound low t = written_back p t.1.0 t.1.1 w.memory 
 
 -- ---- what both sides of the version's word say
 
--- in a sound world the persisted side of the version's word tells all
+-- in a sound world the persisted side of the version's word says all
 pub both_one : (w : PlainWorld) (before : ℕ) → IsSound w → before ≡ 1 → before ≤ w.memory.persisted Version → (w.memory.cached Version ≡ 1) × (w.memory.persisted Version ≡ 1)
 both_one w before sound is grows =
     let fit = sound.words Version in

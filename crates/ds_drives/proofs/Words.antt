@@ -34,7 +34,7 @@ IsThere words (Flush n) b = 8 * n + 1 < length words
 IsThere words Back [] = ⊥
 IsThere words Back (x ∷ b) = 8 * x.place + 1 < length words
 
--- what the step tells gives the same answer and the same buffer
+-- what the step reports gives the same answer and the same buffer
 pub answer_told : (a : Access ℕ) (b : List (BufferEntry ℕ)) (n : ℕ) → answer a (told a (oldest_of b) n) ≡ answer a n
 answer_told Nothing b n = refl
 answer_told (Load w) b n = refl
@@ -44,7 +44,7 @@ answer_told (SwapIf w o v) b n = refl
 answer_told (Flush w) b n = refl
 answer_told Back b n = refl
 
--- the buffer behind an access is the same by what is told of the word and by the word
+-- the buffer after an access is the same by what is known of the word and by the word
 pub buffer_told : (classes : ℕ → Class) (a : Access ℕ) (b : List (BufferEntry ℕ)) (n : ℕ) → buffer_after classes a b (told a (oldest_of b) n) ≡ buffer_after classes a b n
 buffer_told classes Nothing b n = refl
 buffer_told classes (Load w) b n = refl

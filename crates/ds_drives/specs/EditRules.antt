@@ -12,10 +12,14 @@ use Rattle.ds_state.specs.declared.stage.Outcome.{Outcome}
 use Rattle.ds_state.specs.declared.stage.Stage.{Stage}
 use Rattle.ds_state.specs.declared.stage.Stage.TheVariants.{StoreHeader, Answer}
 use Rattle.ds_state.specs.declared.situation.Situation.TheVariants.{Idle, Editing}
+use Rattle.ds_edit.specs.Begun.{RefersTo}
 use Rattle.ds_edit.specs.EditSteps.{access_at, got_at, rank}
 use Rattle.ds_drives.specs.declared.board.Seated.{Seated}
 use Rattle.ds_drives.specs.declared.board.Deeds.{Deeds}
-use Rattle.ds_drives.specs.declared.board.Told.TheVariants.{Edited}
+use Rattle.ds_formula.specs.Cells.{cell_at}
+use Rattle.ds_core.specs.declared.event.Event.TheVariants.{BeginEdit}
+use Rattle.ds_core.specs.declared.reply.Reply.TheVariants.{Begun}
+use Rattle.ds_drives.specs.declared.board.Told.TheVariants.{Began, Edited}
 use Rattle.ds_drives.specs.Views.{seated, told_also, second_rest}
 use Rattle.ds_drives.specs.Rules.{Rules}
 
@@ -39,6 +43,7 @@ pub record IsFirst (layout : Layout) (e : PlainEditCall) : Type 0 where
   pub sheet : IsSheetOf layout e
   pub edition : e.edition ≡ Second
   pub refs : HasRefs layout.shape e.text e.refs
+  pub only : RefersTo layout.shape e.text e.refs
   pub first : e.stage ≡ StoreHeader
 
 -- the process at a stage of its edit: where only its answer is left, it is idle, and knows the second layout
@@ -52,6 +57,7 @@ edit_rules = record {
   process = λ e. e.process;
   doing = Editing;
   begun = IsFirst;
+  begins = λ layout e. Began (BeginEdit (record { process = e.process; cell = cell_at layout.shape e.cell; text = e.text })) (Begun e.number);
   access = λ layout e. access_at e e.stage;
   next = got_at;
   land = λ e buffer deeds. landed_at e e.stage buffer deeds;

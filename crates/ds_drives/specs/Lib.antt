@@ -2,9 +2,12 @@ pub mod Table
 pub mod Fuses
 pub mod Views
 pub mod Rules
+pub mod History
 pub mod EditRules
 pub mod RecoverRules
 pub mod WorkRules
-pub mod ReportRules
+pub mod ShowRules
 pub mod Rule
+pub mod Starts
 pub mod Machines
+pub mod Looks

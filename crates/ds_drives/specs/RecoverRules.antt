@@ -12,7 +12,9 @@ use Rattle.ds_state.specs.declared.situation.Situation.TheVariants.{Idle, Recove
 use Rattle.ds_recover.specs.RecoverySteps.{access_at, got_at, rank, next_number, end_of, fresh}
 use Rattle.ds_drives.specs.declared.board.Seated.{Seated}
 use Rattle.ds_drives.specs.declared.board.Deeds.{Deeds}
-use Rattle.ds_drives.specs.declared.board.Told.TheVariants.{Recovered}
+use Rattle.ds_core.specs.declared.event.Event.TheVariants.{BeginRecover}
+use Rattle.ds_core.specs.declared.reply.Reply.TheVariants.{Entered}
+use Rattle.ds_drives.specs.declared.board.Told.TheVariants.{Began, Recovered}
 use Rattle.ds_drives.specs.Views.{seated, told_also, second_rest}
 use Rattle.ds_drives.specs.Rules.{Rules}
 
@@ -42,6 +44,7 @@ recover_rules = record {
   process = λ e. e.process;
   doing = Recovering;
   begun = λ layout e. e ≡ fresh e.process (cells_of layout) layout.processes;
+  begins = λ layout e. Began (BeginRecover e.process) Entered;
   access = λ layout e. access_at e e.stage;
   next = got_at;
   land = λ e buffer deeds. landed_at e e.stage buffer deeds;

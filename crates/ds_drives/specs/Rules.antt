@@ -9,15 +9,17 @@ use Rattle.ds_state.specs.declared.turn.Turn.{Turn}
 use Rattle.ds_state.specs.declared.turn.Turn.TheVariants.{GoesOn, Answers}
 use Rattle.ds_drives.specs.declared.board.Deeds.{Deeds}
 use Rattle.ds_drives.specs.declared.board.Seated.{Seated}
+use Rattle.ds_drives.specs.declared.board.Told.{Told}
 
--- of a call: its process; what that does; that it is before its first step; its access; the call after a step that found
--- a number; the process of a view where the call has come so far: behind the last step its answer is read with it;
--- whether a step that touches a word is left, or it has ended so; that it is one of the sheet; what it may come to
--- without touching a word; what of it stays; how many steps are left
+-- of a call: its process; what that does; that it is before its first step; how it begins; its access; the call after a
+-- step that found a number; the process of a view where the call has come so far: after the last step its answer is
+-- read with it; whether a step that touches a word is left, or it has ended so; that it is one of the sheet; what it
+-- may come to without touching a word; what of it stays; how many steps are left
 pub record Rules (C E : Type 0) : Type 1 where
   pub process : C → ℕ
   pub doing : C → Situation
   pub begun : Layout → C → Type 0
+  pub begins : Layout → C → Told
   pub access : Layout → C → Access Place
   pub next : C → ℕ → C
   pub land : C → List (BufferEntry ℕ) → Deeds → Seated
@@ -33,13 +35,6 @@ pub data Came {C E : Type 0} (r : Rules C E) (layout : Layout) (first : C) : C �
   still : Came r layout first first
   steps : (c : C) (word : ℕ) → Came r layout first c → r.goes c → Came r layout first (r.next c word)
   turns : (c d : C) → Came r layout first c → r.turns layout c d → Came r layout first d
-
--- it came here from its beginning, and what stays of a call stayed
-pub record Ran {C E : Type 0} (r : Rules C E) (layout : Layout) (c : C) : Type 0 where
-  pub first : C
-  pub begun : r.begun layout first
-  pub came : Came r layout first c
-  pub kept : r.stays first c
 
 -- what is left of a call: a step that touches a word; or nothing, where it has ended so
 abbrev pub IsLeft : {C E : Type 0} → Rules C E → C → Turn E → Type 0

@@ -1,6 +1,6 @@
 -- The words of a sheet on a table: word n is the table's words 8n, its cached side, and 8n + 1, its persisted side.
 -- What lies between serves nothing: so two words of the sheet are 64 bytes apart, and no two share a line of a cache.
-use Rattle.std.specs.Prelude.{ℕ, ◌+◌, ◌*◌, ◌<◌, ◌==◌, bit_or, List, [], ◌∷◌, ◌++◌, length, slice_index, Option, Some, None}
+use Rattle.std.specs.Prelude.{ℕ, ◌+◌, ◌*◌, ◌<◌, ◌==◌, bit_or, List, [], ◌∷◌, ◌++◌, length, replicate, slice_index, slice_set, Option, Some, None}
 use prog.Atomic.{either}
 use Rattle.ds_words.specs.declared.access.Class.{Class}
 use Rattle.ds_words.specs.declared.access.Class.TheVariants.{Stamped, Bit, Owned}
@@ -10,7 +10,9 @@ use Rattle.ds_words.specs.declared.access.Access.TheVariants.{Nothing, Load, Sto
 use Rattle.ds_words.specs.declared.words.TheConstants.{BUFFER_ENTRIES}
 use Rattle.ds_words.specs.Memory.{Memory, newer}
 use Rattle.ds_layout.specs.declared.place.Place.{Place}
-use Rattle.ds_layout.specs.Places.{class_of}
+use Rattle.ds_layout.specs.declared.layout.Layout.{Layout}
+use Rattle.ds_layout.specs.declared.place.Place.TheVariants.{Version}
+use Rattle.ds_layout.specs.Places.{class_of, number_of, words_of}
 
 -- the table's words as a memory, with these buffers
 abbrev pub two_sided : List ℕ → (ℕ → List (BufferEntry ℕ)) → Memory ℕ
@@ -58,13 +60,13 @@ answer (Load n) found = found
 answer (SwapIf n expected value) found = found
 answer _ found = 0
 
--- what the table tells of its step: the number found, or, where it stores, the number stored
+-- what the table reports of its step: the number found, or, where it stores, the number stored
 abbrev pub told_back : Class → ℕ → ℕ → ℕ
 told_back Stamped found value = found
 told_back Bit found value = found
 told_back Owned found value = value
 
--- what a call of the table tells of an access, with the oldest entry of the buffer, where the word is this
+-- what a call of the table reports of an access, with the oldest entry of the buffer, where the word is this
 abbrev pub told : Access ℕ → Option (BufferEntry ℕ) → ℕ → ℕ
 told (Store n value) oldest found = value
 told Back None found = found
@@ -87,7 +89,7 @@ abbrev pub HasRoom : Access ℕ → List (BufferEntry ℕ) → Type 0
 HasRoom (Flush n) buffer = length buffer < BUFFER_ENTRIES
 HasRoom _ buffer = Unit {0}
 
--- the word that the access names is one of so many
+-- the word that the access names is one of n
 abbrev pub IsBelow : ℕ → Access ℕ → Type 0
 IsBelow count Nothing = Unit {0}
 IsBelow count (Load n) = n < count
@@ -96,3 +98,7 @@ IsBelow count (Or n bits) = n < count
 IsBelow count (SwapIf n expected value) = n < count
 IsBelow count (Flush n) = n < count
 IsBelow count Back = Unit {0}
+
+-- the words of the table of a new sheet: both sides of the version's word say the second layout, all others are 0
+abbrev pub new_words : Layout → List ℕ
+new_words layout = slice_set (slice_set (replicate (8 * words_of layout) 0) (8 * number_of layout Version) 1) (8 * number_of layout Version + 1) 1

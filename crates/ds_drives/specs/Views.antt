@@ -8,6 +8,7 @@ use Rattle.ds_state.specs.declared.situation.Rest.{Rest}
 use Rattle.ds_state.specs.declared.situation.Situation.{Situation}
 use Rattle.ds_state.specs.declared.situation.Situation.TheVariants.{Idle, Stopped}
 use Rattle.ds_drives.specs.declared.board.Deeds.{Deeds}
+use Rattle.ds_drives.specs.declared.board.HistoryEntry.{HistoryEntry}
 use Rattle.ds_drives.specs.declared.board.Seated.{Seated}
 use Rattle.ds_drives.specs.declared.board.Told.{Told}
 use Rattle.ds_drives.specs.declared.board.View.{View}
@@ -19,17 +20,26 @@ In (y ∷ ys) x = (y ≡ x) ⊎ In ys x
 
 -- ---- what a process has done
 
--- it was told nothing, and took no step
-abbrev pub nothing_done : Deeds
-nothing_done = record { told = []; steps = 0 }
+-- it was answered nothing, and took no step; so much of the history it has seen
+abbrev pub nothing_done : Option (List HistoryEntry) → Deeds
+nothing_done seen = record { told = []; steps = 0; seen = seen }
 
--- it was told one thing more
+-- it was answered all this more
+abbrev pub told_more : Deeds → List Told → Deeds
+told_more d ts = record { told = ts ++ d.told; steps = d.steps; seen = d.seen }
+
+-- it was answered one thing more
 abbrev pub told_also : Deeds → Told → Deeds
-told_also d t = record { told = t ∷ d.told; steps = d.steps }
+told_also d t = record { told = t ∷ d.told; steps = d.steps; seen = d.seen }
 
--- it took so many steps more
-abbrev pub steps_later : Deeds → ℕ → Deeds
-steps_later d n = record { told = d.told; steps = d.steps + n }
+-- it took n steps more, and has then seen this
+abbrev pub steps_later : Deeds → ℕ → List HistoryEntry → Deeds
+steps_later d n seen = record { told = d.told; steps = d.steps + n; seen = Some seen }
+
+-- the history that it has seen, and nothing before it has looked
+abbrev pub seen_so_far : Option (List HistoryEntry) → List HistoryEntry
+seen_so_far None = []
+seen_so_far (Some seen) = seen
 
 -- ---- views
 
@@ -42,13 +52,13 @@ abbrev pub lone : Seated → View
 lone e = record { entries = e ∷ []; past = [] }
 
 -- a process before its first call
-abbrev pub newcomer : Situation → ℕ → Seated
-newcomer s p = seated p s [] nothing_done
+abbrev pub newcomer : Situation → Option (List HistoryEntry) → ℕ → Seated
+newcomer s seen p = seated p s [] (nothing_done seen)
 
--- so many processes, from this one on, before their first call
-abbrev pub newcomers_from : Situation → ℕ → ℕ → List Seated
-newcomers_from s p zero = []
-newcomers_from s p (suc n) = newcomer s p ∷ newcomers_from s (suc p) n
+-- n processes, from this one on, before their first call
+abbrev pub newcomers_from : Situation → Option (List HistoryEntry) → ℕ → ℕ → List Seated
+newcomers_from s seen p zero = []
+newcomers_from s seen p (suc n) = newcomer s seen p ∷ newcomers_from s seen (suc p) n
 
 -- what an idle process of a shared sheet knows: the number of its next edit, and the second layout
 abbrev pub second_rest : ℕ → Rest
@@ -59,18 +69,27 @@ abbrev pub first_now : Bool → Situation
 first_now true = Stopped
 first_now false = Idle (second_rest 0)
 
--- the view that has every process, and this past
-abbrev pub first_view : Bool → ℕ → List Seated → View
-first_view stopped n past = record { entries = newcomers_from (first_now stopped) 0 n; past = past }
+-- what each process has seen at first: of a new sheet all, which is nothing; of one that is opened again it has not looked
+abbrev pub first_seen : Bool → Option (List HistoryEntry)
+first_seen true = None
+first_seen false = Some []
 
--- what was told at the sheets before, where this seat remembers it
+-- the view that has every process, and this past; each has seen this
+abbrev pub whole_view : Bool → Option (List HistoryEntry) → ℕ → List Seated → View
+whole_view stopped seen n past = record { entries = newcomers_from (first_now stopped) seen 0 n; past = past }
+
+-- the view that has every process, and this past, when the table is made
+abbrev pub first_view : Bool → ℕ → List Seated → View
+first_view stopped n past = whole_view stopped (first_seen stopped) n past
+
+-- what was answered at the sheets before, where this seat remembers it
 abbrev pub past_of : Option (Seat ℕ View) → List Seated
 past_of None = []
 past_of (Some s) = s.me.0.past
 
 -- the first process of a view
 abbrev pub first_in : List Seated → Seated
-first_in [] = newcomer Stopped 0
+first_in [] = newcomer Stopped None 0
 first_in (e ∷ es) = e
 
 -- the process of a seat that runs one
@@ -84,12 +103,16 @@ others_in (e ∷ es) = es
 
 -- what the first process of a view has done
 abbrev pub deeds_in : List Seated → Deeds
-deeds_in [] = nothing_done
+deeds_in [] = nothing_done None
 deeds_in (e ∷ es) = e.deeds
 
 -- what the process of a seat with one process has done
 abbrev pub deeds_at : Me ℕ View → Deeds
 deeds_at me = deeds_in me.0.entries
+
+-- the history that the process of a seat with one process has seen
+abbrev pub seen_at : Me ℕ View → List HistoryEntry
+seen_at me = seen_so_far (deeds_at me).seen
 
 -- the first process, alone
 abbrev pub headed : View → View
@@ -112,5 +135,5 @@ abbrev pub bygone : View → View
 bygone v = record { entries = []; past = v.past ++ v.entries }
 
 -- the view has the processes from this one on, before their first call
-abbrev pub HasRest : Situation → ℕ → ℕ → List Seated → View → Type 0
-HasRest s p processes past v = (n : ℕ) × (p + n ≡ processes) × (v ≡ record { entries = newcomers_from s p n; past = past })
+abbrev pub HasRest : Situation → Option (List HistoryEntry) → ℕ → ℕ → List Seated → View → Type 0
+HasRest s seen p processes past v = (n : ℕ) × (p + n ≡ processes) × (v ≡ record { entries = newcomers_from s seen p n; past = past })

@@ -16,7 +16,10 @@ use Rattle.ds_work.specs.WorkTakes.{IsAskedFor}
 use Rattle.ds_work.specs.WorkRank.{steps_left}
 use Rattle.ds_drives.specs.declared.board.Seated.{Seated}
 use Rattle.ds_drives.specs.declared.board.Deeds.{Deeds}
-use Rattle.ds_drives.specs.declared.board.Told.TheVariants.{Worked}
+use Rattle.ds_formula.specs.Cells.{cell_at}
+use Rattle.ds_core.specs.declared.event.Event.TheVariants.{BeginWork}
+use Rattle.ds_core.specs.declared.reply.Reply.TheVariants.{Entered}
+use Rattle.ds_drives.specs.declared.board.Told.TheVariants.{Began, Worked}
 use Rattle.ds_drives.specs.Views.{seated, told_also, second_rest}
 use Rattle.ds_drives.specs.Rules.{Rules}
 
@@ -41,7 +44,7 @@ pub record IsWorkOn (layout : Layout) (e : PlainWorkCall) : Type 0 where
 -- what the work comes to without touching a word: it reads its content, or is offered its entry
 pub data Turned (layout : Layout) (e : PlainWorkCall) : PlainWorkCall → Type 0 where
   stays : IsPlainStep e.stage → Turned layout e e
-  reads : (f : PlainWorkCall) → e.stage ≡ Read → IsReading layout.shape e f → Turned layout e f
+  reads : (f : PlainWorkCall) → IsWork e → e.stage ≡ Read → IsReading layout.shape e f → Turned layout e f
   takes : e.stage ≡ Wait → Turned layout e (offered e (local layout.shape e.content (entry_in e.inputs)))
 
 -- the process at a stage of its work: where only its answer is left, it is idle, and knows the second layout
@@ -61,6 +64,7 @@ work_rules = record {
   process = λ e. e.process;
   doing = Working;
   begun = λ layout e. IsAskedFor layout e.process (second_rest e.next) e.cell e;
+  begins = λ layout e. Began (BeginWork e.process (cell_at layout.shape e.cell)) Entered;
   access = λ layout e. access_at layout.shape e e.stage;
   next = λ e word. next_at e e.stage word;
   land = λ e buffer deeds. landed_at e e.stage buffer deeds;

@@ -1,24 +1,30 @@
 //! The table, its rule, and what a seat knows.
 
-ghost use Rattle.std.specs.Prelude.{◌≡◌, ◌+◌, ◌*◌, ◌<◌, ◌≤◌, ℕ, [], ◌++◌, replicate, length, true, false, IfOk, IfErr};
+ghost use Rattle.std.specs.Prelude.{◌≡◌, ◌+◌, ◌*◌, ◌<◌, ◌≤◌, ℕ, [], ◌++◌, replicate, length, true, false, IfOk, IfErr, List, Option, Some};
 ghost use Rattle.std.specs.Mem.Slots.{slots_items, slots_len, IsFull};
 ghost use Rattle.ds_layout.specs.Places.{AreStartsOf, words_of};
-ghost use Rattle.ds_drives.specs.Views.{HasRest, In, bygone, first_now, first_view, lone, newcomer, past_of, united};
+ghost use Rattle.ds_drives.specs.Views.{HasRest, In, bygone, first_now, first_view, lone, newcomer, past_of, united, whole_view};
+ghost use Rattle.ds_drives.specs.Looks.{BeginsWithAll, Looks};
+ghost use Rattle.ds_drives.specs.declared.board.HistoryEntry.{HistoryEntry};
 ghost use Rattle.ds_drives.specs.Rule.{AreTrue, AtRest, Behind, Closes};
+ghost use Rattle.ds_drives.specs.Table.{new_words};
 
 use crate::kept::KeptTexts;
 use atomic_table::{Closed, Join, Play, Seat, Split, Table, TableRule};
+use ds_core::event::Event;
+use ds_core::reply::Reply;
 use ds_layout::layout::{Layout, Starts};
 use ds_layout::place;
 use ds_state::edit::EditCall;
 use ds_state::recovery::{RecoverCall, RecoveryEnd};
-use ds_state::report::{ReportCall, ReportEnd};
+use ds_state::show::{ShowCall, ShowEnd};
 use ds_state::situation::Situation;
 use ds_state::stage::Outcome;
 use ds_state::work::{WorkCall, WorkEnd};
 use ds_words::access::BufferEntry;
 use std::alloc::{AllocError, Global};
 use std::marker::{Brand, PhantomData};
+use std::snapshot::Snapshot;
 
 /// What a process has done. No value of it is made.
 pub struct Deeds {
@@ -26,6 +32,8 @@ pub struct Deeds {
     pub told: [Told; 0],
     /// How many steps it took.
     pub steps: usize,
+    /// The history of the sheet up to its last step, the last entry first; none before it has looked.
+    pub seen: Option<[HistoryEntry; 0]>,
 }
 
 /// A process of a view. No value of it is made.
@@ -40,23 +48,36 @@ pub struct Seated {
     pub deeds: Deeds,
 }
 
-/// A call that has ended, with all that it loaded, and how it ended. No value of it is made.
+/// What a process did in a history: it began a call, or a call of it was answered. No value of it is made.
 pub enum Told {
-    /// An edit.
+    /// A call began: the event, and its reply.
+    Began(Event, Reply),
+    /// An edit, with all that it loaded, and how it ended.
     Edited(EditCall, Outcome),
     /// A work.
     Worked(WorkCall, WorkEnd),
     /// A recovery.
     Recovered(RecoverCall, RecoveryEnd),
-    /// A report.
-    Reported(ReportCall, ReportEnd),
+    /// A show.
+    Reported(ShowCall, ShowEnd),
+}
+
+/// An entry of a sheet's history: an event, its reply, and the call that it began or answered, if it did. No value
+/// of it is made.
+pub struct HistoryEntry {
+    /// The event.
+    pub event: Event,
+    /// The reply to the event.
+    pub reply: Reply,
+    /// The call that it began, or answered with all that it loaded; else nothing.
+    pub told: [Told; 0],
 }
 
 /// What a seat knows. No value of it is made.
 pub struct View {
     /// The processes that it runs.
     pub entries: [Seated; 0],
-    /// Processes as they were when sheets before this one were closed.
+    /// Processes as they were once: when sheets before this one were closed, or when another seat showed them.
     pub past: [Seated; 0],
 }
 
@@ -70,8 +91,10 @@ pub struct Key {
     pub layout: Layout,
     /// Whether every process is stopped at first.
     pub stopped: bool,
-    /// A seat of a sheet before, which remembers what was told.
+    /// A seat of a sheet before, which remembers what was answered.
     pub before: Option<Place>,
+    /// The words with which it is made, which clauses alone read.
+    pub words: Snapshot<Vec<u64>>,
 }
 
 /// The rule of the table.
@@ -79,29 +102,24 @@ pub struct Law;
 
 impl TableRule<u8, View, Key> for Law {
     ghost use Rattle.ds_drives.specs.Rule.{Ruled};
+    ghost use Rattle.ds_drives.specs.Starts.{start_of};
     ghost use Rattle.ds_drives.specs.Views.{first_view, past_of};
 
-    ghost holds = { λ k s. Ruled k.layout s };
+    ghost holds = { λ k s. Ruled k.layout (start_of k) s };
 
     ghost first = { λ k. first_view k.stopped k.layout.processes (past_of k.before) };
 }
 
-/// Where a step lands: the view after it, by the number found.
+/// Where a step lands: what is so of the number found and of the view after it.
 pub(crate) trait Landing {
     ghost use Rattle.std.specs.Prelude.{ℕ};
     ghost use Rattle.ds_drives.specs.declared.board.View.{View};
 
-    ghost next: { ℕ → View };
-
-    ghost says: { ℕ → Type 0 };
+    ghost lands: { ℕ → View → Type 0 };
 }
 
 impl Landing for Brand {
-    ghost use Rattle.std.specs.Prelude.{[]};
-
-    ghost next = { λ n. record { entries = []; past = [] } };
-
-    ghost says = { λ n. Unit {0} };
+    ghost lands = { λ n v. Unit {0} };
 }
 
 pub(crate) struct Lands<J> {
@@ -111,7 +129,27 @@ pub(crate) struct Lands<J> {
 impl<J: Landing> Play<u8, View> for Lands<J> {
     ghost use Rattle.std.specs.Prelude.{◌≡◌};
 
-    ghost then = { λ st m n m'. (m' ≡ (J.next n, m.1)) × J.says n };
+    ghost then = { λ st m n m'. (m'.1 ≡ m.1) × J.lands n m'.0 };
+}
+
+// A seat looks at the table, and keeps its past.
+struct Opens;
+
+impl Play<u8, View> for Opens {
+    ghost use Rattle.std.specs.Prelude.{◌≡◌};
+    ghost use Rattle.ds_drives.specs.Looks.{Looks};
+
+    ghost then = { λ st m n m'. (m'.1 ≡ m.1) × Looks m.0 m.0.past m'.0 };
+}
+
+// A seat looks at the table, and remembers nobody any more.
+struct Learns;
+
+impl Play<u8, View> for Learns {
+    ghost use Rattle.std.specs.Prelude.{◌≡◌, []};
+    ghost use Rattle.ds_drives.specs.Looks.{Looks};
+
+    ghost then = { λ st m n m'. (m'.1 ≡ m.1) × Looks m.0 [] m'.0 };
 }
 
 // The first process goes to a seat of its own.
@@ -151,7 +189,7 @@ impl Join<View> for Unite {
 #[derive(Drop)]
 pub struct Board {
     pub(crate) table: Table<u8, View, Key, Law, Global>,
-    /// Its sheet.
+    /// The sheet whose words they are.
     pub layout: Layout,
     // Where each kind of words begins: kept, it saves each step the sums.
     pub(crate) starts: Starts,
@@ -162,6 +200,8 @@ pub struct Board {
 }
 
 impl Board {
+    ghost use Rattle.ds_drives.specs.Starts.{start_of};
+
     // The board of a table with the words of a sheet.
     fn of(table: Table<u8, View, Key, Law, Global>, layout: Layout, kept: KeptTexts) -> Board
         requires { (table.shared.table_id.words ≡ 8 * words_of layout) × (table.shared.key.layout ≡ layout) × (table.shared.table_id.slots ≡ 0) }
@@ -177,10 +217,12 @@ impl Board {
     }
 
     /// A board of a new sheet, in the second layout: the version's word says it on both sides, and stays. All
-    /// other words are 0. A seat runs every process. An error is a want of memory.
+    /// other words are 0. A seat runs every process. An error means that an allocation failed.
     pub fn make(alloc: Global, layout: Layout) -> Result<(Board, Place), AllocError>
         ensures layout { IfOk result (λ r. r.0.layout ≡ layout) }
         ensures place { IfOk result (λ r. (r.1.table_id ≡ r.0.table.shared.table_id) × (r.1.me ≡ (first_view false layout.processes [], []))) }
+        ensures made { IfOk result (λ r. r.0.table.shared.key.stopped ≡ false) }
+        ensures words { IfOk result (λ r. r.0.table.shared.key.words.value.items ≡ new_words layout) }
     {
         let kept = KeptTexts::make(alloc, layout.processes)?;
         let count = layout.words() * 8;
@@ -192,24 +234,27 @@ impl Board {
             layout,
             stopped: false,
             before: None,
+            words: Snapshot::of(&words),
         };
         let (table, place) = Table::of_words(alloc, words.as_slice(), &key)?;
         Ok((Board::of(table, layout, kept), place))
     }
 
     /// A board with these words, of a sheet in the second layout, and a seat that runs every process, each of
-    /// which has stopped. The seat of a sheet before, if any, remembers what was told there; where memory is
-    /// wanting it comes back.
+    /// which has stopped. The seat of a sheet before, if any, remembers what was answered there; where an allocation
+    /// fails it comes back. The processes have seen the whole history of the sheet, which begins with what each
+    /// process that is remembered had seen.
     pub fn remake(
         alloc: Global,
         layout: Layout,
-        words: &[u64],
+        words: &Vec<u64>,
         before: Option<Place>,
     ) -> Result<(Board, Place), Option<Place>>
-        requires long { length words.now ≡ 8 * words_of layout }
-        requires rests { (b : Behind) × AtRest layout words.now b × AreTrue layout words.now b (past_of before) }
+        requires long { length words.now.items ≡ 8 * words_of layout }
+        requires rests { (b : Behind) × AtRest layout words.now.items b × AreTrue layout words.now.items b (past_of before) }
         ensures layout { IfOk result (λ r. r.0.layout ≡ layout) }
-        ensures place { IfOk result (λ r. (r.1.table_id ≡ r.0.table.shared.table_id) × (r.1.me ≡ (first_view true layout.processes (past_of before), []))) }
+        ensures place { IfOk result (λ r. (r.1.table_id ≡ r.0.table.shared.table_id) × ((seen : List HistoryEntry) × (r.1.me ≡ (whole_view true (Some seen) layout.processes (past_of before), [])) × BeginsWithAll seen (past_of before))) }
+        ensures words { IfOk result (λ r. r.0.table.shared.key.words.value.items ≡ words.now.items) }
         ensures back { IfErr result (λ s. s ≡ before) }
     {
         let Ok(kept) = KeptTexts::make(alloc, layout.processes) else {
@@ -219,9 +264,13 @@ impl Board {
             layout,
             stopped: true,
             before,
+            words: Snapshot::of(words),
         };
-        match Table::of_words(alloc, words, &key) {
-            Ok((table, place)) => Ok((Board::of(table, layout, kept), place)),
+        match Table::of_words(alloc, words.as_slice(), &key) {
+            Ok((table, mut place)) => {
+                let _found = table.shared.load::<Opens>(&mut place, 0);
+                Ok((Board::of(table, layout, kept), place))
+            }
             Err(_) => Err(key.before),
         }
     }
@@ -230,16 +279,38 @@ impl Board {
     pub fn deal(&self, rest: &mut Place, process: usize, stopped: bool) -> Place
         requires place { (rest.old.table_id ≡ self.now.table.shared.table_id) × (rest.old.me.1 ≡ []) }
         requires low { process < self.now.layout.processes }
-        requires rest { HasRest (first_now stopped) process self.now.layout.processes rest.old.me.0.past rest.old.me.0 }
+        requires rest { (seen : Option (List HistoryEntry)) × HasRest (first_now stopped) seen process self.now.layout.processes rest.old.me.0.past rest.old.me.0 }
         ensures place { (rest.new.table_id ≡ rest.old.table_id) × (rest.new.me.1 ≡ []) }
-        ensures rest { HasRest (first_now stopped) (process + 1) self.now.layout.processes rest.old.me.0.past rest.new.me.0 }
+        ensures rest { (seen : Option (List HistoryEntry)) → HasRest (first_now stopped) seen process self.now.layout.processes rest.old.me.0.past rest.old.me.0 → HasRest (first_now stopped) seen (process + 1) self.now.layout.processes rest.old.me.0.past rest.new.me.0 }
         ensures past { rest.new.me.0.past ≡ rest.old.me.0.past }
-        ensures dealt { (result.table_id ≡ rest.old.table_id) × (result.me ≡ (lone (newcomer (first_now stopped) process), [])) }
+        ensures dealt { result.table_id ≡ rest.old.table_id }
+        ensures alone { (seen : Option (List HistoryEntry)) → HasRest (first_now stopped) seen process self.now.layout.processes rest.old.me.0.past rest.old.me.0 → result.me ≡ (lone (newcomer (first_now stopped) seen process), []) }
     {
+        // The body does not use it: the signature or a clause names it.
         let _process = process;
         let _stopped = stopped;
         let _words = self.layout.words();
         self.table.shared.split_seat::<Behead>(rest)
+    }
+
+    /// A seat of no process, which remembers what another one knows.
+    pub fn note(&self, place: &mut Place) -> Place
+        requires { (place.old.table_id ≡ self.now.table.shared.table_id) × (place.old.me.1 ≡ []) }
+        ensures place { (place.new.table_id ≡ place.old.table_id) × (place.new.me ≡ place.old.me) }
+        ensures note { (result.table_id ≡ place.old.table_id) × (result.me ≡ (bygone place.old.me.0, [])) }
+    {
+        let _words = self.layout.words();
+        self.table.shared.split_seat::<Remember>(place)
+    }
+
+    /// A seat looks at the table, by a load of one word: its processes have then seen all that has happened. It
+    /// remembers nobody any more.
+    pub fn look(&self, place: &mut Place)
+        requires { (place.old.table_id ≡ self.now.table.shared.table_id) × (place.old.me.1 ≡ []) }
+        ensures { (place.new.table_id ≡ place.old.table_id) × (place.new.me.1 ≡ []) × Looks place.old.me.0 [] place.new.me.0 }
+    {
+        let _words = self.layout.words();
+        let _found = self.table.shared.load::<Learns>(place, 0);
     }
 
     /// A seat takes in the processes of another one.
@@ -257,7 +328,7 @@ impl Board {
         requires { (place.table_id ≡ self.table.shared.table_id) × (place.me.1 ≡ []) }
         ensures counts { (slots_len result.0.words ≡ 8 * words_of self.layout) × (slots_len result.0.slots ≡ 0) × IsFull result.0.words }
         ensures past { result.1.me.0.past ≡ place.me.0.past ++ place.me.0.entries }
-        ensures stand { Closes self.layout (slots_items result.0.words) (In place.me.0.entries) (place.me.0.past ++ place.me.0.entries) }
+        ensures stand { Closes self.layout (start_of self.table.shared.key) (slots_items result.0.words) (In place.me.0.entries) (place.me.0.past ++ place.me.0.entries) }
     {
         let _words = self.layout.words();
         let before = self.table.shared.split_seat::<Remember>(&mut place);

@@ -1,11 +1,10 @@
 //! The loop that drives a call.
 
-ghost use Rattle.std.specs.Prelude.{◌≡◌, ℕ, [], MatchOption};
+ghost use Rattle.std.specs.Prelude.{◌≡◌, ◌∷◌, ℕ, [], MatchOption};
 ghost use Rattle.ds_drives.specs.Fuses.{Asked};
-ghost use Rattle.ds_drives.specs.Views.{deeds_at, steps_later};
 ghost use Rattle.ds_drives.specs.Rules.{Came};
 ghost use Rattle.ds_drives.specs.Rule.{Poised};
-ghost use Rattle.ds_drives.specs.Machines.{IsServed, IsSettled, IsBroken};
+ghost use Rattle.ds_drives.specs.Machines.{IsServed, Breaks, Settles};
 
 use crate::board::{Board, Place};
 use crate::fuse::Fuse;
@@ -29,17 +28,18 @@ pub(crate) fn drive<M: Machine, F: Fuse>(
     requires goes { M.rules.goes call.old }
     requires serves { IsServed M.rules board.now.layout call.old [] }
     requires begun { M.rules.begun board.now.layout call.old }
-    requires poised { Poised board.now.layout (steps_later (deeds_at seat.old.me) 0) seat.old.me (M.rules.process call.old) (M.rules.doing call.old) [] }
+    requires poised { Poised board.now.layout (M.rules.begins board.now.layout call.old ∷ []) seat.old.me (M.rules.process call.old) (M.rules.doing call.old) [] }
     requires stays { M.rules.stays call.old call.old }
     ensures seat { (seat.new.table_id ≡ seat.old.table_id) × (seat.new.id ≡ seat.old.id) }
     ensures fits { M.rules.fits board.now.layout call.new }
     ensures stays { M.rules.stays call.old call.new }
     ensures came { Came M.rules board.now.layout call.old call.new }
-    ensures me { MatchOption result ((n : ℕ) × Asked F.said fuse.old fuse.new n 1 × IsBroken M.rules board.now.layout call.old seat.old.me (steps_later (deeds_at seat.old.me) n) seat.new.me) (λ end. (n : ℕ) × Asked F.said fuse.old fuse.new n 0 × IsSettled M.rules board.now.layout (steps_later (deeds_at seat.old.me) n) seat.new.me call.new end) }
+    ensures me { MatchOption result ((n : ℕ) × Asked F.said fuse.old fuse.new n 1 × Breaks M.rules board.now.layout call.old seat.old.me seat.new.me n) (λ end. (n : ℕ) × Asked F.said fuse.old fuse.new n 0 × Settles M.rules board.now.layout call.old seat.old.me seat.new.me call.new end n) }
 {
     let layout = &board.layout;
     call.law(layout);
     let mut buffer: Buffer = ArrayVec::new();
+    let mut begun = false;
     loop {
         match call.turn(layout) {
             Turn::Answers(end) => return Some(end),
@@ -56,10 +56,12 @@ pub(crate) fn drive<M: Machine, F: Fuse>(
             seat,
             layout,
             call,
+            begun,
             &buffer,
             wanted,
             oldest(&buffer),
         );
+        begun = true;
         keep(&mut buffer, class, wanted, found);
         call.got(alloc, board, answer(wanted, found));
     }

@@ -1,13 +1,13 @@
 //! Edits on the board.
 
-ghost use Rattle.std.specs.Prelude.{◌≡◌, ◌<◌, ℕ, [], MatchOption};
+ghost use Rattle.std.specs.Prelude.{◌≡◌, ◌<◌, ℕ, [], MatchOption, Some};
 ghost use Rattle.ds_state.specs.Edits.{IsEdit};
 ghost use Rattle.ds_state.specs.declared.situation.Situation.TheVariants.{Idle};
 ghost use Rattle.ds_drives.specs.EditRules.{IsFirst, edit_rules};
 ghost use Rattle.ds_drives.specs.Fuses.{Asked};
-ghost use Rattle.ds_drives.specs.Views.{deeds_at, lone, second_rest, sole, steps_later};
+ghost use Rattle.ds_drives.specs.Views.{lone, second_rest, seen_at, sole};
 ghost use Rattle.ds_drives.specs.Rules.{Came};
-ghost use Rattle.ds_drives.specs.Machines.{IsBroken, IsSettled};
+ghost use Rattle.ds_drives.specs.Machines.{Breaks, Settles};
 
 use crate::board::{Board, Place};
 use crate::drive::drive;
@@ -27,6 +27,7 @@ use std::alloc::Global;
 fn is_edit(call: &EditCall)
     ensures { IsEdit call.now }
 {
+    // For the proof: reading the field gives its invariant.
     let _stage = call.stage;
 }
 
@@ -38,6 +39,7 @@ impl Machine for EditCall {
     ghost rules = { edit_rules };
 
     fn turn(&self, layout: &Layout) -> Turn<EditEnd> {
+        // The body does not use it: the signature or a clause names it.
         let _layout = layout;
         match self.stage {
             Stage::Answer(how) => Turn::Answers(EditEnd::of(self.processes, self.number, how)),
@@ -46,6 +48,7 @@ impl Machine for EditCall {
     }
 
     fn want(&self, layout: &Layout) -> Access<place::Place> {
+        // The body does not use it: the signature or a clause names it.
         let _layout = layout;
         want(self)
     }
@@ -57,6 +60,7 @@ impl Machine for EditCall {
     }
 
     fn law(&self, layout: &Layout) {
+        // The body does not use it: the signature or a clause names it.
         let _layout = layout;
     }
 }
@@ -72,13 +76,14 @@ impl Board {
         fuse: &mut F,
     ) -> Option<EditEnd>
         requires place { (place.old.table_id ≡ self.now.table.shared.table_id) × (place.old.me ≡ (lone (sole place.old), [])) × ((sole place.old).process ≡ call.old.process) }
+        requires looked { (sole place.old).deeds.seen ≡ Some (seen_at place.old.me) }
         requires idle { (sole place.old).now ≡ Idle (second_rest call.old.number) }
         requires begun { IsFirst self.now.layout call.old }
         ensures place { place.new.table_id ≡ place.old.table_id }
         ensures fits { edit_rules.fits self.now.layout call.new }
         ensures stays { edit_rules.stays call.old call.new }
         ensures came { Came edit_rules self.now.layout call.old call.new }
-        ensures me { MatchOption result ((n : ℕ) × Asked F.said fuse.old fuse.new n 1 × IsBroken edit_rules self.now.layout call.old place.old.me (steps_later (deeds_at place.old.me) n) place.new.me) (λ end. (n : ℕ) × Asked F.said fuse.old fuse.new n 0 × IsSettled edit_rules self.now.layout (steps_later (deeds_at place.old.me) n) place.new.me call.new end) }
+        ensures me { MatchOption result ((n : ℕ) × Asked F.said fuse.old fuse.new n 1 × Breaks edit_rules self.now.layout call.old place.old.me place.new.me n) (λ end. (n : ℕ) × Asked F.said fuse.old fuse.new n 0 × Settles edit_rules self.now.layout call.old place.old.me place.new.me call.new end n) }
     {
         is_edit(call);
         drive(alloc, self, place, call, fuse)

@@ -56,7 +56,7 @@ impl KeptText {
             && self.text.as_slice() == text
     }
 
-    // A copy of the content, and the cells written in it. An error is a want of memory.
+    // A copy of the content, and the cells written in it. An error means that an allocation failed.
     fn copied(&self, alloc: Global) -> Result<(Content, Vec<Cell>), AllocError>
         ensures reads { IfOk result (λ r. Reads self.now.shape self.now.text (plain r.0)) }
         ensures cells { IfOk result (λ r. AreRefs (plain r.0) r.1.items) }
@@ -67,7 +67,7 @@ impl KeptText {
     }
 
     // A copy of the content of this text, on a sheet of this shape, and the cells written in it. None where another
-    // text is kept, or where memory is wanting.
+    // text is kept, or where an allocation fails.
     fn content_of(&self, alloc: Global, shape: Shape, text: &[u8]) -> Option<(Content, Vec<Cell>)>
         ensures reads { IfSome result (λ r. Reads shape text.now (plain r.0)) }
         ensures cells { IfSome result (λ r. AreRefs (plain r.0) r.1.items) }
@@ -90,7 +90,7 @@ pub struct KeptTexts {
 }
 
 impl KeptTexts {
-    /// None is kept yet, for the records of so many processes. An error is a want of memory.
+    /// None is kept yet, for the records of that number of processes. An error means that an allocation failed.
     pub(crate) fn make(alloc: Global, processes: usize) -> Result<KeptTexts, AllocError>
         requires { processes ≤ PROCESSES_MOST }
     {
@@ -102,7 +102,7 @@ impl KeptTexts {
         Ok(KeptTexts { records })
     }
 
-    // Keeps a text for the record of this number, unless one is kept there, or memory is wanting.
+    // Keeps a text for the record of this number, unless one is kept there, or an allocation fails.
     fn keep(&self, alloc: Global, record: usize, kept: KeptText) {
         if let Some(cell) = self.records.get(record) {
             if let Ok(kept) = Box::new(alloc, kept) {
@@ -139,7 +139,7 @@ impl KeptTexts {
 
 impl Board {
     /// Keeps the content of an edit's text for the works that meet this text in the words, where it is a long formula:
-    /// unless one is kept for that record, or memory is wanting. It touches no word, and no clause can tell whether it
+    /// unless one is kept for that record, or an allocation fails. It touches no word, and no clause can say whether it
     /// did.
     pub fn keep(&self, alloc: Global, call: &EditCall, content: Content)
         requires { Reads self.now.layout.shape call.now.text (plain content) }

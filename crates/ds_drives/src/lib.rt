@@ -9,6 +9,6 @@ pub mod fuse;
 pub mod kept;
 mod machine;
 pub mod recover;
-pub mod report;
+pub mod show;
 mod steps;
 pub mod work;

@@ -10,7 +10,7 @@ use ds_state::turn::Turn;
 use ds_words::access::Access;
 use std::alloc::Global;
 
-/// A call of a process: an edit, work, a recovery or a report.
+/// A call of a process: an edit, work, a recovery or a show.
 pub(crate) trait Machine {
     ghost use Rattle.ds_drives.specs.Rules.{IsLeft, Rules};
 
@@ -39,7 +39,7 @@ pub(crate) trait Machine {
         ensures stays { (first : Self) → rules.stays first self.old → rules.stays first self.new }
         ensures fewer { rules.rank self.new < rules.rank self.old };
 
-    /// Its steps are ones that the table's rule allows.
+    /// The steps of the machine are ones that the table's rule allows.
     fn law(&self, layout: &Layout)
         ensures { Lawful rules layout.now };
 }

@@ -1,14 +1,14 @@
 //! Recoveries on the board.
 
-ghost use Rattle.std.specs.Prelude.{◌≡◌, ◌<◌, ℕ, [], MatchOption};
+ghost use Rattle.std.specs.Prelude.{◌≡◌, ◌<◌, ℕ, [], MatchOption, Some};
 ghost use Rattle.ds_layout.specs.Places.{cells_of};
 ghost use Rattle.ds_state.specs.RecoverStages.{IsRecovery};
 ghost use Rattle.ds_recover.specs.RecoverySteps.{fresh};
 ghost use Rattle.ds_drives.specs.RecoverRules.{recover_rules};
 ghost use Rattle.ds_drives.specs.Fuses.{Asked};
-ghost use Rattle.ds_drives.specs.Views.{deeds_at, lone, sole, steps_later};
+ghost use Rattle.ds_drives.specs.Views.{lone, seen_at, sole};
 ghost use Rattle.ds_drives.specs.Rules.{Came};
-ghost use Rattle.ds_drives.specs.Machines.{IsBroken, IsSettled};
+ghost use Rattle.ds_drives.specs.Machines.{Breaks, Settles};
 
 use crate::board::{Board, Place};
 use crate::drive::drive;
@@ -26,6 +26,7 @@ use std::alloc::Global;
 fn is_recovery(call: &RecoverCall)
     ensures { IsRecovery call.now }
 {
+    // For the proof: reading the field gives its invariant.
     let _stage = call.stage;
 }
 
@@ -37,11 +38,13 @@ impl Machine for RecoverCall {
     ghost rules = { recover_rules };
 
     fn turn(&self, layout: &Layout) -> Turn<RecoveryEnd> {
+        // The body does not use it: the signature or a clause names it.
         let _layout = layout;
         effect_of(self)
     }
 
     fn want(&self, layout: &Layout) -> Access<place::Place> {
+        // The body does not use it: the signature or a clause names it.
         let _layout = layout;
         want(self)
     }
@@ -53,6 +56,7 @@ impl Machine for RecoverCall {
     }
 
     fn law(&self, layout: &Layout) {
+        // The body does not use it: the signature or a clause names it.
         let _layout = layout;
     }
 }
@@ -68,12 +72,13 @@ impl Board {
         fuse: &mut F,
     ) -> Option<RecoveryEnd>
         requires place { (place.old.table_id ≡ self.now.table.shared.table_id) × (place.old.me ≡ (lone (sole place.old), [])) × ((sole place.old).process ≡ call.old.process) }
+        requires looked { (sole place.old).deeds.seen ≡ Some (seen_at place.old.me) }
         requires begun { call.old ≡ fresh call.old.process (cells_of self.now.layout) self.now.layout.processes }
         ensures place { place.new.table_id ≡ place.old.table_id }
         ensures fits { recover_rules.fits self.now.layout call.new }
         ensures stays { recover_rules.stays call.old call.new }
         ensures came { Came recover_rules self.now.layout call.old call.new }
-        ensures me { MatchOption result ((n : ℕ) × Asked F.said fuse.old fuse.new n 1 × IsBroken recover_rules self.now.layout call.old place.old.me (steps_later (deeds_at place.old.me) n) place.new.me) (λ end. (n : ℕ) × Asked F.said fuse.old fuse.new n 0 × IsSettled recover_rules self.now.layout (steps_later (deeds_at place.old.me) n) place.new.me call.new end) }
+        ensures me { MatchOption result ((n : ℕ) × Asked F.said fuse.old fuse.new n 1 × Breaks recover_rules self.now.layout call.old place.old.me place.new.me n) (λ end. (n : ℕ) × Asked F.said fuse.old fuse.new n 0 × Settles recover_rules self.now.layout call.old place.old.me place.new.me call.new end n) }
     {
         is_recovery(call);
         drive(alloc, self, place, call, fuse)

@@ -4,6 +4,7 @@ ghost use Rattle.std.specs.Prelude.{◌≡◌, ◌+◌, ◌*◌, ◌<◌, ◌^�
 ghost use Rattle.atomic_table.specs.Table.{Allows};
 ghost use Rattle.ds_words.specs.declared.words.TheConstants.{BUFFER_ENTRIES};
 ghost use Rattle.ds_drives.specs.Rule.{Ruled};
+ghost use Rattle.ds_drives.specs.Starts.{start_of};
 ghost use Rattle.ds_drives.specs.Table.{oldest_of, rest_of, word_of, change, told, answer, buffer_after, class_flushed, HasRoom};
 
 use crate::board::{Key, Landing, Lands, Law, Place, View};
@@ -40,26 +41,26 @@ pub(crate) fn flushed(access: Access<place::Place>) -> Class
     }
 }
 
-/// Makes the access on the table, and answers what its step tells. The call, the layout and the
-/// buffer tell the proof whose step it is.
+/// Makes the access on the table, and answers what its step reports. The call, the layout, the buffer and whether
+/// the call has begun show the proof whose step it is.
 #[inline(always)]
 pub(crate) fn access<J: Landing, M>(
     shared: &Shared<u8, View, Key, Law>,
     seat: &mut Place,
     layout: &Layout,
     call: &M,
+    begun: bool,
     buffer: &Buffer,
     want: Access<usize>,
     oldest: Option<BufferEntry<usize>>,
 ) -> u64
     requires table { seat.old.table_id ≡ shared.now.table_id }
     requires within { (word_of want oldest < shared.now.table_id.words) × (shared.now.table_id.words < 2 ^ 32) }
-    requires step { Allows (Ruled shared.now.key.layout) shared.now.table_id.slots seat.old.id seat.old.me (word_of want oldest) (change want oldest) (λ n m'. (m' ≡ (J.next (told want oldest n), seat.old.me.1)) × J.says (told want oldest n)) }
+    requires step { Allows (Ruled shared.now.key.layout (start_of shared.now.key)) shared.now.table_id.slots seat.old.id seat.old.me (word_of want oldest) (change want oldest) (λ n m'. (m'.1 ≡ seat.old.me.1) × J.lands (told want oldest n) m'.0) }
     ensures seat { (seat.new.table_id ≡ seat.old.table_id) × (seat.new.id ≡ seat.old.id) }
-    ensures landed { seat.new.me ≡ (J.next result, seat.old.me.1) }
-    ensures said { J.says result }
+    ensures landed { (seat.new.me.1 ≡ seat.old.me.1) × J.lands result seat.new.me.0 }
 {
-    let (_layout, _call, _buffer) = (layout, call, buffer);
+    let (_layout, _call, _begun, _buffer) = (layout, call, begun, buffer);
     match want {
         Access::Nothing => shared.load::<Lands<J>>(seat, 0),
         Access::Load(word) => shared.load::<Lands<J>>(seat, 8 * word),
@@ -91,7 +92,7 @@ pub(crate) fn access<J: Landing, M>(
     }
 }
 
-/// What the access answers, where its step told this number.
+/// What the access answers, where its step answered this number.
 #[inline(always)]
 pub(crate) fn answer(want: Access<usize>, found: u64) -> u64
     ensures { result ≡ answer want found }
@@ -103,7 +104,7 @@ pub(crate) fn answer(want: Access<usize>, found: u64) -> u64
     }
 }
 
-/// The buffer after an access whose step told this number, where a word that it flushes is of this class.
+/// The buffer after an access whose step answered this number, where a word that it flushes is of this class.
 #[inline(always)]
 pub(crate) fn keep(buffer: &mut Buffer, class: Class, want: Access<usize>, found: u64)
     requires room { HasRoom want buffer.old.items }

@@ -41,7 +41,7 @@ record_announce : (edition : Edition) (p n k : ℕ) → record_place edition p n
 record_announce edition p n zero = λ same. cc
 record_announce edition p n (suc k) = λ same. cc
 
--- a pending announcement tells no Done, and an ended one tells it of its own edit alone
+-- a pending announcement says no Done, and an ended one says it of its own edit alone
 pub pending_tells : (w : PlainWorld) (p m n : ℕ) → announcement m phase.Pending ≡ announcement n phase.Done → IsKept w p n
 pending_tells w p m n is = absurd (omega arith)
 

@@ -43,7 +43,7 @@ last_after es p n f is =
     let more : n + 1 ≡ suc n = omega arith in
     ap (λ (k : ℕ). last_announcement es p k) more ∙ ap (λ x. announcement n x) is
 
--- an edit's answer leaves the world sound, and what the others count on
+-- an edit's answer leaves the world sound, and what the others rely on
 pub step_answer : (e : PlainEditCall) (word : ℕ) (old new : PlainWorld) → IsSound old → (how : Outcome) → old.situation e.process ≡ Editing (on e (Answer how))
     → (fits : EditFits old e.process (on e (Answer how))) → StepsAt e (Answer how) word old new → Keeps e.process old new
 step_answer e word old new sound how at fits t =

@@ -32,7 +32,7 @@ use Rattle.ds_state.specs.declared.refusal.Refusal.{Refusal}
 use Rattle.ds_state.specs.declared.refusal.Refusal.TheVariants as refusal
 use Rattle.ds_state.specs.declared.stage.Stage.TheVariants.{StoreHeader}
 use Rattle.ds_state.specs.declared.situation.Situation.{Situation}
-use Rattle.ds_state.specs.declared.situation.Situation.TheVariants.{Idle, Stopped, Editing, Working, Recovering, Reporting, Migrating}
+use Rattle.ds_state.specs.declared.situation.Situation.TheVariants.{Idle, Stopped, Editing, Working, Recovering, Showing, Migrating}
 use Rattle.ds_edit.specs.EditTakes.{Begins}
 use Rattle.ds_state.specs.Refusals.{next_edit}
 use Rattle.ds_edit.specs.Begun.{within, RefusesIdle, RefersTo, IsAskedFor, IsIdle, Refuses}
@@ -74,7 +74,7 @@ module _ (v : WorldValue) (e : PlainEditCall) (room : ℕ) (kept : IsReserved v 
   was_idle : IdleFits (world_of v) e.process (rest_before e)
   was_idle = subst (λ (x : Situation). CallFits (world_of v) e.process x) idle (kept.good.sound.calls e.process low)
 
-  -- the edit does not count, so it is none that was answered
+  -- the edit is not linearized, so it is none that was answered
   issued_open : (f : PlainEdit) (issue : PlainIssue) → Contains v.counted f → (world_of (issued v e)).open_edits f.process ≡ Some issue → issue.edit ≡ f → (world_of v).open_edits f.process ≡ Some issue
   issued_open f issue there at is = elim (cases_eq f.process e.process) [
     | inl mine ↦ (
@@ -149,7 +149,7 @@ refuses_of w process text Stopped r at is = rw at (let same : r ≡ refusal.Stop
 refuses_of w process text (Editing e) r at is = rw at (let same : r ≡ refusal.Busy = cc in same)
 refuses_of w process text (Working e) r at is = rw at (let same : r ≡ refusal.Busy = cc in same)
 refuses_of w process text (Recovering e) r at is = rw at (let same : r ≡ refusal.Busy = cc in same)
-refuses_of w process text (Reporting e) r at is = rw at (let same : r ≡ refusal.Busy = cc in same)
+refuses_of w process text (Showing e) r at is = rw at (let same : r ≡ refusal.Busy = cc in same)
 refuses_of w process text (Migrating e) r at is = rw at (let same : r ≡ refusal.Busy = cc in same)
 
 -- the refusal that the answer to a text without a content is

@@ -36,7 +36,7 @@ use Rattle.ds_state.specs.EditEndings.{outcome_at}
 pub editing_from : (v : WorldValue) (p : ℕ) (e : PlainEditCall) (read : Situation) → p < length v.situations → read ≡ get_or v.situations p read → read ≡ Editing e → IsEditing v p e
 editing_from v p e read lt is here = record { there = lt; is = get_or_default v.situations p (Idle first_rest) read lt ∙ sym is ∙ here }
 
--- what comes to count at a stage is nothing, or the edit
+-- what is linearized at a stage is nothing, or the edit
 pub counted_cases : (e : PlainEdit) (s : Stage) (word : ℕ) → (counted_at e s word ≡ []) ⊎ (counted_at e s word ≡ e ∷ [])
 counted_cases e (Swap noted) word = won (word == noted)
   where
@@ -45,12 +45,12 @@ counted_cases e (Swap noted) word = won (word == noted)
     won false = inl refl
 counted_cases e _ word = inl refl
 
--- an edit goes on to no report
-no_report : (e : PlainEditCall) (s : Stage) (word : ℕ) → reports_in (after e s word) ≡ 0
-no_report e (Answer how) word = refl
-no_report e _ word = refl
+-- an edit goes on to no show
+no_show : (e : PlainEditCall) (s : Stage) (word : ℕ) → reports_in (after e s word) ≡ 0
+no_show e (Answer how) word = refl
+no_show e _ word = refl
 
--- which stage a step's outcome tells
+-- which stage a step's outcome says
 pub answers_at : (s : Stage) (how : Outcome) → outcome_at s ≡ Some how → s ≡ Answer how
 answers_at (Answer how') how is = let same : how' ≡ how = cc in ap (λ h. Answer h) same
 answers_at _ how is = absurd (cc)
@@ -113,7 +113,7 @@ module _ (v : WorldValue) (g : IsGood v) (p : ℕ) (e : PlainEditCall) (at : IsE
     next_sound : IsSound (world_of next)
     next_sound = (step_sound e word (world_of v) (world_of next) g.sound low_own here steps).sound
 
-    -- what was answered Done counts, and is answered for good
+    -- what was answered Done is linearized, and is answered for good
     grown : (f : PlainEdit) → Contains v.counted f → Contains (world_of next).counted f
     unfolding next
     grown f there = Contains-append_left v.counted (counted_at (edit_of e) e.stage word) f there
@@ -155,12 +155,12 @@ module _ (v : WorldValue) (g : IsGood v) (p : ℕ) (e : PlainEditCall) (at : IsE
         open_edits = length-set v.open_edits p (open_edit_at (get_or v.open_edits p None) e.stage) ∙ g.open_edits ∙ ap (λ (l : Layout). l.processes) (sym layout);
         reports = rw layout g.reports;
         answered = by_outcome (outcome_at e.stage) refl;
-        counts = no_more v.situations p (after e e.stage word) v.settled _ at.there (no_report e e.stage word) g.counts;
+        counts = no_more v.situations p (after e e.stage word) v.settled _ at.there (no_show e e.stage word) g.counts;
       };
       reserved = (let same = ap (λ (l : Layout). l.processes) layout in omega arith);
     }
 
-    -- an edit that comes to count finds room
+    -- an edit that is linearized finds room
     pub next_room : (room noted : ℕ) → v.sheet.layout.processes * RECORDS ≤ room → e.stage ≡ Swap noted → word ≡ noted → length v.counted < room
     unfolding next
     next_room room noted reserved is same =

@@ -8,7 +8,7 @@ use Rattle.ds_state.specs.WordsFit.{IsSuperseded}
 use Rattle.ds_state.proofs.Heads.{of_cell-append, of_cell-own, cell_of-middle}
 use Rattle.ds_edit.specs.Early.{StandsUndone, Swings}
 
--- an edit that has another one behind it in its cell is not the last
+-- an edit that has another one after it in its cell is not the last
 passed : (w : PlainWorld) (by e : PlainEdit) (before after : List PlainEdit) → of_cell by.cell w.counted ≡ before ++ by ∷ (after ++ e ∷ []) → IsSuperseded w by.process by.number
 passed w by e before [] parts = record { edit = by; process_is = refl; number_is = refl; before = before; next = e; after = []; parts = parts }
 passed w by e before (x ∷ after) parts = record { edit = by; process_is = refl; number_is = refl; before = before; next = x; after = after ++ e ∷ []; parts = parts }

@@ -3,14 +3,14 @@ use Rattle.std.proofs.Common.{ℕ, ◌≡◌, ◌<◌, List, [], ◌∷◌, refl
 use Rattle.std.specs.Prelude.{Contains, Bool, if◌then◌else◌}
 use Rattle.std.proofs.lemmas.List.Elements.{Contains-append_cases}
 use Rattle.ds_state.specs.Edits.{PlainEditCall, IsEdit}
-use Rattle.ds_state.specs.Works.{PlainReportCall}
+use Rattle.ds_state.specs.Works.{PlainShowCall}
 use Rattle.ds_state.specs.World.{PlainEdit, PlainWorld, edit_of}
 use Rattle.ds_state.specs.CallsFit.{IsSheetOf, HasRefs}
 use Rattle.ds_state.specs.Leaves.{Leaves}
 use Rattle.ds_state.specs.Sound.{IsSound}
 use Rattle.ds_state.specs.declared.stage.Stage.{Stage}
 use Rattle.ds_state.specs.declared.stage.Stage.TheVariants.{Swap, Answer}
-use Rattle.ds_state.specs.declared.situation.Situation.TheVariants.{Editing, Reporting}
+use Rattle.ds_state.specs.declared.situation.Situation.TheVariants.{Editing, Showing}
 use Rattle.ds_state.proofs.Leaves.{leaves_of, leaves_same, middles_left}
 use Rattle.ds_state.proofs.Spent.{swap_law}
 use Rattle.ds_edit.specs.EditSteps.{wins}
@@ -18,10 +18,10 @@ use Rattle.ds_edit.specs.EditTakes.{Steps, Begins, after, counted_at}
 use Rattle.ds_edit.proofs.Answering.{begin_sound}
 use Rattle.ds_edit.proofs.Sound.{step_sound}
 
--- it is no report
-no_report : (e : PlainEditCall) (s : Stage) (word : ℕ) (f : PlainReportCall) → after e s word ≡ Reporting f → ⊥
-no_report e (Answer how) word f is = cc
-no_report e s word f is = cc
+-- it is no show
+no_show : (e : PlainEditCall) (s : Stage) (word : ℕ) (f : PlainShowCall) → after e s word ≡ Showing f → ⊥
+no_show e (Answer how) word f is = cc
+no_show e s word f is = cc
 
 nothing : (d : PlainEdit) → Contains [] d → ⊥
 nothing d h = omega (arith, h.1)
@@ -31,7 +31,7 @@ one_of true c d (zero, lt, is) = is
 one_of true c d (suc k, lt, is) = absurd (omega (arith, lt))
 one_of false c d h = absurd (nothing d h)
 
--- what comes to count by a step is the edit, at its swap
+-- what is linearized by a step is the edit, at its swap
 record IsSwapped (e : PlainEditCall) (s : Stage) (d : PlainEdit) : Type 0 where
   noted : ℕ
   at : s ≡ Swap noted
@@ -52,10 +52,10 @@ edit_leaves e word old new sound real was t =
           let s : IsSwapped e e.stage d = swapped e e.stage word d added in
           inr (sym (ap (λ (x : PlainEdit). x.process) s.is), λ n spent. subst (λ (x : PlainEdit). n < x.number) s.is (swap_law old e s.noted n sound real was s.at spent)))
     ])
-    (middles_left e.process old new k (λ f is. no_report e e.stage word f (sym t.situation ∙ is)))
+    (middles_left e.process old new k (λ f is. no_show e e.stage word f (sym t.situation ∙ is)))
 
 -- what the begin of an edit leaves is what a process's doing leaves
 pub begin_leaves : (e : PlainEditCall) (old new : PlainWorld) → IsSound old → IsEdit e → IsSheetOf old.layout e → HasRefs old.layout.shape e.text e.refs → Begins e old new → Leaves e.process old new
 begin_leaves e old new sound is sheet refs b =
     let k = begin_sound e old new sound is sheet refs b in
-    leaves_same e.process old new k b.counted (middles_left e.process old new k (λ f now. let both : Editing e ≡ Reporting f = sym b.situation ∙ now in cc))
+    leaves_same e.process old new k b.counted (middles_left e.process old new k (λ f now. let both : Editing e ≡ Showing f = sym b.situation ∙ now in cc))

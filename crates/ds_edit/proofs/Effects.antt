@@ -24,7 +24,7 @@ after_same e (Swap noted) word is = either (λ what. after_by e word what) (afte
 after_same e (Answer how) word is = refl
 after_same e s word is = ap (λ x. Editing (record e { stage = next_at e x word })) is
 
--- the same, of what comes to count
+-- the same, of what is linearized
 pub counted_same : (e : PlainEdit) (s : Stage) (word : ℕ) → counted_by e (effect_at s word) ≡ counted_at e s word
 counted_same e (Swap noted) word = won (word == noted)
   where
@@ -43,7 +43,7 @@ pub outcome_same : (s : Stage) (word : ℕ) → outcome_by (effect_at s word) �
 outcome_same (Swap noted) word = either (λ what. outcome_by what) (outcome_at (Swap noted)) (word == noted) refl refl
 outcome_same _ word = refl
 
--- only a swap that wins makes an edit count
+-- only a swap that wins linearizes an edit
 pub counts_swaps : (s : Stage) (word : ℕ) → effect_at s word ≡ Counts → (noted : ℕ) × (s ≡ Swap noted) × (word ≡ noted)
 counts_swaps (Swap noted) word is = elim (eqb_tells word noted) [
   | inl same ↦ (noted, refl, same.1)

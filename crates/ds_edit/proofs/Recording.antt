@@ -73,7 +73,7 @@ no_head : (edition : Edition) (p n k cell : ℕ) → Head cell ≢ record_place 
 no_head edition p n zero cell = λ same. cc
 no_head edition p n (suc k) cell = λ same. cc
 
--- the record of an edit that does not count
+-- the record of an edit that is not linearized
 unrecorded : (w : PlainWorld) (edition : Edition) (p n k c v : ℕ) → AreBelow w p n → WordFits w (record_place edition p n k) c v
 unrecorded w edition p n zero c v below = λ f there i j l. let h = All-contains (λ (f : PlainEdit). f.process ≡ p → f.number < n) w.counted f below there i in absurd (omega arith)
 unrecorded w edition p n (suc k) c v below = λ now f there i j l. let h = All-contains (λ (f : PlainEdit). f.process ≡ p → f.number < n) w.counted f below there i in absurd (omega arith)
@@ -181,7 +181,7 @@ module _ (e : PlainEditCall) (s : Stage) (word : ℕ) (old new : PlainWorld) (so
       let f : Framed old new = framed Version moves mine (flush_any e.process old new moves sound (buffered old sound) mine (text_same old new moves.layout tn.counted) place m) in
       quiet_sound e.process old new tn sound moves f.bears f.stand f.apart (keeps_at Version moves) (λ l. fits_next e s word old new t fits plain small (unheld (λ r. m.cached (Mark r))) known held)
 
-  -- it is written back, with so many behind it
+  -- it is written back, with n after it
   pub backs : (left k : ℕ) → left ≤ text_parts e.text → k ≡ text_parts e.text - left → next_at e s word ≡ back_from left
       → Knowing old e.edition (edit_of e) e.refs fits.since (writing (suc (text_parts e.text)) k) → Holds old e.edition (edit_of e) (record_words k (suc left))
       → WritesBack e.process (record_entry e.edition (edit_of e) k) (map (record_entry e.edition (edit_of e)) (range_with_len (k + 1) left)) old.memory new.memory

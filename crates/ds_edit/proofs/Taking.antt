@@ -139,7 +139,7 @@ module _ (e : PlainEditCall) (word : ℕ) (old new : PlainWorld) (sound : IsSoun
             let same = ap head_after_all all in
             omega arith
 
-    -- the edit comes to count
+    -- the edit is linearized
     pub step_swap_won : old.situation e.process ≡ Editing (on e (Swap noted)) → StepsAt e (Swap noted) word old new → word ≡ noted
         → StoresAt (place.Head e.cell) (head_after e noted) old.memory new.memory → Keeps e.process old new
     step_swap_won at t same m =

@@ -97,7 +97,7 @@ module _ (w : PlainWorld) (sound : IsSound w) (e : PlainEdit) (since : ℕ) wher
     overtakes noted seen h.head,
   )
 
--- in a sound world an edit that is to answer Done counts, and one that is to answer Overtaken doesn't
+-- in a sound world an edit that is to answer Done is linearized, and one that is to answer Overtaken doesn't
 pub answer_true : (e : PlainEditCall) (how : Outcome) (w : PlainWorld) → IsSound w → e.process < w.layout.processes → e.stage ≡ Answer how → w.situation e.process ≡ Editing e → IsTrueAnswer w (edit_of e) how
 answer_true e how w sound low first at =
     let fits : EditFits w e.process e = subst (λ (x : Situation). CallFits w e.process x) at (sound.calls e.process low) in

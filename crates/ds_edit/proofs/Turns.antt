@@ -35,7 +35,7 @@ Known_on w e since s = Knowing w e.edition (edit_of e) e.refs since (known_at (t
 abbrev pub Holds_on : PlainWorld → PlainEditCall → Stage → Type 0
 Holds_on w e s = Holds w e.edition (edit_of e) (held_at (text_parts e.text) e.refs s)
 
--- a step before the answer, by which nothing comes to count
+-- a step before the answer, by which nothing is linearized
 pub record IsPlainStep (e : PlainEditCall) (s : Stage) (word : ℕ) : Type 0 where
   pub goes_on : after e s word ≡ Editing (on e (next_at e s word))
   pub counts : counted_at (edit_of e) s word ≡ []
@@ -49,7 +49,7 @@ noted_after e _ word = refl
 pub is_within : (e : PlainEditCall) (s : Stage) (w : PlainWorld) → EditFits w e.process (on e s) → e.process < w.layout.processes
 is_within e s w fits = rw fits.sheet.processes fits.is.process
 
--- in a sound world both sides say the layout that an edit counts on
+-- in a sound world both sides say the layout that an edit relies on
 pub noted_of : (e : PlainEditCall) (s : Stage) (w : PlainWorld) → IsSound w → w.situation e.process ≡ Editing (on e s) → EditFits w e.process (on e s) → Agrees w.memory e.edition
 noted_of e s w sound at fits = subst (λ (x : Situation). LayoutFits w e.process x) at (sound.layouts e.process (is_within e s w fits))
 

@@ -7,7 +7,7 @@ use Rattle.ds_state.specs.declared.stage.Outcome.TheVariants as outcome
 use Rattle.ds_state.specs.declared.stage.Stage.{Stage}
 use Rattle.ds_state.specs.declared.stage.Stage.TheVariants.{FlushNoted, BackNoted, OrDone, FlushDone, BackDone, Swap, StoreOutcome, FlushOutcome, BackOutcome, Answer}
 
--- before an edit's swap the head that it noted is still its cell's, and after it the edit counts
+-- before an edit's swap the head that it noted is still its cell's, and after it the edit is linearized
 abbrev pub IsAloneAt : PlainWorld → ℕ → Stage → Type 0
 IsAloneAt w cell (FlushNoted head) = head_word head ≡ w.memory.cached (place.Head cell)
 IsAloneAt w cell (BackNoted head) = head_word head ≡ w.memory.cached (place.Head cell)

@@ -14,7 +14,7 @@ use Rattle.ds_state.specs.CallsFit.{IsSheetOf, HasRefs}
 use Rattle.ds_state.specs.declared.refusal.Refusal.{Refusal}
 use Rattle.ds_state.specs.declared.refusal.Refusal.TheVariants as refusal
 use Rattle.ds_state.specs.declared.situation.Situation.{Situation}
-use Rattle.ds_state.specs.declared.situation.Situation.TheVariants.{Idle, Stopped, Editing, Working, Recovering, Reporting, Migrating}
+use Rattle.ds_state.specs.declared.situation.Situation.TheVariants.{Idle, Stopped, Editing, Working, Recovering, Showing, Migrating}
 use Rattle.ds_edit.specs.EditTakes.{Begins}
 use Rattle.ds_layout.specs.declared.place.Edition.{Edition}
 use Rattle.ds_formula.specs.declared.fault.TextFault.{TextFault}
@@ -57,7 +57,7 @@ pub data FaultsIn (shape : Shape) (edition : Edition) (text : List ℕ) (fault :
   too_long : most_in edition < length text → fault ≡ record { kind = TooLong; offset = most_in edition } → FaultsIn shape edition text fault
   within : length text ≤ most_in edition → Faults shape text fault → FaultsIn shape edition text fault
 
--- why an idle process that knows this may not begin its edit, to the text: memory is wanting where a text that its
+-- why an idle process that knows this may not begin its edit, to the text: an allocation fails where a text that its
 -- layout has room for is read, or, with records left, for its references
 abbrev pub RefusesIdle : Shape → Rest → List ℕ → Refusal → Type 0
 RefusesIdle shape next text refusal.Busy = ⊥
@@ -75,7 +75,7 @@ RefusesIn shape text Stopped r = r ≡ refusal.Stopped
 RefusesIn shape text (Editing e) r = r ≡ refusal.Busy
 RefusesIn shape text (Working e) r = r ≡ refusal.Busy
 RefusesIn shape text (Recovering e) r = r ≡ refusal.Busy
-RefusesIn shape text (Reporting e) r = r ≡ refusal.Busy
+RefusesIn shape text (Showing e) r = r ≡ refusal.Busy
 RefusesIn shape text (Migrating e) r = r ≡ refusal.Busy
 
 -- why a process of this world may not begin an edit to the text

@@ -13,7 +13,7 @@ pub record StandsUndone (w : PlainWorld) (cell : ℕ) (by : PlainEdit) : Type 0 
   pub head : IsHeadBy (of_cell cell w.counted) (w.memory.cached (Head cell)) by
   pub undone : IsDone w by.process by.number → ⊥
 
--- the edit swings its cell's head, which is this one, from whichever stage: it counts then
+-- the edit swings its cell's head, which is this one, from whichever stage: it is linearized then
 pub record Swings (e : PlainEditCall) (head : ℕ) (old new : PlainWorld) : Type 0 where
   pub memory : PerformsAt (access_at e (Swap head)) e.process old.memory new.memory head
   pub counted : new.counted ≡ old.counted ++ edit_of e ∷ []

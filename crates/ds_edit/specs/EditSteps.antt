@@ -70,32 +70,32 @@ access_at e (FlushOutcome how) = Flush (place.Announce e.process)
 access_at e (BackOutcome how) = Back
 access_at e (Answer how) = Nothing
 
--- the stage that stores this part of the text; behind the last part, the header's flush
+-- the stage that stores this part of the text; after the last part, the header's flush
 abbrev pub store_from : PlainEditCall → ℕ → Stage
 store_from e part = if nat_lt part (text_parts e.text) then StoreText part else FlushHeader
 
--- the stage that flushes this part of the text; behind the last part, the first write-back
+-- the stage that flushes this part of the text; after the last part, the first write-back
 abbrev pub flush_from : PlainEditCall → ℕ → Stage
 flush_from e part = if nat_lt part (text_parts e.text) then FlushText part else BackRecord (text_parts e.text)
 
--- the stage behind a write-back, with so many entries left: the next one, or the announcement
+-- the stage after a write-back, with n entries left: the next one, or the announcement
 abbrev pub back_from : ℕ → Stage
 back_from left = if left == 0 then StorePending else BackRecord (left - 1)
 
--- the stage that indexes this reference; behind the last one, the load of the head
+-- the stage that indexes this reference; after the last one, the load of the head
 abbrev pub index_from : PlainEditCall → ℕ → Stage
 index_from e i = if nat_lt i (length e.refs) then OrIndex i else LoadHead
 
--- the stage behind the load of the head: the edit that is found is helped; where there is none, the swap
+-- the stage after the load of the head: the edit that is found is helped; where there is none, the swap
 abbrev pub help_from : ℕ → Option Head → Stage
 help_from noted None = Swap noted
 help_from noted (Some head) = FlushNoted head
 
--- whether a swap that expects this head and sees that one makes its edit count: where they are the same
+-- whether a swap that expects this head and sees that one linearizes its edit: where they are the same
 abbrev pub wins : ℕ → ℕ → Bool
 wins noted seen = seen == noted
 
--- the stage behind the swap: where it won, the head is the edit's own now; else the edit does not count
+-- the stage after the swap: where it won, the head is the edit's own now; else the edit is not linearized
 abbrev pub swung_from : PlainEditCall → ℕ → ℕ → Stage
 swung_from e noted seen = if wins noted seen then FlushOwn (head_after e noted) else StoreOutcome (outcome.Overtaken noted seen)
 
@@ -133,7 +133,7 @@ next_at e (Answer how) word = Answer how
 abbrev pub got_at : PlainEditCall → ℕ → PlainEditCall
 got_at e word = record e { stage = next_at e e.stage word }
 
--- how many steps are left at most at a stage, the answer's among them, with so many parts and references
+-- how many steps are left at most at a stage, the answer's among them, with that number of parts and references
 abbrev pub rank_in : ℕ → ℕ → Stage → ℕ
 rank_in parts refs StoreHeader = 22 + 3 * refs + 3 * parts
 rank_in parts refs (StoreText part) = 21 + 3 * refs + 3 * parts - part

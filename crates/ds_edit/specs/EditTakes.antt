@@ -24,7 +24,7 @@ use Rattle.ds_state.specs.declared.situation.Rest.{Rest}
 abbrev pub rest_before : PlainEditCall → Rest
 rest_before e = record { number = e.number; edition = e.edition }
 
--- what it knows behind it: the next number
+-- what it knows after it: the next number
 abbrev pub rest_behind : PlainEditCall → Rest
 rest_behind e = record { number = e.number + 1; edition = e.edition }
 
@@ -33,7 +33,7 @@ abbrev pub after : PlainEditCall → Stage → ℕ → Situation
 after e (Answer how) word = Idle (rest_behind e)
 after e stage word = Editing (record e { stage = next_at e stage word })
 
--- what counts by the step: the edit, where its swap finds the head that it noted
+-- what is linearized by the step: the edit, where its swap finds the head that it noted
 abbrev pub counted_at : PlainEdit → Stage → ℕ → List PlainEdit
 counted_at e (Swap noted) word = if wins noted word then e ∷ [] else []
 counted_at e stage word = []
@@ -43,7 +43,7 @@ abbrev pub open_edit_at : Option PlainIssue → Stage → Option PlainIssue
 open_edit_at issue (Answer how) = None
 open_edit_at issue stage = issue
 
--- what a step at this stage does, whose access answered the word: the edit counts where its swap wins
+-- what a step at this stage does, whose access answered the word: the edit is linearized where its swap wins
 abbrev pub effect_at : Stage → ℕ → Effect
 effect_at (Swap noted) word = if wins noted word then Counts else GoesOn
 effect_at (Answer how) word = Answers how
@@ -55,7 +55,7 @@ after_by e word GoesOn = Editing (got_at e word)
 after_by e word Counts = Editing (got_at e word)
 after_by e word (Answers how) = Idle (rest_behind e)
 
--- what counts by a step of this effect
+-- what is linearized by a step of this effect
 abbrev pub counted_by : PlainEdit → Effect → List PlainEdit
 counted_by e GoesOn = []
 counted_by e Counts = e ∷ []

@@ -17,7 +17,7 @@ ghost use Rattle.ds_edit.specs.Early.{StandsUndone, Swings};
 ghost use Rattle.ds_layout.specs.SheetMemory.{CanPerform};
 
 /// Each step of an edit, whatever the word that its access answers, leaves a sound sheet sound, and
-/// leaves each other process what it may count on.
+/// leaves each other process what it may rely on.
 #[tactic(auto, using(crate::proofs::Sound::step_sound))]
 pub fn steps_keep_soundness()
     ensures { (e : PlainEditCall) (word : ℕ) (old new : PlainWorld) → IsSound old
@@ -32,8 +32,8 @@ pub fn begins_keep_soundness()
         → Begins e old new → Keeps e.process old new }
 {}
 
-/// An edit that answers Done counts; one that answers Overtaken does not, and the head that it met
-/// is that of an edit of its cell which came to count since it was issued.
+/// An edit that answers Done is linearized; one that answers Overtaken is not, and the head that it met
+/// is that of an edit of its cell which was linearized since it was issued.
 #[tactic(auto, using(crate::proofs::Truth::answer_true))]
 pub fn answers_are_true()
     ensures { (e : PlainEditCall) (how : Outcome) (w : PlainWorld) → IsSound w
@@ -51,7 +51,7 @@ pub fn accesses_are_possible()
 {}
 
 /// Each step of an edit, and its beginning, leave the others what is theirs. What a step adds to the
-/// edits that count is that edit, whose number was not spent; and each report under way still has a
+/// linearized edits is that edit, whose number was not spent; and each show under way still has a
 /// middle.
 pub fn edits_leave_others()
     ensures steps { (e : PlainEditCall) (word : ℕ) (old new : PlainWorld) → IsSound old
@@ -63,7 +63,7 @@ pub fn edits_leave_others()
 {}
 
 /// An edit that swung its cell's head before the done bit of the edit which it replaces is persisted
-/// would leave no sound world, whatever else is so. Behind `set 1 A1 9`, `begin 0 set A1 5` and
+/// would leave no sound world, whatever else is so. After `set 1 A1 9`, `begin 0 set A1 5` and
 /// `run 0 to indexed` the head of A1 is the first edit's, and the bit is not set; the second edit has
 /// yet to help it.
 pub fn early_swings_are_unsound()

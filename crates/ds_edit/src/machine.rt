@@ -11,7 +11,6 @@ ghost use Rattle.ds_state.specs.CallsFit.{IsSheetOf};
 ghost use Rattle.ds_state.specs.World.{done_place};
 ghost use Rattle.ds_edit.specs.EditSteps.{access_at, next_at, got_at, head_after, announced, reference_place, header_place, text_place, store_from, flush_from, back_from, index_from, help_from, wins, swung_from, rank, Falls};
 ghost use Rattle.ds_edit.specs.EditTakes.{effect_at};
-ghost use Rattle.ds_state.specs.EditEndings.{outcome_at};
 
 use ds_layout::announcement::{Announcement, Phase};
 use ds_layout::bits;
@@ -29,7 +28,7 @@ use ds_words::access::Access;
 pub enum Effect {
     /// The edit goes on.
     GoesOn,
-    /// The edit counts from now on, and goes on.
+    /// The edit is linearized from now on, and goes on.
     Counts,
     /// The edit has ended so: its process answers that, and is idle.
     Answers(Outcome),
@@ -201,7 +200,7 @@ fn help_from(call: &EditCall, noted: u64) -> Stage
     }
 }
 
-// Whether a swap that expects this head and sees that one makes its edit count.
+// Whether a swap that expects this head and sees that one linearizes its edit.
 #[inline(always)]
 fn wins(noted: u64, seen: u64) -> bool
     ensures { result ≡ wins noted seen }
@@ -269,17 +268,6 @@ pub fn effect_of(stage: Stage, word: u64) -> Effect
         }
         Stage::Answer(how) => Effect::Answers(how),
         _ => Effect::GoesOn,
-    }
-}
-
-/// How the edit ended, where the step at this stage is its last one.
-#[inline(always)]
-pub fn outcome_of(stage: Stage) -> Option<Outcome>
-    ensures { result ≡ outcome_at stage }
-{
-    match stage {
-        Stage::Answer(how) => Some(how),
-        _ => None,
     }
 }
 

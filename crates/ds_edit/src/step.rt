@@ -30,7 +30,7 @@ fn call_of(situation: &Situation) -> Option<&EditCall>
     match situation {
         Situation::Editing(call) => Some(call),
         Situation::Idle(_) | Situation::Stopped => None,
-        Situation::Working(_) | Situation::Recovering(_) | Situation::Reporting(_) => None,
+        Situation::Working(_) | Situation::Recovering(_) | Situation::Showing(_) => None,
         Situation::Migrating(_) => None,
     }
 }
@@ -54,7 +54,7 @@ fn go_on(situation: &mut Situation, what: Effect, word: u64)
     }
 }
 
-// What the step does to the list of counted edits.
+// What the step does to the list of linearized edits.
 #[inline(always)]
 fn count(counted: &mut Vec<Edit>, situation: &Situation, what: Effect)
     requires { what ≡ Counts → length counted.old.items < vec_capacity counted.old }
@@ -122,7 +122,7 @@ fn edit_on(world: &mut World, process: usize, stage: Stage, access: Access<Place
 }
 
 /// A process makes the next step of its edit, and what that did to it. Where it has none, or the sheet has no such
-/// process, the step can not happen and nothing changes.
+/// process, the step cannot happen and nothing changes.
 pub fn step(world: &mut World, process: usize) -> Option<Turn<EditEnd>>
     ensures { StepTakes world.old process result world.new }
 {

@@ -242,7 +242,7 @@ pub record IsBegun (shape : Shape) (k : ℕ) (table : List Input) : Type 0 where
 pub begun_none : (shape : Shape) (xs : List Input) → xs ≡ [] → IsBegun shape 0 xs
 begun_none shape xs e = record { each = ap length e; cells = λ j l. absurd (omega arith) }
 
--- the next cell of the sheet is behind all entries of the first k cells
+-- the next cell of the sheet is after all entries of the first k cells
 pub begun_behind : (shape : Shape) (k : ℕ) (xs : List Input) (c : Cell) → IsBegun shape k xs → c ≡ cell_at shape k → IsBehind xs c
 begun_behind shape k xs c b e = record {
   behind = λ j l. rw (b.cells j (omega (arith, b.each)), e) (ascends shape j k (omega (arith, b.each)));

@@ -66,7 +66,7 @@ module _ (xs : List Input) (a : IsAscending xs) where
 
 -- ---- a row, cell by cell
 
--- one cell more of a row: its value behind those of the others
+-- one cell more of a row: its value after those of the others
 pub row_values : (read : Cell → Value) (vs : List Value) (first : Cell) (k : ℕ)
     → (vs ++ map read (row_from first k)) ++ read (right_of first k) ∷ [] ≡ vs ++ map read (row_from first (k + 1))
 row_values read vs first k =
@@ -144,7 +144,7 @@ one_row_more area columns row first e =
     ap (first_cells area columns) (let x : columns * (row + 1) ≡ columns * row + columns = omega (arith, mul-suc columns row) in x)
     ∙ row_so_far area columns row columns first e (omega arith)
 
--- one row more of a range: its values behind those of the rows before
+-- one row more of a range: its values after those of the rows before
 pub rows_values : (read : Cell → Value) (vs : List Value) (area : Rect) (columns row : ℕ) (first : Cell) → first ≡ record { column = area.first.column; row = area.first.row + row }
     → (vs ++ map read (first_cells area columns (columns * row))) ++ map read (row_from first columns) ≡ vs ++ map read (first_cells area columns (columns * (row + 1)))
 rows_values read vs area columns row first e =

@@ -142,15 +142,15 @@ number_totals w vs z t u m h =
 blank_totals : (w : Wants) (vs : List Value) (t : Totals) → AreTotals w (numbers vs) t → AreTotals w (numbers (vs ++ Blank ∷ [])) t
 blank_totals w vs t h = subst (λ (xs : List ℤ). AreTotals w xs t) (sym (numbers_skip vs Blank refl)) h
 
--- a number behind values leaves their first error
+-- a number after values leaves their first error
 pub number_error : (vs : List Value) (z : ℤ) → first_error (vs ++ Number z ∷ []) ≡ first_error vs
 number_error vs z = error_push vs (Number z) ∙ or_none (first_error vs)
 
--- a blank behind values leaves their first error
+-- a blank after values leaves their first error
 pub blank_error : (vs : List Value) → first_error (vs ++ Blank ∷ []) ≡ first_error vs
 blank_error vs = error_push vs Blank ∙ or_none (first_error vs)
 
--- the totals with one number more are those of the values with that number behind them
+-- the totals with one number more are those of the values with that number after them
 pub number_counted : (w : Wants) (vs : List Value) (z : ℤ) (t u : Totals) → IsMore w z t u → AreCounted w vs t → AreCounted w (vs ++ Number z ∷ []) u
 number_counted w vs z t u m h = record { no_error = number_error vs z ∙ h.no_error; sums = number_totals w vs z t u m h.sums }
 
@@ -158,7 +158,7 @@ number_counted w vs z t u m h = record { no_error = number_error vs z ∙ h.no_e
 pub blank_counted : (w : Wants) (vs : List Value) (t : Totals) → AreCounted w vs t → AreCounted w (vs ++ Blank ∷ []) t
 blank_counted w vs t h = record { no_error = blank_error vs ∙ h.no_error; sums = blank_totals w vs t h.sums }
 
--- a tally's totals with one number more are of the values with that number behind them
+-- a tally's totals with one number more are of the values with that number after them
 pub number_more : (w : Wants) (vs : List Value) (z : ℤ) (t : Tally) (u : Totals) → IsMore w z t.totals u → IsTally w vs t → IsTally w (vs ++ Number z ∷ []) (record { totals = u; error = t.error })
 number_more w vs z t u m h = record {
   error = h.error ∙ sym (number_error vs z);
@@ -185,9 +185,9 @@ error_more w vs v t u f e h =
       totals = λ none. absurd (never_none (first_error vs) v (sym pushed ∙ none));
     }
 
--- ---- behind an error
+-- ---- after an error
 
--- the first error among values stays the first, whatever comes behind them
+-- the first error among values stays the first, whatever comes after them
 pub error_stays : (vs ws : List Value) (e : Value) → first_error vs ≡ Some e → first_error (vs ++ ws) ≡ Some e
 error_stays [] ws e h = absurd cc
 error_stays (Blank ∷ vs) ws e h = error_stays vs ws e h
@@ -196,7 +196,7 @@ error_stays (DivZero ∷ vs) ws e h = h
 error_stays (Num ∷ vs) ws e h = h
 error_stays (Circular ∷ vs) ws e h = h
 
--- the first error, behind values that have none
+-- the first error, after values that have none
 pub first_here : (vs : List Value) (v : Value) → first_error (v ∷ []) ≡ Some v → first_error vs ≡ None → first_error (vs ++ v ∷ []) ≡ Some v
 first_here vs v f none = error_push vs v ∙ ap (λ (o : Option Value). first_or o (first_error (v ∷ []))) none ∙ f
 
@@ -208,7 +208,7 @@ some_error : (o : Option Value) → is_some o ≡ true → o ≡ no_error → �
 some_error None e n = cc
 some_error (Some v) e n = cc
 
--- behind an error nothing counts
+-- after an error nothing is used
 pub after_error : (w : Wants) (vs ws : List Value) (t : Tally) → is_some t.error ≡ true → IsTally w vs t → IsTally w (vs ++ ws) t
 after_error w vs ws t e h =
     let same = still vs ws t.error e h.error in

@@ -1,4 +1,4 @@
--- A content as a list of marks, from which it is built again: by this a proof tells contents apart.
+-- A content as a list of marks, from which it is built again: by this a proof distinguishes contents.
 use Rattle.std.specs.Prelude.{ℕ, zero, suc, ℤ, pos, ◌≡◌, List, [], ◌∷◌, refl}
 use Rattle.std.specs.Coded.{Coded, code_by, coded×, coded_list, coded_ℕ, coded_ℤ}
 use Rattle.ds_formula.specs.declared.content.Sign.{Sign}
@@ -17,7 +17,7 @@ Mark = (ℕ × ℤ) × ((ℕ × ℕ) × (ℕ × ℕ))
 abbrev pub mark : ℕ → ℤ → ℕ → ℕ → ℕ → ℕ → Mark
 mark kind z a b c d = ((kind, z), ((a, b), (c, d)))
 
--- marks can be told apart
+-- marks can be distinguished
 abbrev pub mark_code : Coded Mark
 mark_code = coded× (coded× coded_ℕ coded_ℤ) (coded× (coded× coded_ℕ coded_ℕ) (coded× coded_ℕ coded_ℕ))
 
@@ -154,7 +154,7 @@ abbrev pub then : List Part → List Part
 then (One f ∷ Many fs ∷ parts) = Many (Then f fs) ∷ parts
 then parts = parts
 
--- what a mark of this kind, with these numbers, makes of the parts behind it
+-- what a mark of this kind, with these numbers, makes of the parts after it
 abbrev pub put_kind : ℕ → ℤ → ℕ → ℕ → ℕ → ℕ → List Part → List Part
 put_kind zero z a b c d parts = One (Literal z) ∷ parts
 put_kind (suc zero) z a b c d parts = One (At (record { column = a; row = b })) ∷ parts
@@ -165,7 +165,7 @@ put_kind (suc (suc (suc (suc (suc zero))))) z a b c d parts = apply (function_of
 put_kind (suc (suc (suc (suc (suc (suc zero)))))) z a b c d parts = Many Nothing ∷ parts
 put_kind other z a b c d parts = then parts
 
--- what a mark makes of the parts behind it
+-- what a mark makes of the parts after it
 abbrev pub put : Mark → List Part → List Part
 put m parts = put_kind m.0.0 m.0.1 m.1.0.0 m.1.0.1 m.1.1.0 m.1.1.1 parts
 
@@ -217,6 +217,6 @@ of_marks-to_marks Empty = refl
 of_marks-to_marks (Constant z) = refl
 of_marks-to_marks (Computed f) = rw (build-marks f []) refl
 
--- contents can be told apart
+-- contents can be distinguished
 abbrev pub plain_code : Coded PlainContent
 plain_code = code_by ((ℕ × ℤ) × List Mark) (coded× (coded× coded_ℕ coded_ℤ) (coded_list mark_code)) to_marks of_marks of_marks-to_marks

@@ -32,11 +32,11 @@ width shape area = min (area.last.column + 1) shape.columns - area.first.column
 abbrev pub height : Shape → Rect → ℕ
 height shape area = min (area.last.row + 1) shape.rows - area.first.row
 
--- the cell with this number of a range that is so many columns wide, row by row from the left
+-- the cell with this number of a range that is n columns wide, row by row from the left
 abbrev pub cell_of : Rect → ℕ → ℕ → Cell
 cell_of area columns k = record { column = area.first.column + k % columns; row = area.first.row + k / columns }
 
--- so many cells of a range that is so many columns wide, row by row from the left
+-- n cells of a range that is m columns wide, row by row from the left
 abbrev pub first_cells : Rect → ℕ → ℕ → List Cell
 first_cells area columns zero = []
 first_cells area columns (suc k) = first_cells area columns k ++ cell_of area columns k ∷ []
@@ -116,7 +116,7 @@ applied functions.Not all = with_number (operand 0 all) negated
 abbrev pub most_arguments : ℕ
 most_arguments = 255
 
--- whether a function of the list is called with so many arguments as it takes (the reader gives no other call)
+-- whether a function of the list is called with as many arguments as it takes (the reader gives no other call)
 abbrev pub is_computed : List Function → Function → ℕ → Bool
 is_computed functions g n = knows functions g && (takes g n && nat_le n most_arguments)
 

@@ -53,6 +53,6 @@ with_entry inputs k entry = slice_set inputs k (record { cell = cell_in inputs k
 pub record IsAscending (inputs : List Input) : Type 0 where
   pub ascend : (j k : ℕ) → j < k → k < length inputs → IsBefore (cell_in inputs j) (cell_in inputs k)
 
--- the cell is behind all inputs
+-- the cell is after all inputs
 pub record IsBehind (inputs : List Input) (cell : Cell) : Type 0 where
   pub behind : (k : ℕ) → k < length inputs → IsBefore (cell_in inputs k) cell

@@ -7,11 +7,11 @@ use Rattle.ds_eval.specs.declared.tally.CellErrors.{CellErrors}
 use Rattle.ds_eval.specs.Inputs.{values_in}
 use Rattle.ds_eval.specs.Evaluation.{as_seen}
 
--- the cell so many columns to the right
+-- the cell n columns to the right
 abbrev pub right_of : Cell → ℕ → Cell
 right_of first k = record { column = first.column + k; row = first.row }
 
--- the cell and those to its right, so many of them
+-- the cell and those to its right, n of them
 abbrev pub row_from : Cell → ℕ → List Cell
 row_from first zero = []
 row_from first (suc k) = row_from first k ++ right_of first k ∷ []

@@ -13,8 +13,8 @@ abbrev pub zeros : List ℤ → ℕ
 zeros [] = 0
 zeros (n ∷ ns) = (if int_eq n (pos 0) then 1 else 0) + zeros ns
 
--- there are so many numbers; and so far as that is wanted, with so many zeros, with this sum, with this least or this greatest one; where
--- there are none, these are the greatest and the least that a number could be
+-- there are n numbers; and so far as that is wanted, with m zeros, with this sum, with this least or this greatest one;
+-- where there are none, these are the greatest and the least that a number could be
 pub record AreTotals (wants : Wants) (ns : List ℤ) (totals : Totals) : Type 0 where
   pub count : totals.count ≡ length ns
   pub zeros : wants ≡ Zeros → totals.zeros ≡ zeros ns

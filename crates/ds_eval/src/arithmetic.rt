@@ -161,7 +161,7 @@ fn chosen(condition: Value) -> Result<bool, Value>
 }
 
 /// IF (OpenFormula 6.15.4): the value of one of two branches, by the condition. An error in the condition goes
-/// before both, and one in the other branch counts for nothing.
+/// before both, and one in the other branch adds nothing.
 pub fn choice(condition: Value, then_value: Value, else_value: Value) -> Value
     ensures { result ≡ branch condition then_value else_value }
 {

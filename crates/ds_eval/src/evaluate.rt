@@ -253,7 +253,7 @@ fn operand(arguments: &[Tree], k: usize, shape: Shape, inputs: &Inputs) -> Entry
     }
 }
 
-// The values of the arguments. A branch of IF that is not chosen counts for the height, and so it is read too; its value
+// The values of the arguments. A branch of IF that is not chosen adds to the height, and so it is read too; its value
 // is dropped, an error included.
 #[cycle(evaluation)]
 fn operands_of(arguments: &[Tree], shape: Shape, inputs: &Inputs) -> Operands

@@ -54,7 +54,7 @@ impl Gathered {
         }
     }
 
-    /// With one more value, at a height one more than its cell's.
+    /// What is gathered with one more value, at a height one more than its cell's.
     pub fn with(self, wants: Wants, value: Value, height: usize) -> Gathered
         requires { self.tally.totals.count < 2 ^ 32 }
         ensures tally { (vs : List values.Value) → IsTally wants vs self.tally → IsTally wants (vs ++ value ∷ []) result.tally }
@@ -75,7 +75,7 @@ pub fn raised(height: usize, most: usize) -> usize
     if height < most { height + 1 } else { most }
 }
 
-// The entry of the cell so many columns to the right of the first one, which has this place where the whole row is
+// The entry of the cell n columns to the right of the first one, which has this place where the whole row is
 // there.
 fn entry_right_of(inputs: &Inputs, place: Option<usize>, first: Cell, k: usize) -> Entry
     requires column { first.column + k < COLUMNS_MOST }
@@ -92,7 +92,7 @@ fn entry_right_of(inputs: &Inputs, place: Option<usize>, first: Cell, k: usize) 
     }
 }
 
-// The greater of a height and one more than the greatest height in a row of so many columns.
+// The greater of a height and one more than the greatest height in a row of n columns.
 fn height_with_row(
     inputs: &Inputs,
     most: usize,
@@ -116,7 +116,7 @@ fn height_with_row(
     height.max(raised(greatest, most))
 }
 
-// The totals with the values of a row of so many columns, or the first error there that is heeded. A loop of its own is
+// The totals with the values of a row of n columns, or the first error there that is heeded. A loop of its own is
 // faster than one with the heights.
 #[inline(always)]
 fn totals_with_row(
@@ -151,7 +151,7 @@ fn totals_with_row(
     Ok(sum)
 }
 
-// The same, in a loop that knows what is wanted and that the whole row is there, where it is.
+// The row's values, in a loop that knows what is wanted and that the whole row is there, where it is.
 #[inline(always)]
 fn wanted_with_row(
     inputs: &Inputs,
@@ -213,7 +213,7 @@ fn wanted_with_row(
     }
 }
 
-// The tally with the values of a row of so many columns.
+// The tally with the values of a row of n columns.
 fn tally_with_row(
     inputs: &Inputs,
     fold: Fold,
@@ -244,7 +244,7 @@ fn tally_with_row(
     }
 }
 
-// With the cells of a row of so many columns, which is looked for at this place first.
+// What is gathered with the cells of a row of n columns, which is looked for at this place first.
 fn with_row(
     inputs: &Inputs,
     fold: Fold,
@@ -267,7 +267,7 @@ fn with_row(
     }
 }
 
-/// With the cells of a range. From the height on at which references lead round and round no more values are read.
+/// What is gathered with the cells of a range. Values are read up to the height at which references lead round.
 pub fn with_range(
     shape: Shape,
     inputs: &Inputs,

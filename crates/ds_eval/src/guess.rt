@@ -1,4 +1,4 @@
-//! A first table, guessed by a visit of each cell behind the cells that are written in it.
+//! A first table, guessed by a visit of each cell after the cells that are written in it.
 //!
 //! Nothing is said of its entries, and nobody needs to trust the order: rounds of evaluation confirm them.
 
@@ -204,7 +204,7 @@ fn visit(
     Ok(())
 }
 
-/// An entry for each cell, each evaluated behind the cells written in it, or circular where references lead back to it.
+/// An entry for each cell, each evaluated after the cells written in it, or circular where references lead back to it.
 /// It fails only where an allocation is refused.
 pub fn guessed(alloc: Global, sheet: &Sheet) -> Result<Inputs, AllocError>
     ensures { IfOk result (λ t. IsTable sheet.now.shape t.items) }

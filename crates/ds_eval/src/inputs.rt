@@ -50,7 +50,7 @@ impl Model for Inputs {
 }
 
 impl Inputs {
-    /// No inputs, with room for so many. It fails only where that memory is refused.
+    /// No inputs, with room for that number. It fails only where that memory is refused.
     pub fn with_capacity(alloc: Global, count: usize) -> Result<Inputs, AllocError>
         ensures items { IfOk result (λ inputs. inputs.items ≡ []) }
         ensures room { IfOk result (λ inputs. count ≤ inputs.room) }
@@ -58,7 +58,7 @@ impl Inputs {
         Inputs::by_columns(alloc, count, 0)
     }
 
-    /// No inputs, with room for so many. They are found faster where they become all cells of a sheet of so many columns.
+    /// No inputs, with room for that number. They are found faster where they become all cells of a sheet of n columns.
     pub fn by_columns(alloc: Global, count: usize, columns: usize) -> Result<Inputs, AllocError>
         ensures items { IfOk result (λ inputs. inputs.items ≡ []) }
         ensures room { IfOk result (λ inputs. count ≤ inputs.room) }
@@ -69,7 +69,7 @@ impl Inputs {
         })
     }
 
-    /// One more input, whose cell stands behind all that are there. It takes no memory.
+    /// One more input, whose cell stands after all that are there. It takes no memory.
     pub fn push(&mut self, input: Input)
         requires room { length self.old.items < self.old.room }
         requires behind { IsBehind self.old.items input.cell }
@@ -163,7 +163,7 @@ impl Inputs {
         }
     }
 
-    // The entry of the input so many behind the one with this number.
+    // The entry of the input that lies n after the one with this number.
     pub(crate) fn at(&self, place: usize, k: usize) -> Entry
         requires { place + k < length self.now.items }
         ensures { result ≡ entry_in self.now.items (cell_in self.now.items (place + k)) }
@@ -187,7 +187,7 @@ impl Inputs {
         }
     }
 
-    // From which place on the inputs are this cell and those to its right, so many as the width says. This place is
+    // From which place on the inputs are this cell and those to its right, as many as the width says. This place is
     // tried first; `None` where one of the cells is missing.
     pub(crate) fn row_at(&self, first: Cell, width: usize, near: usize) -> Option<usize>
         requires { first.column + width ≤ COLUMNS_MOST }

@@ -78,8 +78,8 @@ pub fn values_stay()
     ensures { (old new : List Function) (shape : shapes.Shape) (read : cells.Cell → values.Value) (content : PlainContent) → ContentCallsOnly old content → content_value_with old shape read content ≡ content_value_with (old ++ new) shape read content }
 {}
 
-/// So of the first seven functions and of all: a content without COUNT, AND, OR and NOT, as that of each text which was
-/// read without them, has the value that it had without them.
+/// The law for the first seven functions and for all: a content without COUNT, AND, OR and NOT, as that of each text
+/// which was read without them, has the value that it had without them.
 pub fn first_values_stay()
     ensures called { (shape : shapes.Shape) (read : cells.Cell → values.Value) (content : PlainContent) → ContentCallsOnly first_functions content → content_value_with first_functions shape read content ≡ content_value shape read content }
     ensures read { (shape : shapes.Shape) (text : List ℕ) (content : PlainContent) (read : cells.Cell → values.Value) → ReadsIn (scope_with first_functions shape) text content → content_value_with first_functions shape read content ≡ content_value shape read content }

@@ -99,7 +99,7 @@ impl Totals {
     ghost use Rattle.ds_eval.specs.declared.tally.Wants.TheVariants as wanted;
     ghost use Rattle.ds_eval.specs.Tally.{AreTotals};
 
-    /// Those of no numbers.
+    /// The totals of no numbers.
     pub fn new() -> Totals
         ensures totals { (wants : Wants) → AreTotals wants [] result }
         ensures count { result.count ≡ 0 }
@@ -195,7 +195,7 @@ impl Totals {
         }
     }
 
-    /// Those with one more number, as far as they are wanted.
+    /// The totals with one more number, as far as they are wanted.
     pub fn with(self, wants: Wants, number: i64) -> Totals
         requires { self.count < 2 ^ 32 }
         ensures count { result.count ≡ self.count + 1 }
@@ -214,7 +214,7 @@ impl Totals {
     }
 }
 
-/// The numbers among some values, or the first error among them, behind which nothing counts.
+/// The numbers among some values, or the first error among them, after which nothing is used.
 #[derive(Clone, Copy, Debug)]
 pub struct Tally {
     /// What is wanted of the numbers, as long as there is no error.
@@ -241,7 +241,7 @@ impl Tally {
         }
     }
 
-    /// With one more value: a blank is left out.
+    /// The tally with one more value: a blank is left out.
     pub fn with(self, wants: Wants, value: Value) -> Tally
         requires { self.totals.count < 2 ^ 32 }
         ensures tally { (vs : List values.Value) → IsTally wants vs self → IsTally wants (vs ++ value ∷ []) result }

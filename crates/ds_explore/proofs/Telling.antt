@@ -4,14 +4,14 @@ use Rattle.std.proofs.lemmas.List.{take_all}
 use Rattle.std.proofs.KnownBytes.{Consumes-all}
 use Rattle.std.specs.Prelude.{◌-◌, ◌^◌}
 use Rattle.std.specs.Io.KnownBytes.{Consumes}
-use Rattle.ds_streams.specs.Input.{EndsWith}
-use Rattle.ds_streams.specs.declared.input.InputEnd.{InputEnd}
-use Rattle.ds_streams.specs.declared.input.InputEnd.TheVariants as inputs
-use Rattle.ds_streams.specs.declared.ending.ScriptEnd.TheVariants as ends
-use Rattle.ds_play.specs.Script.{Finishes, Concludes}
-use Rattle.ds_stops.specs.declared.reach.Short.{Short}
-use Rattle.ds_stops.specs.declared.reach.Short.TheVariants as shorts
-use Rattle.ds_stops.specs.Reaching.{FallsShort}
+use Rattle.ds_script_io.specs.Input.{EndsWith}
+use Rattle.ds_script_io.specs.declared.input.InputEnd.{InputEnd}
+use Rattle.ds_script_io.specs.declared.input.InputEnd.TheVariants as inputs
+use Rattle.ds_script_io.specs.declared.ending.ScriptEnd.TheVariants as ends
+use Rattle.ds_script.specs.Script.{Finishes, Concludes}
+use Rattle.ds_script_stops.specs.declared.reach.Short.{Short}
+use Rattle.ds_script_stops.specs.declared.reach.Short.TheVariants as shorts
+use Rattle.ds_script_stops.specs.Reaching.{FallsShort}
 use Rattle.ds_formula.specs.declared.cells.Shape.{Shape}
 use Rattle.ds_explore.specs.declared.lines.FoundLine.{FoundLine}
 use Rattle.ds_explore.specs.declared.flaw.Flaw.{Flaw}
@@ -54,7 +54,7 @@ explores_none script shorts.NoMemory h = refl
 pub lines_none : (shape : Shape) (text : List ℕ) → text ≡ [] → IsLines shape text
 lines_none shape text is = subst (λ (t : List ℕ). IsLines shape t) (sym is) no_line
 
--- one line more, behind the text of those before
+-- one line more, after the text of those before
 pub lines_more : (shape : Shape) (text bytes new : List ℕ) (line : FoundLine) → IsLines shape text → bytes ≡ line_text shape line → new ≡ text ++ bytes → IsLines shape new
 lines_more shape text bytes new line lines is e =
     subst (λ (t : List ℕ). IsLines shape t) (sym (e ∙ ap (λ (t : List ℕ). text ++ t) is)) (one_line_more text line lines)
@@ -63,7 +63,7 @@ lines_more shape text bytes new line lines is e =
 pub wrong_none : (text : List ℕ) → text ≡ [] → IsWrong false text
 wrong_none text is = subst (λ (t : List ℕ). IsWrong false t) (sym is) right
 
--- one flaw more, behind the text of those before
+-- one flaw more, after the text of those before
 pub wrong_more : (flawed : Bool) (text line new : List ℕ) (flaw : Flaw) → IsWrong flawed text → line ≡ wrong_text flaw → new ≡ text ++ line → IsWrong true new
 wrong_more flawed text line new flaw wrongs is e =
     subst (λ (t : List ℕ). IsWrong true t) (sym (e ∙ ap (λ (t : List ℕ). text ++ t) is)) (one_flaw_more flawed text flaw wrongs)
@@ -80,7 +80,7 @@ outcome_of shape script longer given at orders flawed text goes is block = recor
   block = subst (λ (n : ℕ). IsBlock n orders longer flawed text) (add-one at) (subst (λ (s : List ℕ). IsBlock (at + 1) orders s flawed text) is block);
 }
 
--- one outcome more behind the others
+-- one outcome more after the others
 pub outcomes_more : (script : List ℕ) (count orders more sum : ℕ) (wrong flawed : Bool) (out text new : List ℕ) → AreOutcomes script (suc count) orders wrong out → IsOutcome script (suc (count + 1)) more flawed text
     → sum ≡ orders_joined orders more → new ≡ out ++ text → AreOutcomes script (suc (count + 1)) sum (wrong || flawed) new
 outcomes_more script count orders more sum wrong flawed out text new before outcome is e =

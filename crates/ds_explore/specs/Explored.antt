@@ -3,11 +3,11 @@ use Rattle.std.specs.Prelude.{ℕ, suc, ◌+◌, ◌≡◌, ◌<◌, ◌-◌, �
 use Rattle.std.specs.Fmt.{decimal}
 use Rattle.ds_formula.specs.Limits.{INPUT_MOST}
 use Rattle.ds_formula.specs.declared.cells.Shape.{Shape}
-use Rattle.ds_play.specs.Script.{Finishes}
-use Rattle.ds_streams.specs.ScriptEndings.{name_of_fault}
-use Rattle.ds_stops.specs.StopBlocks.{BreaksBefore}
-use Rattle.ds_stops.specs.declared.reach.Short.{Short}
-use Rattle.ds_stops.specs.declared.reach.Short.TheVariants as shorts
+use Rattle.ds_script.specs.Script.{Finishes}
+use Rattle.ds_script_io.specs.ScriptEndings.{name_of_fault}
+use Rattle.ds_script_stops.specs.StopBlocks.{BreaksBefore}
+use Rattle.ds_script_stops.specs.declared.reach.Short.{Short}
+use Rattle.ds_script_stops.specs.declared.reach.Short.TheVariants as shorts
 use Rattle.ds_explore.specs.declared.flaw.Flaw.{Flaw}
 use Rattle.ds_explore.specs.declared.flaw.Flaw.TheVariants as flaw
 use Rattle.ds_explore.specs.declared.explore.ExploreEnd.{ExploreEnd}
@@ -53,7 +53,7 @@ pub record IsBlock (number orders : ℕ) (script : List ℕ) (flawed : Bool) (te
   pub finishes : Finishes true script answers
   pub is : text ≡ outcome_text number orders wrong script answers
 
--- the outcome with this number, to which so many orders lead: a script that goes on behind the one that was given, and
+-- the outcome with this number, to which n orders lead: a script that goes on after the one that was given, and
 -- ends; what is written is that script, and what it is answered
 pub record IsOutcome (script : List ℕ) (number orders : ℕ) (flawed : Bool) (text : List ℕ) : Type 0 where
   pub shape : Shape
@@ -65,7 +65,7 @@ pub record IsOutcome (script : List ℕ) (number orders : ℕ) (flawed : Bool) (
 abbrev pub orders_joined : ℕ → ℕ → ℕ
 orders_joined orders more = min (orders + more) (2 ^ 128 - 1)
 
--- so many outcomes, one behind the other, from number 1; how many orders lead to them, and whether something is wrong
+-- n outcomes, one after the other, from number 1; how many orders lead to them, and whether something is wrong
 -- with one
 pub data AreOutcomes (script : List ℕ) : ℕ → ℕ → Bool → List ℕ → Type 0 where
   one_outcome : (orders : ℕ) (flawed : Bool) (text : List ℕ) → IsOutcome script 1 orders flawed text → AreOutcomes script 1 orders flawed text
@@ -83,7 +83,7 @@ abbrev pub endless_text : Bool → List ℕ
 endless_text true = codes "wrong: an order comes to a state again\n\n"
 endless_text false = codes "\n"
 
--- the figures, and at least one outcome behind them; whether something is wrong. So many orders are there as lead to
+-- the figures, and at least one outcome after them; whether something is wrong. There are as many orders as lead to
 -- the outcomes
 pub record WritesAll (script : List ℕ) (wrong : Bool) (out : List ℕ) : Type 0 where
   pub states : ℕ

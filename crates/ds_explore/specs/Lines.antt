@@ -8,7 +8,7 @@ use Rattle.ds_layout.specs.declared.place.Edition.{Edition}
 use Rattle.ds_layout.specs.declared.place.Edition.TheVariants.{First, Second}
 use Rattle.ds_layout.specs.declared.place.Place.{Place}
 use Rattle.ds_layout.specs.declared.place.Place.TheVariants as place
-use Rattle.ds_play.specs.Points.{name_of_point}
+use Rattle.ds_script.specs.Points.{name_of_point}
 use Rattle.ds_explore.specs.declared.lines.FoundLine.{FoundLine}
 use Rattle.ds_explore.specs.declared.lines.FoundLine.TheVariants as line
 
@@ -63,7 +63,7 @@ pub data IsLines (shape : Shape) : List ℕ → Type 0 where
 abbrev pub IsGap : List ℕ → Type 0
 IsGap gap = (gap ≡ []) ⊎ (gap ≡ 10 ∷ [])
 
--- the text is the script, and lines behind it, with an end of the script's last line between them or not
+-- the text is the script, and lines after it, with an end of the script's last line between them or not
 pub record GoesOn (shape : Shape) (script text : List ℕ) : Type 0 where
   pub gap : List ℕ
   pub is_gap : IsGap gap

@@ -1,18 +1,18 @@
 //! What a script is answered.
 
 ghost use Rattle.std.specs.Prelude.{true, IfOk};
-ghost use Rattle.ds_play.specs.Script.{Finishes};
+ghost use Rattle.ds_script.specs.Script.{Finishes};
 ghost use Rattle.ds_explore.specs.Lines.{GoesOn};
 
 use crate::lines::{FoundLine, lines_text};
 use ds_formula::cells::Shape;
-use ds_play::script::run_script;
-use ds_streams::ending::ScriptEnd;
-use ds_streams::line::INPUT_LIMIT;
-use ds_streams::streams::{Reading, Writing};
+use ds_script::script::run_script;
+use ds_script_io::ending::ScriptEnd;
+use ds_script_io::line::INPUT_LIMIT;
+use ds_script_io::streams::{Reading, Writing};
 use std::alloc::{AllocError, Global};
 
-/// What a script is answered that ends. An error is a want of memory, or that the script does not end.
+/// What a script is answered that ends. An error means that an allocation failed, or that the script does not end.
 pub(crate) fn answers_to(alloc: Global, script: &[u8]) -> Result<Vec<u8>, AllocError>
     ensures { IfOk result (λ answers. Finishes true script.now answers.items) }
 {
@@ -27,7 +27,7 @@ pub(crate) fn answers_to(alloc: Global, script: &[u8]) -> Result<Vec<u8>, AllocE
     }
 }
 
-/// The script, with an end of its last line where that lacks it, and these lines behind it.
+/// The script, with an end of its last line where that lacks it, and these lines after it.
 pub(crate) fn continued(
     alloc: Global,
     script: &[u8],

@@ -1,26 +1,26 @@
-//! What is told behind an order: every process recovers, process 0 settles and reports.
+//! What is reported after an order: every process recovers, process 0 settles and reports.
 
-use ds_calls::call::{whole_recovery, whole_report};
+use ds_calls::call::{whole_recovery, whole_show};
 use ds_calls::settle::{SettleEnd, settle};
 use ds_core::ends::CallEnd;
 use ds_core::reply::Reply;
 use ds_eval::value::Value;
-use ds_play::texts::{end_bytes, reply_bytes};
+use ds_script::texts::{end_bytes, reply_bytes};
 use ds_state::recovery::RecoveryEnd;
 use ds_state::refusal::Refusal;
-use ds_state::report::ReportEnd;
+use ds_state::show::ShowEnd;
 use ds_state::world::World;
 use std::alloc::{AllocError, Global};
 
-/// What is told behind an order.
+/// What is reported after an order.
 #[derive(Drop)]
-pub(crate) struct Ending {
+pub(crate) struct OutcomeEnding {
     /// How the recovery of each process ended.
     pub(crate) told: Vec<Result<RecoveryEnd, Refusal>>,
     /// What the settle leaves.
     pub(crate) left: SettleEnd,
     /// How the report ended.
-    pub(crate) reported: Result<ReportEnd, Refusal>,
+    pub(crate) reported: Result<ShowEnd, Refusal>,
     /// Their text.
     pub(crate) text: Vec<u8>,
     /// Whether the order ends with a crash.
@@ -53,15 +53,19 @@ fn recover(
     Ok(told)
 }
 
-/// Every process recovers, behind a crash or not; then process 0 settles, and reports.
-pub(crate) fn end(alloc: Global, world: &mut World, crashed: bool) -> Result<Ending, AllocError> {
+/// Every process recovers, after a crash or not; then process 0 settles, and reports.
+pub(crate) fn end(
+    alloc: Global,
+    world: &mut World,
+    crashed: bool,
+) -> Result<OutcomeEnding, AllocError> {
     let mut text = Vec::new(alloc);
     let told = recover(alloc, world, &mut text)?;
     let left = settle(alloc, world, 0);
     text.extend_from_slice(&end_bytes(alloc, world, 0, left)?)?;
-    let reported = whole_report(alloc, world, 0);
+    let reported = whole_show(alloc, world, 0);
     text.extend_from_slice(&reply_bytes(alloc, world, 0, replied(reported))?)?;
-    Ok(Ending {
+    Ok(OutcomeEnding {
         told,
         left,
         reported,

@@ -2,7 +2,7 @@
 
 ghost use Rattle.std.specs.Prelude.{◌≡◌, ◌≢◌, ◌++◌, ◌∷◌, ◌||◌, ◌<◌, ◌^◌, ◌-◌, ◌⊎◌, Bool, true, ℕ, suc, List, [], IfOk, IfErr, length, string_bytes};
 ghost use Rattle.std.specs.Io.KnownBytes.{Appends};
-ghost use Rattle.ds_streams.specs.Streams.{writer_of, write_failed};
+ghost use Rattle.ds_script_io.specs.Streams.{writer_of, is_flushed, write_failed};
 ghost use Rattle.ds_explore.specs.Explored.{wrong_text, IsWrong, IsBlock, IsOutcome, AreOutcomes, WritesAll, Explores, heading_text, figures_text, endless_text, end_of, end_short};
 
 use crate::answers::{answers_to, continued};
@@ -13,10 +13,10 @@ use crate::orders::{Orders, count_orders};
 use crate::outcomes::Finding;
 use crate::script::lines_of;
 use crate::search::{Search, Start, go_through};
-use ds_stops::reach::Short;
-use ds_streams::ending::ScriptFault;
-use ds_streams::line::INPUT_LIMIT;
-use ds_streams::streams::Writing;
+use ds_script_io::ending::ScriptFault;
+use ds_script_io::line::INPUT_LIMIT;
+use ds_script_io::streams::Writing;
+use ds_script_stops::reach::Short;
 use std::alloc::{AllocError, Global};
 use std::fmt;
 use std::io::Write;
@@ -346,14 +346,14 @@ fn explore_all<W: Write, T: Watcher>(
 }
 
 /// Runs a script, and from where it ends on carries out the steps of the calls under way in all orders, with what the
-/// options ask for between them. An order ends where no call is under way, or with a crash. Behind each end every
+/// options ask for between them. An order ends where no call is under way, or with a crash. After each end every
 /// process recovers, in their order, process 0 settles, and reports.
 ///
 /// It writes how many states and orders there are, and then each outcome once: how many orders lead to it, what is
 /// wrong with it where something is, and a script of a shortest of these orders, with what `run_script` writes for it.
 /// The first outcome is that of the calls one after another, in the order of their processes.
 /// States that were met before are not gone through again: a state is its words, the situations and buffers of its
-/// processes, and what their calls were answered. Numbers of orders end at 2^128 - 1. The watcher is told how many
+/// processes, and what their calls were answered. Numbers of orders end at 2^128 - 1. The watcher is shown how many
 /// states there are, at each event that is tried.
 pub fn explore<W: Write, T: Watcher>(
     alloc: Global,
@@ -364,6 +364,7 @@ pub fn explore<W: Write, T: Watcher>(
 ) -> ExploreEnd
     ensures no_failure { result ≢ ExploreEnd.WriteFailed → write_failed writer.new ≡ write_failed writer.old }
     ensures write_failed { result ≡ ExploreEnd.WriteFailed → write_failed writer.new ≡ true }
+    ensures flushed { is_flushed writer.old ≡ true → result ≢ ExploreEnd.WriteFailed → is_flushed writer.new ≡ true }
     ensures writes { result ≢ ExploreEnd.WriteFailed → (out : List ℕ) × Appends (W.contents (writer_of writer.old)) (W.contents (writer_of writer.new)) out
         × Explores script.now out result }
 {

@@ -2,12 +2,12 @@
 
 use std::fmt;
 
-/// What is wrong with an outcome: what no sheet tells that does what `HOW-IT-WORKS` says.
+/// What is wrong with an outcome: what no sheet answers that does what `HOW-IT-WORKS` says.
 #[derive(Clone, Copy, Debug, PartialEq, Eq)]
 pub enum Flaw {
-    /// The process's edit was answered Done, and its recovery tells that it is not done; or the other way round.
+    /// The process's edit was answered Done, and its recovery says that it is not done; or the other way round.
     ToldOtherwise(usize),
-    /// What the recovery of the process told is not what its next one tells.
+    /// What the recovery of the process reported is not what its next one says.
     ToldTwice(usize),
     /// The process's edit is overtaken by an edit that is not done.
     OvertakenByNone(usize),

@@ -7,14 +7,14 @@ use std::alloc::{AllocError, Global};
 pub(crate) struct Edge {
     /// The number of what happens.
     pub(crate) by: u32,
-    /// The number of the state behind it.
+    /// The number of the state after it.
     pub(crate) to: u32,
 }
 
 /// A state that is gone through.
 #[derive(Drop)]
 pub(crate) struct Node {
-    /// Its number.
+    /// The number of the state.
     pub(crate) state: u32,
     /// What may happen in it.
     pub(crate) edges: Vec<Edge>,
@@ -50,7 +50,7 @@ const FIRST: Way = Way {
 };
 
 impl Way {
-    // So many orders more come to a state, by what happens in another one.
+    // More orders come to a state, by what happens in another one.
     fn join(&mut self, before: Way, from: u32, by: u32) {
         self.orders = self.orders.saturating_add(before.orders);
         let length = before.length.saturating_add(1);
@@ -79,8 +79,8 @@ fn lead_on(ways: &mut Vec<Way>, node: &Node) {
     }
 }
 
-/// The ways to each of so many states, the first of which has number 0. The nodes stand in the order in which they were
-/// left: each behind those that it leads to.
+/// The ways to each of that number of states, the first of which has number 0. The nodes stand in the order in which
+/// they were left: each after those that it leads to.
 pub(crate) fn ways(alloc: Global, states: usize, nodes: &[Node]) -> Result<Vec<Way>, AllocError> {
     let mut ways = vec![in alloc; NONE; states]?;
     if let Some(first) = ways.get_mut(0) {

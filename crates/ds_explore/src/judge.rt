@@ -1,6 +1,6 @@
 //! Whether an outcome is one that may be.
 
-use crate::ends::{Ending, values};
+use crate::ends::{OutcomeEnding, values};
 use crate::flaw::Flaw;
 use ds_calls::settle::SettleEnd;
 use ds_core::event::Event;
@@ -8,13 +8,13 @@ use ds_core::take::take;
 use ds_eval::scratch::scratch;
 use ds_eval::sheet::Sheet;
 use ds_eval::value::Value;
+use ds_explore_state::position::Position;
 use ds_formula::content::Content;
 use ds_formula::reading::read_content;
-use ds_positions::position::Position;
 use ds_state::answer::{Answer, EditEnd};
-use ds_state::recovery::{RecoveryEnd, Told};
+use ds_state::recovery::{LastEdit, RecoveryEnd};
 use ds_state::refusal::Refusal;
-use ds_state::report::ReportEnd;
+use ds_state::show::ShowEnd;
 use ds_state::shown;
 use ds_state::situation::Situation;
 use ds_state::world::World;
@@ -48,7 +48,7 @@ fn texts(alloc: Global, world: &World) -> Result<Vec<Vec<u8>>, AllocError> {
     Ok(texts)
 }
 
-// So behind a crash.
+// The texts of the cells after a crash of a copy of the world.
 fn crashed_texts(alloc: Global, world: &World) -> Result<Vec<Vec<u8>>, AllocError> {
     let mut copy = world.copy(alloc)?;
     let _crashed = take(alloc, &mut copy, &Event::Crash);
@@ -76,21 +76,21 @@ fn all_asked(alloc: Global, world: &World) -> Result<Vec<Option<Asked>>, AllocEr
     Ok(all)
 }
 
-// Whether a recovery has told that this edit of its process is done: of another edit, or of none, that it is not.
-fn is_told_done(asked: &Asked, told: Told) -> bool {
+// Whether a recovery has reported that this edit of its process is done: of another edit, or of none, that it is not.
+fn is_told_done(asked: &Asked, told: LastEdit) -> bool {
     told.number == asked.number && told.cell == asked.cell && told.counts
 }
 
-// What the recovery of a process told.
-fn told_of(ending: &Ending, process: usize) -> Option<Told> {
+// What the recovery of a process reported.
+fn told_of(ending: &OutcomeEnding, process: usize) -> Option<LastEdit> {
     match ending.told.get(process) {
         Some(Ok(RecoveryEnd::Last(told))) => Some(*told),
         _ => None,
     }
 }
 
-// Whether the edit of a process is done, by what its recovery has told behind the order.
-fn is_done(asked: &Asked, ending: &Ending, process: usize) -> bool {
+// Whether the edit of a process is done, by what its recovery has reported after the order.
+fn is_done(asked: &Asked, ending: &OutcomeEnding, process: usize) -> bool {
     match told_of(ending, process) {
         Some(told) => is_told_done(asked, told),
         None => false,
@@ -137,15 +137,20 @@ impl Judge {
     }
 
     // Whether another edit, by which one was overtaken, is not done. A crash may have taken that one back.
-    fn is_none(&self, ending: &Ending, process: usize, number: usize) -> bool {
+    fn is_none(&self, ending: &OutcomeEnding, process: usize, number: usize) -> bool {
         match self.edit(process) {
             Some(asked) if asked.number == number => !is_done(asked, ending, process),
             _ => false,
         }
     }
 
-    // What is wrong with what a process was answered and told.
-    fn process_flaw(&self, position: &Position, ending: &Ending, process: usize) -> Option<Flaw> {
+    // What is wrong with the answers and the reports that a process got.
+    fn process_flaw(
+        &self,
+        position: &Position,
+        ending: &OutcomeEnding,
+        process: usize,
+    ) -> Option<Flaw> {
         let answer = match position.seats.get(process) {
             Some(seat) => seat.answer,
             None => None,
@@ -170,7 +175,7 @@ impl Judge {
     }
 
     // How many edits of a cell are done, and whether one of them has this text.
-    fn done_at(&self, ending: &Ending, cell: usize, text: &[u8]) -> (usize, bool) {
+    fn done_at(&self, ending: &OutcomeEnding, cell: usize, text: &[u8]) -> (usize, bool) {
         let mut count = 0usize;
         let mut is_among = false;
         for (process, asked) in self.asked.iter().enumerate() {
@@ -192,7 +197,7 @@ impl Judge {
     }
 
     // Whether the cell may hold this text.
-    fn may_hold(&self, ending: &Ending, cell: usize, text: &[u8]) -> bool {
+    fn may_hold(&self, ending: &OutcomeEnding, cell: usize, text: &[u8]) -> bool {
         match self.done_at(ending, cell, text) {
             (0, _) => self.had(cell, text),
             (_, is_among) => is_among,
@@ -202,7 +207,7 @@ impl Judge {
     // What is wrong with a text.
     fn text_flaws(
         &self,
-        ending: &Ending,
+        ending: &OutcomeEnding,
         texts: &[Vec<u8>],
         flaws: &mut Vec<Flaw>,
     ) -> Result<(), AllocError> {
@@ -214,12 +219,12 @@ impl Judge {
         Ok(())
     }
 
-    /// What is wrong with an order that left the calls so, behind which this was told.
+    /// What is wrong with an order that left the calls so, after which this was answered.
     pub(crate) fn flaws(
         &self,
         alloc: Global,
         position: &Position,
-        ending: &Ending,
+        ending: &OutcomeEnding,
     ) -> Result<Vec<Flaw>, AllocError> {
         let mut flaws = Vec::new(alloc);
         for process in 0..position.seats.len() {
@@ -232,7 +237,7 @@ impl Judge {
         if ending.left != SettleEnd::Left(0) {
             flaws.push(Flaw::NotClean)?;
         }
-        if ending.reported != Ok(ReportEnd::Settled) {
+        if ending.reported != Ok(ShowEnd::Settled) {
             flaws.push(Flaw::NotSettled)?;
             return Ok(flaws);
         }

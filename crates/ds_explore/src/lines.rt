@@ -5,8 +5,8 @@ ghost use Rattle.ds_explore.specs.Lines.{text_kind, IsLines, line_text, place_te
 
 use ds_formula::cells::Shape;
 use ds_layout::place::{Edition, Place};
-use ds_play::point::PointName;
-use ds_streams::answer::cell_at;
+use ds_script::point::PointName;
+use ds_script_io::answer::cell_at;
 use std::alloc::{AllocError, Global};
 
 /// A line that a script goes on with.
@@ -106,7 +106,7 @@ fn line_bytes(alloc: Global, shape: Shape, line: FoundLine) -> Result<Vec<u8>, A
     Ok(text)
 }
 
-/// The lines as scripts write them. An error is a want of memory.
+/// The lines as scripts write them. An error means that an allocation failed.
 pub(crate) fn lines_text(
     alloc: Global,
     shape: Shape,

@@ -13,8 +13,8 @@ pub struct Options {
     pub most: usize,
 }
 
-/// Is told how many states there are so far, again and again.
+/// Is shown how many states there are so far, again and again.
 pub trait Watcher {
-    /// So many states were found so far.
+    /// How many states were found so far.
     fn found(&mut self, states: usize);
 }

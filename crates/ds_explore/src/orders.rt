@@ -42,7 +42,7 @@ fn add(orders: &mut Vec<Orders>, outcome: Option<usize>, way: Way, state: u32) {
     }
 }
 
-/// The orders of each of so many outcomes, and the ways to each of so many states.
+/// The orders of each of n outcomes, and the ways to each of m states.
 pub(crate) fn count_orders(
     alloc: Global,
     states: usize,

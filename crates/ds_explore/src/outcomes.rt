@@ -9,7 +9,7 @@ use std::collections::HashMap;
 pub(crate) struct Finding {
     /// What each call was answered.
     pub(crate) answers: Vec<Vec<u8>>,
-    /// What is told behind the order.
+    /// What is reported after the order.
     pub(crate) tail: Vec<u8>,
     /// What is wrong with it.
     pub(crate) flaws: Vec<Flaw>,
@@ -26,8 +26,8 @@ fn contains(text: &[u8], part: &[u8]) -> bool {
 }
 
 impl Finding {
-    /// Whether a script that has these answers came to this: its calls are answered so, and behind the order this is
-    /// told, and nothing else.
+    /// Whether a script that has these answers came to this: its calls are answered so, and after the order this is
+    /// reported, and nothing else.
     pub(crate) fn is_in(&self, answers: &[u8]) -> bool {
         for answer in &self.answers {
             if !contains(answers, answer) {

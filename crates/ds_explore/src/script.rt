@@ -2,9 +2,9 @@
 
 use crate::lines::FoundLine;
 use crate::search::Start;
-use ds_play::drive::has_come;
-use ds_play::point::PointName;
-use ds_positions::position::{Move, Position};
+use ds_explore_state::position::{Move, Position};
+use ds_script::drive::has_come;
+use ds_script::point::PointName;
 use ds_state::world::World;
 use std::alloc::{AllocError, Global};
 
@@ -30,11 +30,11 @@ const POINTS: [PointName; 16] = [
 
 // Steps of one process, one after another.
 #[derive(Clone, Copy)]
-struct Steps {
+struct StepsOfProcess {
     process: usize,
     // The last point that they have come to.
     point: Option<PointName>,
-    // How many there are behind it.
+    // How many there are after it.
     behind: usize,
 }
 
@@ -42,10 +42,10 @@ struct Steps {
 #[derive(Drop)]
 struct Lines {
     lines: Vec<FoundLine>,
-    steps: Option<Steps>,
+    steps: Option<StepsOfProcess>,
 }
 
-// The last point that a process's call has behind it.
+// The last point that a process's call has passed.
 fn last_point(world: &World, process: usize) -> Option<PointName> {
     let mut last = None;
     for name in POINTS {
@@ -64,16 +64,16 @@ fn is_answered(position: &Position, process: usize) -> bool {
     }
 }
 
-impl Steps {
+impl StepsOfProcess {
     // One more, which has led from a point to a point.
-    fn with(self, before: Option<PointName>, after: Option<PointName>) -> Steps {
+    fn with(self, before: Option<PointName>, after: Option<PointName>) -> StepsOfProcess {
         if before == after {
-            return Steps {
+            return StepsOfProcess {
                 behind: self.behind.saturating_add(1),
                 ..self
             };
         }
-        Steps {
+        StepsOfProcess {
             process: self.process,
             point: after,
             behind: 0,
@@ -107,12 +107,12 @@ impl Lines {
     }
 
     // The steps of a process that stand last.
-    fn steps_of(&mut self, process: usize) -> Result<Steps, AllocError> {
+    fn steps_of(&mut self, process: usize) -> Result<StepsOfProcess, AllocError> {
         match self.steps {
             Some(steps) if steps.process == process => Ok(steps),
             _ => {
                 self.close()?;
-                Ok(Steps {
+                Ok(StepsOfProcess {
                     process,
                     point: None,
                     behind: 0,
@@ -150,7 +150,7 @@ impl Lines {
         position.apply(alloc, next)
     }
 
-    // What is done behind an order.
+    // What is done after an order.
     fn end(&mut self, processes: usize, crashed: bool) -> Result<(), AllocError> {
         self.close()?;
         if crashed {
@@ -164,7 +164,7 @@ impl Lines {
     }
 }
 
-/// The lines of an order of these events, with a crash behind it or not, and of what is done then.
+/// The lines of an order of these events, with a crash after it or not, and of what is done then.
 pub(crate) fn lines_of(
     alloc: Global,
     start: &Start,

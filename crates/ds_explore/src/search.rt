@@ -1,7 +1,7 @@
 //! Goes through all orders.
 
 ghost use Rattle.std.specs.Prelude.{◌≡◌, ◌-◌, ◌^◌, true, IfErr};
-ghost use Rattle.ds_stops.specs.Reaching.{FallsShort};
+ghost use Rattle.ds_script_stops.specs.Reaching.{FallsShort};
 
 use crate::ends::end;
 use crate::graph::{Edge, Node};
@@ -10,12 +10,12 @@ use crate::options::{Options, Watcher};
 use crate::outcomes::{Finding, Findings};
 use ds_core::event::Event;
 use ds_core::take::take;
+use ds_explore_state::describe::Numbers;
+use ds_explore_state::position::{Move, Position, is_in_call, start};
+use ds_explore_state::touched::Touched;
 use ds_formula::cells::Shape;
-use ds_positions::describe::Numbers;
-use ds_positions::position::{Move, Position, is_in_call, start};
-use ds_positions::touched::Touched;
+use ds_script_stops::reach::Short;
 use ds_state::world::World;
-use ds_stops::reach::Short;
 use std::alloc::{AllocError, Global};
 use std::collections::HashMap;
 
@@ -46,7 +46,7 @@ struct Frame {
 }
 
 impl Frame {
-    // With the state itself.
+    // The frame with the state itself.
     fn with(self, position: Position) -> Frame {
         Frame {
             position: Some(position),
@@ -54,7 +54,7 @@ impl Frame {
         }
     }
 
-    // What is kept of it behind all that may happen in it.
+    // What is kept of it after all that may happen in it.
     fn node(self) -> Node {
         Node {
             state: self.state,
@@ -86,7 +86,7 @@ pub(crate) struct Search {
     frames: Vec<Frame>,
     /// The outcomes.
     pub(crate) outcomes: Findings,
-    /// The states, each behind those that it leads to.
+    /// The states, each after those that it leads to.
     pub(crate) nodes: Vec<Node>,
     /// Whether there are more states than there may be.
     pub(crate) is_cut: bool,
@@ -140,7 +140,7 @@ fn prepared(alloc: Global, world: &World) -> Result<(Touched, Vec<Move>, Judge),
 }
 
 impl Start {
-    // The orders that begin in this state. An error is a want of memory.
+    // The orders that begin in this state. An error means that an allocation failed.
     fn of(alloc: Global, first: Position, options: Options) -> Result<Start, AllocError> {
         let (touched, moves, judge) = prepared(alloc, &first.world)?;
         Ok(Start {
@@ -246,7 +246,7 @@ impl Start {
         Ok(path)
     }
 
-    // So from this state on, and what that comes to.
+    // The way straight on from this state, and what that comes to.
     fn straight_from(
         &self,
         alloc: Global,

@@ -222,17 +222,17 @@ pub open_back : (s : Scope) (rest : List ℕ) → lead_at s (40 ∷ rest) ≡ Ok
 unfolding lead_at lead_of
 open_back s rest = refl
 
--- an opening bracket at the front is found behind the name of a call
+-- an opening bracket at the front is found after the name of a call
 pub bracket_back : (rest : List ℕ) → byte_at 40 (skipped (40 ∷ rest)) ≡ Ok rest
 unfolding byte_at
 bracket_back rest = refl
 
--- `)` is read back behind an operand
+-- `)` is read back after an operand
 pub close_back : (rest : List ℕ) → follow_at (41 ∷ rest) ≡ Ok (Close, rest)
 unfolding follow_at follow_of
 close_back rest = refl
 
--- `;` is read back behind an operand
+-- `;` is read back after an operand
 pub semicolon_back : (rest : List ℕ) → follow_at (59 ∷ rest) ≡ Ok (Semicolon, rest)
 unfolding follow_at follow_of
 semicolon_back rest = refl
@@ -268,7 +268,7 @@ operator_back Greater rest h = ap (λ (x : Operator × List ℕ). found (62 ∷ 
 operator_back LessOrEqual rest h = refl
 operator_back GreaterOrEqual rest h = refl
 
--- an operator's text parts a number before it from what is behind
+-- an operator's text parts a number before it from what comes after it
 pub operator_parts : (o : Operator) (rest : List ℕ) → Parts (operator_text o ++ rest)
 operator_parts Multiply rest = record { digit = refl; fraction = refl }
 operator_parts Add rest = record { digit = refl; fraction = refl }

@@ -22,7 +22,7 @@ use Rattle.ds_formula.proofs.Walks.{joined, follow_step, bracket_step, first_tur
 use Rattle.ds_formula.proofs.Steps.{NoOperator, call_open}
 use Rattle.ds_formula.proofs.Parses.{no_operator}
 
--- more formulas behind these
+-- more formulas after these
 abbrev pub followed : List Formula → Formulas → Formulas
 followed [] fs = fs
 followed (g ∷ gs) fs = Then g (followed gs fs)
@@ -105,7 +105,7 @@ arguments_done s g text fs r rest so n =
     subst (λ (x : Formulas). Arguments s g text x (first_of so.earlier (as_argument g so.latest_ranges)) rest) (followed_listed so.before so.latest ∙ ap listed (sym so.all)) a in
     subst (λ (x : Ranges). Arguments s g text (listed fs) x rest) (sym so.ranges) b
 
--- a fault in an argument behind a semicolon is one of the arguments
+-- a fault in an argument after a semicolon is one of the arguments
 pub arguments_refused : (s : Scope) (g : Function) (text : List ℕ) (fs : List Formula) (r : Ranges) (rest after : List ℕ) (e : Refusal)
     → ArgumentsSoFar s g text fs r rest → follow_at rest ≡ Ok (Semicolon, after) → Refuses s after e → ArgumentsRefuse s text e
 arguments_refused s g text fs r rest after Memory so h x = tt
@@ -119,14 +119,14 @@ pub arguments_first_refused : (s : Scope) (text : List ℕ) (e : Refusal) → Re
 arguments_first_refused s text Memory x = tt
 arguments_first_refused s text (Stopped stop) x = λ f n name i. x (Call f n name ∷ i)
 
--- ---- calls, behind the name
+-- ---- calls, after the name
 
--- a bracket, arguments and a closing bracket are a call, where the function takes so many
+-- a bracket, arguments and a closing bracket are a call, where the function takes that number
 pub call_done : (s : Scope) (g : Function) (text inner : List ℕ) (fs : Formulas) (r : Ranges) (mid rest : List ℕ) → Ok inner ≡ byte_at 40 (skipped text) → Arguments s g inner fs r mid → follow_at mid ≡ Ok (Close, rest) → takes g (count fs) ≡ true
     → forms.Call s g text fs r rest
 call_done s g text inner fs r mid rest h v k y = bracketed (sym h) v k y
 
--- a name without a bracket behind it is a fault of the call
+-- a name without a bracket after it is a fault of the call
 pub call_no_bracket : (s : Scope) (g : Function) (name : ℕ) (text : List ℕ) (stop : Stop) → Err stop ≡ byte_at 40 (skipped text) → CallRefuses s g name text (Stopped stop)
 call_no_bracket s g name text stop e = λ i. (ItsBracket g name, i, text, stay, ap (by_bracket g name i) (sym e))
 
@@ -154,7 +154,7 @@ call_arguments_refused s g name text inner (Stopped stop) h n x = λ i.
     let z = first_cases s name stop refl n y.3 y.4 in
     (z.0, z.1, z.2, joined (bracket_step (sym h)) z.3, z.4)
 
--- behind the arguments is neither an operator nor a semicolon
+-- after the arguments is neither an operator nor a semicolon
 pub record Ended (text : List ℕ) : Type 0 where
   pub no_operator : NoOperator text
   pub no_semicolon : NoSemicolon text
@@ -167,7 +167,7 @@ all_walk : {s : Scope} {g : Function} {text inner : List ℕ} {fs : Formulas} {r
     → Walk s (ItsBracket g name) i text AnOperator (Call g (count fs) name ∷ i) mid
 all_walk {fs = fs} name i h v = joined (bracket_step h) (first_walk name (arguments_open v) (arguments_walk v 1 (count fs) name i (omega arith)))
 
--- arguments without a closing bracket behind them are a fault of the call
+-- arguments without a closing bracket after them are a fault of the call
 pub call_unclosed : (s : Scope) (g : Function) (name : ℕ) (text inner : List ℕ) (fs : Formulas) (r : Ranges) (mid : List ℕ) (stop : Stop)
     → Ok inner ≡ byte_at 40 (skipped text) → Arguments s g inner fs r mid → Err stop ≡ close_at mid → CallRefuses s g name text (Stopped stop)
 call_unclosed s g name text inner fs r mid stop h v e = λ i.
@@ -190,6 +190,6 @@ count_listed : (ts : List Tree) → count (listed (map formula ts)) ≡ length t
 count_listed [] = refl
 count_listed (t ∷ ts) = let e = count_listed ts in omega (arith, e)
 
--- whether a function takes so many arguments is told by the length of the list of their trees
+-- whether a function takes that number of arguments is shown by the length of the list of their trees
 pub takes_is : (g : Function) (ts : List Tree) (n : ℕ) (b : Bool) → b ≡ takes g n → n ≡ length ts → takes g (count (listed (map formula ts))) ≡ b
 takes_is g ts n b e h = ap (takes g) (count_listed ts ∙ sym h) ∙ sym e

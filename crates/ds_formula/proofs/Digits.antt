@@ -45,7 +45,7 @@ digit_step m d rest h =
 abbrev Through : ℕ → List ℕ → Type 0
 Through n ds = (rest : List ℕ) → number_from 0 (ds ++ rest) ≡ number_from n rest
 
--- reading a number's decimal gives that number, and reading goes on behind it
+-- reading a number's decimal gives that number, and reading goes on after it
 pub number_through : (n : ℕ) → n < 2 ^ 64 → (rest : List ℕ) → number_from 0 (decimal n ++ rest) ≡ number_from n rest
 number_through n h = decimal_by_steps Through
     (λ m l rest. digit_step 0 m rest l ∙ ap (λ (x : ℕ). number_from x rest) (let x : 10 * 0 + m ≡ m = omega arith in x))
@@ -79,7 +79,7 @@ decimal_starts n h = decimal_by_steps StartsDigit
     })
     n h
 
--- ---- what may stand behind a number
+-- ---- what may stand after a number
 
 -- whether a digit is at the front
 abbrev pub starts_digit : List ℕ → Bool

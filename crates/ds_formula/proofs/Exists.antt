@@ -40,7 +40,7 @@ Reader s l n = (text : List ℕ) → length text < n → Outcome (Level s l text
 abbrev OperandReader : Scope → ℕ → Type 0
 OperandReader s n = (text : List ℕ) → length text < n → Outcome (Operand s text) s text
 
--- ---- a level, by those of what is behind an operator
+-- ---- a level, by those of what is after an operator
 
 abbrev LevelReader : Scope → ℕ → Type 0
 LevelReader s n = (l : ℕ) → l ≤ 3 → Reader s l n

@@ -1,4 +1,4 @@
--- Cells that are listed behind others, in reading order.
+-- Cells that are listed after others, in reading order.
 use Rattle.std.proofs.Common.{◌≡◌, inl, inr, ℕ, ◌-◌, ◌<◌, ◌≤◌, List, [], ◌∷◌, ◌++◌, length, get_or, subst, ◌∙◌, arith}
 use Rattle.std.proofs.lemmas.Bool.{cases_lt}
 use Rattle.std.proofs.lemmas.List.{get_or_default}
@@ -16,7 +16,7 @@ before_all c d e (inl a) (inr b) = inl (let same = b.0 in omega (arith, a, same)
 before_all c d e (inr a) (inl b) = inl (let same = a.0 in omega (arith, b, same))
 before_all c d e (inr a) (inr b) = inr (a.0 ∙ b.0, (let p = a.1 in let q = b.1 in omega (arith, p, q)))
 
--- what comes behind the last cell comes behind all
+-- what comes after the last cell comes after all
 pub behind_last : (xs : List Cell) (other d : Cell) → AllPairs IsBefore xs → 1 ≤ length xs → IsBefore (get_or xs (length xs - 1) other) d → (c : Cell) → Contains xs c → IsBefore c d
 behind_last xs other d ascend some before c h =
     let k = h.0 in
@@ -27,7 +27,7 @@ behind_last xs other d ascend some before c h =
       | inr ge ↦ (let last : length xs - 1 ≡ k = omega (arith, there, ge, some) in subst (λ (i : ℕ). IsBefore (get_or xs i other) d) last before)
     ])
 
--- a possible cell behind all that are listed is put behind them
+-- a possible cell after all that are listed is put after them
 pub one_listed : (d : Cell) (xs : List Cell) → AllPairs IsBefore xs → ((c : Cell) → Contains xs c → IsBefore c d) → IsPossible d → IsListed (At d) xs (xs ++ d ∷ [])
 one_listed d xs ascend behind possible = record {
   ascending = push_ascends xs d ascend behind;
@@ -53,7 +53,7 @@ both_listed o f g xs ys zs h k = record {
   all = λ c m. elim m [ inl left ↦ k.kept c (h.all c left) | inr right ↦ k.all c right ];
 }
 
--- what is listed behind no cell are the references
+-- what is listed after no cell are the references
 pub refs_listed : (f : Formula) (xs : List Cell) → IsListed f [] xs → AreRefs (Computed f) xs
 refs_listed f xs h = record {
   ascending = h.ascending;

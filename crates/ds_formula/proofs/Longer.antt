@@ -23,7 +23,7 @@ named_cond : (t : Bool) (f g : Function) (x y : Option Function) → cond t (Som
 named_cond true f g x y e h = e
 named_cond false f g x y e h = h e
 
--- the function that has a name in a list has it with further functions behind, too
+-- the function that has a name in a list has it with further functions after it, too
 pub named_longer : (old new : List Function) (name : List ℕ) (g : Function) → function_named old name ≡ Some g → function_named (old ++ new) name ≡ Some g
 named_longer [] new name g e = absurd cc
 named_longer (f ∷ fs) new name g e = named_cond (is_name_of f name) f g (function_named fs name) (function_named (fs ++ new) name) e (named_longer fs new name g)
@@ -59,7 +59,7 @@ known_stop new text rest (Some g) b c s h w e = absurd cc
 known_stop new text rest None b None s h w e = inl (ap (λ (o : Option Function). known text o rest) (h refl) ∙ e)
 known_stop new text rest None b (Some g) s h w e = inr (record { is = let p : failed (stop_at UnknownFunction text) ≡ failed s = e in cc; function = g; named = sym w })
 
--- ---- tokens where only what is behind a letter differs
+-- ---- tokens where only what is after a letter differs
 
 same_but : (t : Bool) (x a b y : Read Lead) → cond t x a ≡ y → (a ≡ y → b ≡ y) → cond t x b ≡ y
 same_but true x a b y e h = e

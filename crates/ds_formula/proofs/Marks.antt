@@ -97,7 +97,7 @@ pub marked_step : (marks : List Bool) (n : ℕ) → marked_below marks (n + 1) �
 unfolding marked_below
 marked_step marks n = rw add-one refl
 
--- a cell behind all others keeps their order
+-- a cell after all others keeps their order
 pub push_ascends : (xs : List Cell) (x : Cell) → AllPairs IsBefore xs → ((c : Cell) → Contains xs c → IsBefore c x) → AllPairs IsBefore (xs ++ x ∷ [])
 push_ascends xs x h k i j d l m = elim (cases_lt j (length xs)) [
   | inl lt ↦ (

@@ -1,4 +1,4 @@
--- A fault of a text is no want of memory.
+-- A fault of a text is not out of memory.
 use Rattle.std.proofs.Common.{ℕ, ℤ, ◌≡◌, ◌-◌, ◌^◌, List, [], ◌∷◌, Bool, true, false, Result, Ok, Err, refl, ap, sym, ◌∙◌}
 use Rattle.std.specs.Prelude.{pos, neg_ℤ, drop, if◌then◌else◌}
 use Rattle.ds_formula.specs.declared.fault.FaultKind.TheVariants.{NoMemory, NotWhole, NumberTooLarge}
@@ -8,7 +8,7 @@ use Rattle.ds_formula.specs.Functions.{Scope}
 use Rattle.ds_formula.specs.Bytes.{◌>>=◌, stop_at, unexpected_stop, begins, number_at}
 use Rattle.ds_formula.specs.Grammar.{alone, whole_of, constant_of, placed, FaultsIn, FaultsLongIn, too_long, within, in_constant, in_formula, range, too_deep, TakesMemory}
 
--- where it is a fault, that is no want of memory
+-- where it is a fault, that is not out of memory
 abbrev Told : {A : Type 0} → Result A Stop → Type 0
 Told r = (stop : Stop) → r ≡ Err stop → stop.kind ≡ NoMemory → ⊥
 
@@ -50,7 +50,7 @@ told_constant text =
     (told_if (begins 43 text) _ _ (told_then (whole_of (2 ^ 63 - 1) (drop 1 text)) (λ n. Ok (pos n)) (told_whole (2 ^ 63 - 1) (drop 1 text)) (λ n. told_ok (pos n)))
     (told_then (whole_of (2 ^ 63 - 1) text) (λ n. Ok (pos n)) (told_whole (2 ^ 63 - 1) text) (λ n. told_ok (pos n))))
 
--- a fault that is named as want of memory is one of a formula
+-- a fault that is named as out of memory is one of a formula
 pub of_formulas : (scope : Scope) (text : List ℕ) (fault : TextFault) → FaultsIn scope text fault → fault.kind ≡ NoMemory → TakesMemory text
 of_formulas scope text fault (too_long long) none = absurd (cc)
 of_formulas scope text fault (within f short (in_constant t stop some plain is)) none = absurd (told_constant text stop is none)

@@ -1,4 +1,4 @@
--- What the reader of levels has found so far, and what is behind its forms.
+-- What the reader of levels has found so far, and what is after its forms.
 use Rattle.std.proofs.Common.{◌≡◌, ◌⊎◌, inl, inr, ℕ, zero, suc, ◌+◌, ◌-◌, ◌<◌, ◌≤◌, List, [], ◌∷◌, length, Ok, Err, refl, sym, ap, subst, arith, add-one}
 use Rattle.std.proofs.lemmas.Bool.{cases_lt}
 use Rattle.ds_formula.specs.declared.content.Operator.{Operator}
@@ -21,7 +21,7 @@ use Rattle.ds_formula.specs.Parsing.{RefusesAt, Refuses, CallRefuses, WholeRefus
 use Rattle.ds_formula.proofs.Walks.{joined, lead_step, follow_step, level_walk}
 use Rattle.ds_formula.proofs.Steps.{NoOperator, NoneFrom, same_operator, group_open, whole_open}
 
--- a refusal of what is behind a walk
+-- a refusal of what is after a walk
 pub later : (s : Scope) (d : Due) (text : List ℕ) (e : Due) (mid : List ℕ) (x : Refusal) → ((i : List Bracket) → (j : List Bracket) × Walk s d i text e j mid) → RefusesAt s e mid x → RefusesAt s d text x
 later s d text e mid Memory w r = tt
 later s d text e mid (Stopped stop) w r = λ i.
@@ -33,7 +33,7 @@ later s d text e mid (Stopped stop) w r = λ i.
 pub lead_refused : (s : Scope) (text : List ℕ) (stop : Stop) → Err stop ≡ lead_at s text → Refuses s text (Stopped stop)
 lead_refused s text stop e = λ i. (AnOperand, i, text, stay, ap (by_lead i) (sym e))
 
--- ---- what is behind a form
+-- ---- what is after a form
 
 -- each operator's level is below that of operands
 pub most : (o : Operator) → level_of o < 3
@@ -66,7 +66,7 @@ mutual
   none_after s l f r text g t rest (ends n) inner o after k e = at_end l rest n inner o after e (le_cases l (level_of o) k)
   none_after s l f r text g t rest (goes_on h p v w) inner o after k e = none_after s l _ _ _ _ _ _ w (none_behind s (suc l) _ _ _ _ v) o after k e
 
--- behind an expression of the loosest level no operator follows
+-- after an expression of the loosest level no operator follows
 pub no_operator : (s : Scope) (text : List ℕ) (f : Formula) (r : Ranges) (rest : List ℕ) → Level s 0 text f r rest → NoOperator rest
 no_operator s text f r rest v o after e = none_behind s 0 text f r rest v o after (omega arith) e
 
@@ -83,7 +83,7 @@ module _ (s : Scope) (text : List ℕ) (f : Formula) (r : Ranges) (rest : List �
       let w = lower d (suc k) (omega (arith, l)) (subst (λ (x : ℕ). Level s x text f r rest) e v) (λ o after h q. n o after (omega (arith, h)) q) in
       looser (omega (arith, l)) w (ends (none_of k rest n))
 
-  -- a form of a level is one of each looser level, where no operator behind it has that level or a tighter one
+  -- a form of a level is one of each looser level, where no operator after it has that level or a tighter one
   pub lowered : (j k : ℕ) → k ≤ j → j ≤ 3 → Level s j text f r rest → NoneFrom k rest → Level s k text f r rest
   lowered j k l m v n =
       let e : j ≡ k + (j - k) = omega (arith, l) in
@@ -176,7 +176,7 @@ climb_refused s at text f r rest o after e so h x = later s AnOperand text AnOpe
 
 -- ---- operands
 
--- a fault behind a sign is one of the operand
+-- a fault after a sign is one of the operand
 pub sign_refused : (s : Scope) (text : List ℕ) (g : Sign) (mid : List ℕ) (e : Refusal) → Ok (leads.Prefix g, mid) ≡ lead_at s text → Refuses s mid e → Refuses s text e
 sign_refused s text g mid e h x = later s AnOperand text AnOperand mid e (λ i. (i, lead_step (sym h) refl)) x
 
@@ -189,7 +189,7 @@ pub group_unclosed : (s : Scope) (text inner : List ℕ) (f : Formula) (r : Rang
     → Ok (leads.Open, inner) ≡ lead_at s text → Level s 0 inner f r mid → Err stop ≡ close_at mid → Refuses s text (Stopped stop)
 group_unclosed s text inner f r mid stop h v e = λ i. (AnOperator, Group ∷ i, mid, joined (lead_step (sym h) refl) (level_walk v (Group ∷ i)), group_open i mid stop (no_operator s inner f r mid v) e)
 
--- a fault behind the name of a call is one of the operand
+-- a fault after the name of a call is one of the operand
 pub call_refused : (s : Scope) (text : List ℕ) (g : Function) (left : ℕ) (mid : List ℕ) (e : Refusal) → Ok (leads.Name g left, mid) ≡ lead_at s text → CallRefuses s g left mid e → Refuses s text e
 call_refused s text g left mid e h x = later s AnOperand text (ItsBracket g left) mid e (λ i. (i, lead_step (sym h) refl)) x
 
@@ -200,6 +200,6 @@ pub whole_refused : (s : Scope) (text : List ℕ) (e : Refusal) → Refuses s te
 whole_refused s text Memory x = tt
 whole_refused s text (Stopped stop) x = x []
 
--- an expression that the text doesn't end behind is a fault of the whole text
+-- an expression that the text doesn't end after is a fault of the whole text
 pub whole_unended : (s : Scope) (text : List ℕ) (f : Formula) (r : Ranges) (rest : List ℕ) (stop : Stop) → Level s 0 text f r rest → Err stop ≡ end_at rest → WholeRefuses s text (Stopped stop)
 whole_unended s text f r rest stop v e = (AnOperator, [], rest, level_walk v [], whole_open rest stop (no_operator s text f r rest v) e)

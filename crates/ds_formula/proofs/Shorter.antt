@@ -1,4 +1,4 @@
--- What is behind a token is shorter than what the token stands before.
+-- What is after a token is shorter than what the token stands before.
 use Rattle.std.proofs.Common.{◌≡◌, ℕ, ◌+◌, ◌-◌, ◌*◌, ◌^◌, ◌<◌, ◌≤◌, pos, Bool, true, false, cond, leb, eqb, ◌&&◌, List, [], ◌∷◌, take, drop, length, Option, Some, None, Result, Ok, Err, refl, sym, ap, subst, arith}
 use Rattle.std.proofs.lemmas.Bool.{leb-true}
 use Rattle.std.proofs.lemmas.List.{length-drop}
@@ -24,7 +24,7 @@ use Rattle.ds_formula.proofs.Bytes.{from_shorter}
 use Rattle.ds_formula.proofs.Digits.{is_digit}
 use Rattle.ds_formula.proofs.Formed.{either, bind_with}
 
--- what is behind is shorter than this
+-- what is after is shorter than this
 abbrev pub Below : {A : Type 0} → ℕ → Read A → Type 0
 Below n (Ok x) = length x.1 < n
 Below n (Err e) = Unit {0}
@@ -176,7 +176,7 @@ lead_below s text = lead_of_below (length text) s (skipped text) (skipped_shorte
 pub lead_shorter : (s : Scope) (text : List ℕ) (t : Lead) (rest : List ℕ) → Ok (t, rest) ≡ lead_at s text → length rest < length text
 lead_shorter s text t rest e = subst (Below (length text)) (sym e) (lead_below s text)
 
--- ---- behind an operand
+-- ---- after an operand
 
 abbrev NoLonger : {A : Type 0} → ℕ → Read A → Type 0
 NoLonger n (Ok x) = length x.1 ≤ n
@@ -227,7 +227,7 @@ follow_no_longer : (text : List ℕ) → NoLonger (length text) (follow_at text)
 unfolding follow_at
 follow_no_longer text = follow_of_no_longer (length text) (skipped text) (skipped_shorter text)
 
--- what is behind the token there is no longer
+-- what is after the token there is no longer
 pub follow_shorter : (text : List ℕ) (t : Follow) (rest : List ℕ) → follow_at text ≡ Ok (t, rest) → length rest ≤ length text
 follow_shorter text t rest e = subst (NoLonger (length text)) e (follow_no_longer text)
 

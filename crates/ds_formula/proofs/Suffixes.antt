@@ -1,4 +1,4 @@
--- What is behind a token is an end of the text.
+-- What is after a token is an end of the text.
 use Rattle.std.proofs.Common.{◌≡◌, ℕ, zero, suc, ◌+◌, ◌-◌, ◌*◌, ◌^◌, pos, Bool, true, false, cond, leb, eqb, ◌&&◌, List, [], ◌∷◌, ◌++◌, drop, length, length-append, append_assoc, Option, Some, None, Result, Ok, Err, refl, sym, ap, subst, ◌∙◌, arith}
 use Rattle.std.specs.Char.{is_ascii_digit, is_ascii_alphabetic, to_ascii_uppercase}
 use Rattle.ds_formula.specs.declared.cells.Shape.{Shape}
@@ -50,7 +50,7 @@ dropped text rest h =
     let n : length text - length rest ≡ length h.0 = (let l = ap length h.1 in let a = length-append h.0 rest in omega (arith, l, a)) in
     ap (λ (k : ℕ). drop k text) n ∙ ap (drop (length h.0)) h.1 ∙ drop_before h.0 rest
 
--- what is behind is an end of this
+-- what is after is an end of this
 abbrev EndsIn : {A : Type 0} → List ℕ → Read A → Type 0
 EndsIn text (Ok x) = Behind text x.1
 EndsIn text (Err e) = Unit {0}
@@ -59,7 +59,7 @@ abbrev RestIn : List ℕ → Result (List ℕ) Stop → Type 0
 RestIn text (Ok rest) = Behind text rest
 RestIn text (Err e) = Unit {0}
 
--- what is behind white space is an end of the text
+-- what is after white space is an end of the text
 pub skipped_behind : (text : List ℕ) → Behind text (skipped text)
 skipped_behind [] = itself []
 skipped_behind (b ∷ bs) = either (λ (x : List ℕ). Behind (b ∷ bs) x) (is_space b) (skipped bs) (b ∷ bs) (λ _. more b bs (skipped bs) (skipped_behind bs)) (λ _. itself (b ∷ bs))
@@ -181,7 +181,7 @@ lead_in : (s : Scope) (text : List ℕ) → EndsIn text (lead_at s text)
 unfolding lead_at
 lead_in s text = lead_of_in text s (skipped text) (skipped_behind text)
 
--- ---- behind an operand
+-- ---- after an operand
 
 abbrev SomeIn : List ℕ → Option (Follow × List ℕ) → Type 0
 SomeIn text (Some x) = Behind text x.1
@@ -273,7 +273,7 @@ turn_in s (FirstArgument name) i text =
 turn_in s (ItsBracket f name) i text = by_bracket_in text f name i (byte_at 40 (skipped text)) (byte_in text 40 (skipped text) (skipped_behind text))
 turn_in s AnOperator i text = by_follow_in text i (follow_at text) (follow_in text)
 
--- what is behind the tokens of a walk is an end of its text
+-- what is after the tokens of a walk is an end of its text
 pub walk_in : {s : Scope} {d e : Due} {i j : List Bracket} {text rest : List ℕ} → Walk s d i text e j rest → Behind text rest
 walk_in {text = text} stay = itself text
 walk_in {s} {d = d} {i = i} {text = text} {rest = rest} (step {next = next} h v) = further text next rest (subst (TurnIn text) h (turn_in s d i text)) (walk_in v)

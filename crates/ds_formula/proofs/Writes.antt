@@ -32,7 +32,7 @@ use Rattle.ds_formula.proofs.Formed.{Formed, AllFormed, IsLiteral, IsArea}
 use Rattle.ds_formula.proofs.Digits.{unequal, decimal_starts, Parts}
 use Rattle.ds_formula.proofs.Back.{Leads, literal_back, reference_back, range_back, area_back, name_back, sign_back, open_back, bracket_back, close_back, semicolon_back, operator_back, operator_parts, end_back}
 
--- ---- what stands behind
+-- ---- what stands below
 
 abbrev given : Follow × List ℕ → Read Follow
 given x = Ok x

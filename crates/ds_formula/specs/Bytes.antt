@@ -5,7 +5,7 @@ use Rattle.ds_formula.specs.declared.tokens.Stop.{Stop}
 use Rattle.ds_formula.specs.declared.fault.FaultKind.{FaultKind}
 use Rattle.ds_formula.specs.declared.fault.FaultKind.TheVariants.{BadToken, NotWhole, NumberTooLarge, Unfinished}
 
--- what is read at the front, and what is behind it; or the fault there
+-- what is read at the front, and what is after it; or the fault there
 abbrev pub Read : Type 0 → Type 0
 Read A = Result (A × List ℕ) Stop
 
@@ -38,7 +38,7 @@ begins byte (b ∷ bs) = b == byte
 abbrev pub is_space : ℕ → Bool
 is_space b = b == 32 || b == 9 || b == 10 || b == 13
 
--- what is behind the white space at the front
+-- what is after the white space at the front
 abbrev pub skipped : List ℕ → List ℕ
 skipped [] = []
 skipped (b ∷ bs) = if is_space b then skipped bs else b ∷ bs
@@ -62,7 +62,7 @@ number_at limit (b ∷ bs) =
     if goes_on_as_fraction read.1 then Err (stop_at NotWhole read.1) else (if nat_le read.0 limit then Ok read else Err (stop_at NumberTooLarge (b ∷ bs))))
     else Err (unexpected_stop (b ∷ bs))
 
--- what is behind a byte that has to come
+-- what is after a byte that has to come
 unfoldable pub byte_at : ℕ → List ℕ → Result (List ℕ) Stop
 byte_at byte [] = Err (unexpected_stop [])
 byte_at byte (b ∷ bs) = if b == byte then Ok bs else Err (unexpected_stop (b ∷ bs))

@@ -1,4 +1,4 @@
--- Which expression stands at the front of a text, how its ranges stand, and what is behind it.
+-- Which expression stands at the front of a text, how its ranges stand, and what is after it.
 use Rattle.std.specs.Prelude.{◌≡◌, ℕ, suc, ◌<◌, true, List, Ok}
 use Rattle.ds_formula.specs.declared.content.Sign.{Sign}
 use Rattle.ds_formula.specs.declared.content.Operator.{Operator}
@@ -49,7 +49,7 @@ abbrev pub NoSemicolon : List ℕ → Type 0
 NoSemicolon text = (behind : List ℕ) → follow_at text ≡ Ok (Semicolon, behind) → ⊥
 
 mutual
-  -- an operand behind any number of signs: a number, a reference, a range, an expression in parentheses, or a call
+  -- an operand after any number of signs: a number, a reference, a range, an expression in parentheses, or a call
   pub data Operand (scope : Scope) : List ℕ → Formula → Ranges → List ℕ → Type 0 where
     leaf : {text : List ℕ} {l : Leaf} {rest : List ℕ} → lead_at scope text ≡ Ok (leads.Leaf l, rest) → Operand scope text (leaf_formula l) (leaf_ranges l) rest
     sign : {text mid rest : List ℕ} {s : Sign} {f : Formula} {r : Ranges}
@@ -59,7 +59,7 @@ mutual
     call : {text mid rest : List ℕ} {g : Function} {left : ℕ} {fs : Formulas} {r : Ranges}
         → lead_at scope text ≡ Ok (leads.Name g left, mid) → Call scope g mid fs r rest → Operand scope text (Called g fs) r rest
 
-  -- what is behind the name of a call: expressions in parentheses, as many as the function takes
+  -- what is after the name of a call: expressions in parentheses, as many as the function takes
   pub data Call (scope : Scope) : Function → List ℕ → Formulas → Ranges → List ℕ → Type 0 where
     bracketed : {g : Function} {text inner mid rest : List ℕ} {fs : Formulas} {r : Ranges}
         → byte_at 40 (skipped text) ≡ Ok inner → Arguments scope g inner fs r mid → follow_at mid ≡ Ok (Close, rest) → takes g (count fs) ≡ true → Call scope g text fs r rest

@@ -46,12 +46,12 @@ all_functions = first_functions ++ later_functions
 abbrev pub name_of : Function → List ℕ
 name_of f = (signature_of f).name
 
--- whether so many are no more than the most, where there is a most
+-- whether n is no more than the most, where there is a most
 abbrev pub is_within_most : ℕ → Option ℕ → Bool
 is_within_most n None = true
 is_within_most n (Some most) = nat_le n most
 
--- whether the function takes so many arguments
+-- whether the function takes that number of arguments
 abbrev pub takes : Function → ℕ → Bool
 takes f n = nat_le (signature_of f).least n && is_within_most n (signature_of f).most
 

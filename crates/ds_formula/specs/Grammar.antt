@@ -17,7 +17,7 @@ use Rattle.ds_formula.specs.Forms.{Expression}
 use Rattle.ds_formula.specs.Turns.{AnOperand, Faulty}
 use Rattle.ds_formula.specs.Sizes.{Fits}
 
--- the number that was read, where the text ends behind it
+-- the number that was read, where the text ends after it
 abbrev pub alone : ℕ → List ℕ → Result ℕ Stop
 alone n [] = Ok n
 alone n (b ∷ bs) = Err (unexpected_stop (b ∷ bs))
@@ -33,7 +33,7 @@ constant_of text =
     then (whole_of (2 ^ 63) (drop 1 text) >>= λ n. Ok (neg_ℤ (pos n)))
     else (if begins 43 text then (whole_of (2 ^ 63 - 1) (drop 1 text) >>= λ n. Ok (pos n)) else (whole_of (2 ^ 63 - 1) text >>= λ n. Ok (pos n)))
 
--- the rest of the text behind these bytes, where it begins with them
+-- the rest of the text after these bytes, where it begins with them
 abbrev pub behind : List ℕ → List ℕ → Option (List ℕ)
 behind [] text = Some text
 behind (p ∷ ps) [] = None
@@ -49,12 +49,12 @@ abbrev pub or_else : Option (List ℕ) → Option (List ℕ) → Option (List �
 or_else (Some x) other = Some x
 or_else None other = other
 
--- the expression behind what begins a formula: a second `=` is skipped
+-- the expression after what begins a formula: a second `=` is skipped
 abbrev pub expression_behind : Option (List ℕ) → Option (List ℕ)
 expression_behind (Some x) = Some (without_equals x)
 expression_behind None = None
 
--- the expression of a text that is a formula: behind `=` or `of:=`
+-- the expression of a text that is a formula: after `=` or `of:=`
 unfoldable pub expression_of : List ℕ → Option (List ℕ)
 expression_of text = expression_behind (or_else (behind (codes "=") text) (behind (codes "of:=") text))
 

@@ -42,11 +42,11 @@ abbrev pub behind_row : Shape → ℕ → Read ℕ → Option Cell
 behind_row shape column (Ok row) = at_end row.1 (cell_of shape column row.0)
 behind_row shape column (Err e) = None
 
--- the cell of the column that was read and of the row behind it, where the text ends there
+-- the cell of the column that was read and of the row after it, where the text ends there
 abbrev pub behind_column : Shape → Read ℕ → Option Cell
 behind_column shape (Ok column) = behind_row shape column.0 (row_at column.1)
 behind_column shape (Err e) = None
 
--- the cell of the sheet with this name: letters, then digits of which the first isn't 0, and nothing behind them
+-- the cell of the sheet with this name: letters, then digits of which the first isn't 0, and nothing after them
 abbrev pub cell_named : Shape → List ℕ → Option Cell
 cell_named shape text = behind_column shape (letters_at text)

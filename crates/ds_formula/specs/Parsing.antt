@@ -19,7 +19,7 @@ use Rattle.ds_formula.specs.Tokens.{follow_at}
 use Rattle.ds_formula.specs.Forms.{level_of}
 use Rattle.ds_formula.specs.Turns.{Bracket, Call, Due, AnOperand, ItsBracket, Faulty}
 
--- the operator that was read, and what is behind it, where it has this level or a tighter one
+-- the operator that was read, and what is after it, where it has this level or a tighter one
 abbrev pub from_level : ℕ → Read Follow → Option (Operator × List ℕ)
 from_level l (Ok (Infix o, rest)) = if nat_le l (level_of o) then Some (o, rest) else None
 from_level l (Ok (Close, rest)) = None
@@ -27,11 +27,11 @@ from_level l (Ok (Semicolon, rest)) = None
 from_level l (Ok (End, rest)) = None
 from_level l (Err s) = None
 
--- the operator of this level or a tighter one at the front, and what is behind it
+-- the operator of this level or a tighter one at the front, and what is after it
 abbrev pub operator_from : ℕ → List ℕ → Option (Operator × List ℕ)
 operator_from l text = from_level l (follow_at text)
 
--- what is behind the token that was read, where it is a semicolon
+-- what is after the token that was read, where it is a semicolon
 abbrev pub behind_semicolon : Read Follow → Option (List ℕ)
 behind_semicolon (Ok (Semicolon, rest)) = Some rest
 behind_semicolon (Ok (Infix o, rest)) = None
@@ -39,11 +39,11 @@ behind_semicolon (Ok (Close, rest)) = None
 behind_semicolon (Ok (End, rest)) = None
 behind_semicolon (Err s) = None
 
--- what is behind a semicolon at the front
+-- what is after a semicolon at the front
 abbrev pub semicolon_at : List ℕ → Option (List ℕ)
 semicolon_at text = behind_semicolon (follow_at text)
 
--- what is behind the token that was read, where it is a closing bracket; else it is a fault
+-- what is after the token that was read, where it is a closing bracket; else it is a fault
 abbrev pub behind_close : List ℕ → Read Follow → Result (List ℕ) Stop
 behind_close text (Ok (Close, rest)) = Ok rest
 behind_close text (Ok (Infix o, rest)) = Err (unexpected_stop (skipped text))
@@ -51,11 +51,11 @@ behind_close text (Ok (Semicolon, rest)) = Err (unexpected_stop (skipped text))
 behind_close text (Ok (End, rest)) = Err (unexpected_stop (skipped text))
 behind_close text (Err s) = Err (unexpected_stop (skipped text))
 
--- what is behind a closing bracket, which has to come
+-- what is after a closing bracket, which has to come
 abbrev pub close_at : List ℕ → Result (List ℕ) Stop
 close_at text = behind_close text (follow_at text)
 
--- what is behind the token that was read, where it is the end; else it is a fault
+-- what is after the token that was read, where it is the end; else it is a fault
 abbrev pub behind_end : List ℕ → Read Follow → Result (List ℕ) Stop
 behind_end text (Ok (End, rest)) = Ok rest
 behind_end text (Ok (Infix o, rest)) = Err (unexpected_stop (skipped text))
@@ -67,25 +67,25 @@ behind_end text (Err s) = Err (unexpected_stop (skipped text))
 abbrev pub end_at : List ℕ → Result (List ℕ) Stop
 end_at text = behind_end text (follow_at text)
 
--- want of memory, or the first fault where this is due, whatever is open around
+-- out of memory, or the first fault where this is due, whatever is open around
 abbrev pub RefusesAt : Scope → Due → List ℕ → Refusal → Type 0
 RefusesAt scope due text Memory = Unit {0}
 RefusesAt scope due text (Stopped stop) = (open_ones : List Bracket) → Faulty scope due open_ones text stop
 
--- want of memory, or the first fault where an operand is due, whatever is open around
+-- out of memory, or the first fault where an operand is due, whatever is open around
 abbrev pub Refuses : Scope → List ℕ → Refusal → Type 0
 Refuses scope = RefusesAt scope AnOperand
 
--- want of memory, or the first fault behind the name of a call, whatever is open around
+-- out of memory, or the first fault after the name of a call, whatever is open around
 abbrev pub CallRefuses : Scope → Function → ℕ → List ℕ → Refusal → Type 0
 CallRefuses scope f place = RefusesAt scope (ItsBracket f place)
 
--- want of memory, or the first fault among the arguments of a call, whatever is open around
+-- out of memory, or the first fault among the arguments of a call, whatever is open around
 abbrev pub ArgumentsRefuse : Scope → List ℕ → Refusal → Type 0
 ArgumentsRefuse scope text Memory = Unit {0}
 ArgumentsRefuse scope text (Stopped stop) = (f : Function) (n name : ℕ) (open_ones : List Bracket) → Faulty scope AnOperand (Call f n name ∷ open_ones) text stop
 
--- want of memory, or the first fault of a whole text
+-- out of memory, or the first fault of a whole text
 abbrev pub WholeRefuses : Scope → List ℕ → Refusal → Type 0
 WholeRefuses scope text Memory = Unit {0}
 WholeRefuses scope text (Stopped stop) = Faulty scope AnOperand [] text stop

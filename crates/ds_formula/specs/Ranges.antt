@@ -11,7 +11,7 @@ used Placed = Placed
 used (Bare left) = Misplaced left
 used (Misplaced left) = Misplaced left
 
--- the ranges of one expression and of another one behind it
+-- the ranges of one expression and of another one after it
 abbrev pub first_of : Ranges → Ranges → Ranges
 first_of Placed other = other
 first_of (Bare left) other = Bare left

@@ -59,7 +59,7 @@ both_inside text (Some one) (Some other) rest = Ok (Range (area_of one other) (l
 both_inside text (Some one) None rest = Err (stop_at OutsideSheet text)
 both_inside text None other rest = Err (stop_at OutsideSheet text)
 
--- the rest of a reference behind its first corner: `:` and the other corner, or the closing bracket
+-- the rest of a reference after its first corner: `:` and the other corner, or the closing bracket
 abbrev pub behind_corner : Shape → List ℕ → Option Cell → List ℕ → Read Leaf
 behind_corner shape text one rest =
     if begins 58 rest

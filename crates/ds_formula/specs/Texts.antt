@@ -57,7 +57,7 @@ abbrev mutual
   texts_of Nothing = []
   texts_of (Then f fs) = text_of f ++ others_of fs
 
-  -- the texts of further arguments, each behind a semicolon
+  -- the texts of further arguments, each after a semicolon
   pub others_of : Formulas → List ℕ
   others_of Nothing = []
   others_of (Then f fs) = 59 ∷ (text_of f ++ others_of fs)
@@ -66,7 +66,7 @@ abbrev mutual
 abbrev pub wrapped : ℕ → Formula → List ℕ
 wrapped level f = if nat_lt (precedence f) level then in_parentheses (text_of f) else text_of f
 
--- the text of a content: of a formula behind `=`
+-- the text of a content: of a formula after `=`
 abbrev pub content_text : PlainContent → List ℕ
 content_text Empty = []
 content_text (Constant z) = signed_decimal z

@@ -49,16 +49,16 @@ lead_of scope (b ∷ bs) =
     else (if is_ascii_alphabetic b then name_at scope.functions (b ∷ bs)
     else Err (unexpected_stop (b ∷ bs)))))))
 
--- the token at the front where an operand is due, behind white space, and what is behind it
+-- the token at the front where an operand is due, after white space, and what is after it
 unfoldable pub lead_at : Scope → List ℕ → Read Lead
 lead_at scope text = lead_of scope (skipped text)
 
--- the operator `<>`, `<=` or `<`, by what is behind its first byte
+-- the operator `<>`, `<=` or `<`, by what is after its first byte
 abbrev pub after_less : List ℕ → Operator × List ℕ
 after_less [] = (Less, [])
 after_less (b ∷ bs) = if b == 62 then (NotEqual, bs) else (if b == 61 then (LessOrEqual, bs) else (Less, b ∷ bs))
 
--- the operator `>=` or `>`, by what is behind its first byte
+-- the operator `>=` or `>`, by what is after its first byte
 abbrev pub after_greater : List ℕ → Operator × List ℕ
 after_greater [] = (Greater, [])
 after_greater (b ∷ bs) = if b == 61 then (GreaterOrEqual, bs) else (Greater, b ∷ bs)
@@ -67,7 +67,7 @@ after_greater (b ∷ bs) = if b == 61 then (GreaterOrEqual, bs) else (Greater, b
 abbrev pub infix_of : Operator × List ℕ → Option (Follow × List ℕ)
 infix_of x = Some (Infix x.0, x.1)
 
--- the token behind an operand, by its first byte and the bytes behind that: an operator, `)` or `;`
+-- the token after an operand, by its first byte and the bytes after that: an operator, `)` or `;`
 abbrev pub follow_token : ℕ → List ℕ → Option (Follow × List ℕ)
 follow_token b bs =
     if b == 41 then Some (Close, bs)
@@ -90,6 +90,6 @@ unfoldable pub follow_of : List ℕ → Read Follow
 follow_of [] = Ok (End, [])
 follow_of (b ∷ bs) = found (b ∷ bs) (follow_token b bs)
 
--- the token at the front where an operand has ended, behind white space, and what is behind it
+-- the token at the front where an operand has ended, after white space, and what is after it
 unfoldable pub follow_at : List ℕ → Read Follow
 follow_at text = follow_of (skipped text)

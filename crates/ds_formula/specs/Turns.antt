@@ -17,14 +17,14 @@ pub data Bracket : Type 0 where
   Group : Bracket
   Call : Function → ℕ → ℕ → Bracket
 
--- what is due: an operand, the first argument, the bracket behind a name, or what may follow an operand
+-- what is due: an operand, the first argument, the bracket after a name, or what may follow an operand
 pub data Due : Type 0 where
   AnOperand : Due
   FirstArgument : ℕ → Due
   ItsBracket : Function → ℕ → Due
   AnOperator : Due
 
--- what comes of the token at the front: what is due and open behind it, and the bytes there; or its fault; or the end of
+-- what comes of the token at the front: what is due and open after it, and the bytes there; or its fault; or the end of
 -- the whole text
 pub data Turn : Type 0 where
   Goes : Due → List Bracket → List ℕ → Turn
@@ -47,29 +47,29 @@ abbrev pub by_lead : List Bracket → Read Lead → Turn
 by_lead open_ones (Ok x) = after_lead open_ones x.0 x.1
 by_lead open_ones (Err s) = Stops s
 
--- behind a name: a bracket opens the first argument
+-- after a name: a bracket opens the first argument
 abbrev pub by_bracket : Function → ℕ → List Bracket → Result (List ℕ) Stop → Turn
 by_bracket f name open_ones (Ok rest) = Goes (FirstArgument name) (Call f 1 name ∷ open_ones) rest
 by_bracket f name open_ones (Err s) = Stops s
 
--- where a closing bracket comes behind an operand: it closes the group or the call that is open
+-- where a closing bracket comes after an operand: it closes the group or the call that is open
 abbrev pub closed : List Bracket → List ℕ → List ℕ → Turn
 closed [] text rest = Stops (unexpected_stop (skipped text))
 closed (Group ∷ open_ones) text rest = Goes AnOperator open_ones rest
 closed (Call f n name ∷ open_ones) text rest = if takes f n then Goes AnOperator open_ones rest else wrong_arguments name
 
--- where a semicolon comes behind an operand: the next argument of the call that is open
+-- where a semicolon comes after an operand: the next argument of the call that is open
 abbrev pub parted : List Bracket → List ℕ → List ℕ → Turn
 parted [] text rest = Stops (unexpected_stop (skipped text))
 parted (Group ∷ open_ones) text rest = Stops (unexpected_stop (skipped text))
 parted (Call f n name ∷ open_ones) text rest = Goes AnOperand (Call f (n + 1) name ∷ open_ones) rest
 
--- where the text ends behind an operand: no bracket may be open
+-- where the text ends after an operand: no bracket may be open
 abbrev pub ended : List Bracket → List ℕ → Turn
 ended [] text = Ends
 ended (b ∷ open_ones) text = Stops (unexpected_stop (skipped text))
 
--- where an operand has ended: what comes of the token behind it
+-- where an operand has ended: what comes of the token after it
 abbrev pub after_follow : List Bracket → List ℕ → Follow → List ℕ → Turn
 after_follow open_ones text (Infix o) rest = Goes AnOperand open_ones rest
 after_follow open_ones text Close rest = closed open_ones text rest

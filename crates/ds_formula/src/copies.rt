@@ -7,7 +7,7 @@ use crate::content::{Content, Tree};
 use std::alloc::{AllocError, Global};
 
 impl Content {
-    /// An equal content. The only error is want of memory.
+    /// An equal content. The only error is a failed allocation.
     pub fn copy(&self, alloc: Global) -> Result<Content, AllocError>
         ensures { IfOk result (λ c. plain c ≡ plain self.now) }
     {

@@ -4,7 +4,7 @@ ghost use Rattle.std.specs.Prelude.{◌≡◌, ◌≤◌, ◌-◌, ◌^◌, min,
 ghost use Rattle.ds_formula.specs.Bytes.{number_from};
 
 /// The number of the digits at the front, 0 where there are none, or the greatest one of 64 bits where it is greater;
-/// and what is behind them.
+/// and what is after them.
 #[inline(always)]
 pub fn digits(text: &[u8]) -> (u64, &[u8])
     ensures value { result.0 ≡ min (number_from 0 text.now).0 (2 ^ 64 - 1) }

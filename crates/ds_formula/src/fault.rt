@@ -9,7 +9,7 @@ pub enum FaultKind {
     TooLong,
     /// A byte that cannot stand where it stands.
     BadToken,
-    /// A `.`, `e` or `E` directly behind the digits of a number or of a constant.
+    /// A `.`, `e` or `E` directly after the digits of a number or of a constant.
     NotWhole,
     /// A number out of range. The offset is that of its first digit.
     NumberTooLarge,

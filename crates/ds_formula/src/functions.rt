@@ -48,7 +48,7 @@ fn of_many(name: &'static str) -> Signature
     }
 }
 
-// A function of so many values, or so few.
+// A function of any number of values between these two.
 fn of_values(name: &'static str, least: usize, most: usize) -> Signature
     ensures name { result.name.now ≡ name.now }
     ensures least { result.least ≡ least }

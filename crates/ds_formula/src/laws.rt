@@ -25,9 +25,9 @@ pub fn contents_call_known_functions()
     ensures { (functions : List Function) (shape : Shape) (text : List ℕ) (content : PlainContent) → ReadsIn (scope_with functions shape) text content → ContentCallsOnly functions content }
 {}
 
-/// So of the first seven functions and of all: a text that has a content with SUM, MIN, MAX, ABS, MOD, QUOTIENT and IF has
-/// the same one with COUNT, AND, OR and NOT beside them; and one that is refused stays so, for the same fault at the same
-/// byte, unless one of these four names stands there.
+/// The law for the first seven functions and for all: a text that has a content with SUM, MIN, MAX, ABS, MOD, QUOTIENT
+/// and IF has the same one with COUNT, AND, OR and NOT beside them; and one that is refused stays so, for the same
+/// fault at the same byte, unless one of these four names stands there.
 pub fn first_texts_stay()
     ensures contents { (shape : Shape) (text : List ℕ) (content : PlainContent) → ReadsIn (scope_with first_functions shape) text content → Reads shape text content }
     ensures faults { (shape : Shape) (text : List ℕ) (fault : TextFault) → FaultsIn (scope_with first_functions shape) text fault → (IsNameAmong later_functions text fault → ⊥) → Faults shape text fault }

@@ -10,7 +10,7 @@ use crate::tokens::{cell_of, column, row};
 use std::fmt;
 
 impl FaultKind {
-    /// Its name, as `NotWhole`.
+    /// The name of the fault, as `NotWhole`.
     pub fn name(self) -> &'static str
         ensures { result.now ≡ name_of_kind self }
     {

@@ -70,7 +70,7 @@ pub(crate) fn level_of(operator: Operator) -> usize
     }
 }
 
-// The operator of this level or a tighter one at the front, and the bytes behind it.
+// The operator of this level or a tighter one at the front, and the bytes after it.
 #[inline(always)]
 fn operator(level: usize, text: &[u8]) -> Option<(Operator, &[u8])>
     ensures is { option_map (λ x. (x.0, x.1.now)) result ≡ operator_from level text.now }
@@ -84,7 +84,7 @@ fn operator(level: usize, text: &[u8]) -> Option<(Operator, &[u8])>
     }
 }
 
-// What is behind a semicolon at the front.
+// What is after a semicolon at the front.
 #[inline(always)]
 fn semicolon(text: &[u8]) -> Option<&[u8]>
     ensures is { option_map (λ r. r.now) result ≡ semicolon_at text.now }
@@ -96,7 +96,7 @@ fn semicolon(text: &[u8]) -> Option<&[u8]>
     }
 }
 
-// What is behind a closing bracket, which has to come.
+// What is after a closing bracket, which has to come.
 #[inline(always)]
 fn close(text: &[u8]) -> Result<&[u8], Stop>
     ensures is { result_of (λ r. r.now) result ≡ close_at text.now }
@@ -166,7 +166,7 @@ fn joined(alloc: Global, operator: Operator, left: Parsed, right: Parsed) -> Res
     })
 }
 
-// The form of this level at the front, and what is behind it: an operand, and each operator of the level or a tighter
+// The form of this level at the front, and what is after it: an operand, and each operator of the level or a tighter
 // one with a right side that only tighter operators add to (precedence climbing).
 #[cycle(parser)]
 fn level<'a>(
@@ -189,7 +189,7 @@ fn level<'a>(
     Ok((left, rest))
 }
 
-// The operand at the front, behind any number of signs, and what is behind it.
+// The operand at the front, after any number of signs, and what is after it.
 #[cycle(parser)]
 fn operand<'a>(alloc: Global, shape: &Shape, text: &'a [u8]) -> Result<(Parsed, &'a [u8]), Refusal>
     ensures found { IfOk result (λ x. Operand (scope_of shape.now) text.now (formula x.0.tree) x.0.ranges x.1.now) }
@@ -221,7 +221,7 @@ fn operand<'a>(alloc: Global, shape: &Shape, text: &'a [u8]) -> Result<(Parsed, 
     }
 }
 
-// The arguments of a call behind its name, which began at the place, and what is behind the call.
+// The arguments of a call after its name, which began at the place, and what is after the call.
 #[cycle(parser)]
 fn call<'a>(
     alloc: Global,
@@ -250,7 +250,7 @@ fn call<'a>(
     Ok((trees, ranges, rest))
 }
 
-// Expressions, parted by semicolons, and what is behind them.
+// Expressions, parted by semicolons, and what is after them.
 #[cycle(parser)]
 fn arguments<'a>(
     alloc: Global,

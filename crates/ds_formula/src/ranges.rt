@@ -27,7 +27,7 @@ impl Ranges {
         }
     }
 
-    /// Those of one expression, and then those of another one.
+    /// The ranges of one expression, and then those of another one.
     pub fn first_of(self, other: Ranges) -> Ranges
         ensures { result ≡ first_of self other }
     {

@@ -32,7 +32,7 @@ pub const NODE_LIMIT: usize = 64;
 /// How deep the tree of a formula may be: a number has depth 1.
 pub const DEPTH_LIMIT: usize = 16;
 
-// A number and nothing behind it.
+// A number and nothing after it.
 #[tactic(auto, unfolding(crate::specs::Grammar::whole_of))]
 fn whole(limit: u64, text: &[u8]) -> Result<u64, Stop>
     requires { limit < 2 ^ 64 - 1 }

@@ -14,7 +14,7 @@ use std::alloc::{AllocError, Global};
 // How many cells the widest columns and the most rows have: each has a mark, row by row from the left.
 const PLACES: usize = COLUMN_LIMIT * ROW_LIMIT;
 
-// Whether the cell comes behind all of these, which ascend.
+// Whether the cell comes after all of these, which ascend.
 #[inline(always)]
 fn is_behind(cell: Cell, cells: &[Cell]) -> bool
     requires { AllPairs IsBefore cells.now }
@@ -26,7 +26,7 @@ fn is_behind(cell: Cell, cells: &[Cell]) -> bool
     }
 }
 
-// Adds a cell that some sheet has where it comes behind the cells. Where this says false, nothing is known of them.
+// Adds a cell that some sheet has where it comes after the cells. Where this says false, nothing is known of them.
 #[inline(always)]
 fn add_behind(cell: Cell, cells: &mut Vec<Cell>) -> Result<bool, AllocError>
     requires { AllPairs IsBefore cells.old.items }
@@ -108,7 +108,7 @@ fn mark_range(area: Rect, marks: &mut [bool; PLACES], rows: &mut Rows)
 }
 
 impl Tree {
-    // Lists the cells that are written in it behind the others, where they are single cells that ascend and none
+    // Appends the cells that are written in it to the others, where they are single cells that ascend and none
     // stands in a call. Where this says false, nothing is known of the cells: they are to be found by their marks.
     fn list(&self, cells: &mut Vec<Cell>) -> Result<bool, AllocError>
         requires { AllPairs IsBefore cells.old.items }
@@ -216,8 +216,8 @@ fn written_in(alloc: Global, tree: &Tree) -> Result<Vec<Cell>, AllocError>
 
 impl Content {
     /// The cells written in it, in reading order, none twice: references, ranges spelled out, and those in an unchosen
-    /// branch of `IF` too. Cells beyond column Z or row 64, which no sheet has, are left out. The only error is want of
-    /// memory.
+    /// branch of `IF` too. Cells beyond column Z or row 64, which no sheet has, are left out. The only error is a
+    /// failed allocation.
     pub fn refs(&self, alloc: Global) -> Result<Vec<Cell>, AllocError>
         ensures { IfOk result (λ v. AreRefs (plain self.now) v.items) }
     {

@@ -48,7 +48,7 @@ pub enum Lead {
     Name(Function, usize),
 }
 
-/// A token that may stand behind an operand.
+/// A token that may stand after an operand.
 #[derive(Clone, Copy, Debug, PartialEq, Eq)]
 pub enum Follow {
     /// An operator between two operands.
@@ -94,7 +94,7 @@ fn is_space(byte: u8) -> bool
     byte == b' ' || byte == b'\t' || byte == b'\n' || byte == b'\r'
 }
 
-// What is behind the white space at the front.
+// What is after the white space at the front.
 #[inline(always)]
 pub(crate) fn skip(text: &[u8]) -> &[u8]
     ensures is { result.now ≡ skipped text.now }
@@ -162,7 +162,7 @@ fn without_dollar(text: &[u8]) -> &[u8]
     }
 }
 
-// The number of the letters, or the greatest one where it is greater, and what is behind them.
+// The number of the letters, or the greatest one where it is greater, and what is after them.
 #[inline(always)]
 fn letters(text: &[u8]) -> (u64, &[u8])
     ensures value { result.0 ≡ min (letters_from 0 text.now).0 (2 ^ 64 - 1) }
@@ -344,7 +344,7 @@ fn lead_of<'a>(shape: &Shape, text: &'a [u8]) -> Result<(Lead, &'a [u8]), Stop>
     }
 }
 
-// The token at the front where an operand is due, behind white space, and what is behind it.
+// The token at the front where an operand is due, after white space, and what is after it.
 #[tactic(auto, unfolding(crate::specs::Tokens::lead_at))]
 #[inline(always)]
 pub(crate) fn read_lead<'a>(shape: &Shape, text: &'a [u8]) -> Result<(Lead, &'a [u8]), Stop>
@@ -354,7 +354,7 @@ pub(crate) fn read_lead<'a>(shape: &Shape, text: &'a [u8]) -> Result<(Lead, &'a 
     lead_of(shape, skip(text))
 }
 
-// What a `<` begins, and what is behind it.
+// What a `<` begins, and what is after it.
 fn after_less(text: &[u8]) -> (Operator, &[u8])
     ensures is { (result.0, result.1.now) ≡ after_less text.now }
     ensures shorter { length result.1.now ≤ length text.now }
@@ -366,7 +366,7 @@ fn after_less(text: &[u8]) -> (Operator, &[u8])
     }
 }
 
-// What a `>` begins, and what is behind it.
+// What a `>` begins, and what is after it.
 fn after_greater(text: &[u8]) -> (Operator, &[u8])
     ensures is { (result.0, result.1.now) ≡ after_greater text.now }
     ensures shorter { length result.1.now ≤ length text.now }
@@ -403,7 +403,7 @@ fn follow_of(text: &[u8]) -> Result<(Follow, &[u8]), Stop>
     }
 }
 
-// The token at the front where an operand has ended, behind white space, and what is behind it.
+// The token at the front where an operand has ended, after white space, and what is after it.
 #[tactic(auto, unfolding(crate::specs::Tokens::follow_at))]
 #[inline(always)]
 pub(crate) fn read_follow(text: &[u8]) -> Result<(Follow, &[u8]), Stop>

@@ -48,7 +48,7 @@ impl Tree {
         }
     }
 
-    // Writes it behind the text.
+    // Appends it to the text.
     #[cycle(writing)]
     fn write(&self, text: &mut String) -> Result<(), AllocError>
         ensures { OnOk result (string_bytes text.new ≡ string_bytes text.old ++ text_of (formula self.now)) }
@@ -98,7 +98,8 @@ impl Tree {
 
 impl Content {
     /// A text that reads back as an equal content, however long it is, where this one was read: in capital letters,
-    /// without white space, and without parentheses that precedence makes needless. The only error is want of memory.
+    /// without white space, and without parentheses that precedence makes needless. The only error is a failed
+    /// allocation.
     pub fn text(&self, alloc: Global) -> Result<String, AllocError>
         ensures { IfOk result (λ t. string_bytes t ≡ content_text (plain self.now)) }
     {

@@ -17,7 +17,7 @@ use Rattle.ds_eval.specs.SheetContents.{contents_of, plain_or_empty}
 use Rattle.ds_eval.proofs.Walks.{index_below, cell_back}
 use Rattle.ds_grid.specs.declared.ending.GridEnd.{GridEnd}
 use Rattle.ds_grid.specs.Grids.{width, text_at, IsCsv, IsGridOf, AreRead, AllRead, IsFirstFault, FailsAt, Fails, Ran}
-use Rattle.ds_streams.specs.declared.input.InputEnd.TheVariants as inputs
+use Rattle.ds_script_io.specs.declared.input.InputEnd.TheVariants as inputs
 
 -- ---- fields
 
@@ -62,7 +62,7 @@ even_more rows i columns row lt at is before r below = elim (cases_lt r i) [
 
 -- ---- contents
 
--- one more is behind the others
+-- one more is after the others
 pushed : {A : Type 0} (xs : List A) (x y : A) (i : ℕ) → slice_get (xs ++ x ∷ []) i ≡ Some y → (slice_get xs i ≡ Some y) ⊎ ((i ≡ length xs) × (x ≡ y))
 pushed [] x y zero is = inr (refl, cc)
 pushed [] x y (suc i) is = absurd (cc)
@@ -72,7 +72,7 @@ pushed (z ∷ xs) x y (suc i) is = elim (pushed xs x y i is) [
   | inr late ↦ inr ((let l = late.0 in omega arith), late.1)
 ]
 
--- the content of the next cell's text, behind those of the cells before
+-- the content of the next cell's text, after those of the cells before
 pub read_more : (shape : Shape) (rows : List (List (List ℕ))) (contents : List Content) (content : Content) (index : ℕ) (cell : Cell) (text : List ℕ) → AreRead shape rows contents → length contents ≡ index
     → cell ≡ cell_at shape index → text ≡ text_at rows cell → Reads shape text (plain content) → AreRead shape rows (contents ++ content ∷ [])
 read_more shape rows contents content index cell text read all at is now k x found = elim (pushed contents content x k found) [

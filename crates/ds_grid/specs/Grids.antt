@@ -12,10 +12,10 @@ use Rattle.ds_formula.specs.Plain.{PlainContent, plain}
 use Rattle.ds_formula.specs.Grammar.{Reads, Faults}
 use Rattle.ds_eval.specs.declared.value.Value.{Value}
 use Rattle.ds_eval.specs.Scratch.{IsScratch}
-use Rattle.ds_streams.specs.AnswerTexts.{rows_text}
-use Rattle.ds_streams.specs.Input.{EndsWith}
-use Rattle.ds_streams.specs.declared.input.InputEnd.{InputEnd}
-use Rattle.ds_streams.specs.declared.input.InputEnd.TheVariants as inputs
+use Rattle.ds_script_io.specs.AnswerTexts.{rows_text}
+use Rattle.ds_script_io.specs.Input.{EndsWith}
+use Rattle.ds_script_io.specs.declared.input.InputEnd.{InputEnd}
+use Rattle.ds_script_io.specs.declared.input.InputEnd.TheVariants as inputs
 use Rattle.ds_grid.specs.declared.ending.GridFault.{GridFault}
 use Rattle.ds_grid.specs.declared.ending.GridFault.TheVariants.{EmptyGrid, BadCsv, TooLarge}
 use Rattle.ds_grid.specs.declared.ending.GridEnd.{GridEnd}

@@ -15,7 +15,7 @@ use ds_formula::reading::read_content;
 use std::alloc::{AllocError, Global};
 
 /// Every record of a text without a heading line; a byte order mark and blank lines are passed over,
-/// as `csv` does. An error is a want of memory.
+/// as `csv` does. An error means that an allocation failed.
 pub fn records(alloc: Global, text: &[u8]) -> Result<Vec<ByteRecord>, AllocError>
     ensures { IfOk result (λ rows. AreRecords default_config state.StartRecord (strip_bom text.now) (map fields_of rows.items)) }
 {

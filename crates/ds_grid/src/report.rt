@@ -4,8 +4,8 @@ ghost use Rattle.std.specs.Prelude.{◌≡◌, ◌≢◌, ◌≤◌, ◌+◌, �
 ghost use Rattle.std.specs.Io.KnownBytes.{Consumes, Appends};
 ghost use Rattle.ds_formula.specs.Cells.{count_of};
 ghost use Rattle.ds_eval.specs.Numbers.{value_text};
-ghost use Rattle.ds_streams.specs.AnswerTexts.{rows_text};
-ghost use Rattle.ds_streams.specs.Streams.{reader_of, bytes_given, has_ended, read_failed, writer_of, write_failed};
+ghost use Rattle.ds_script_io.specs.AnswerTexts.{rows_text};
+ghost use Rattle.ds_script_io.specs.Streams.{reader_of, bytes_given, has_ended, read_failed, writer_of, is_flushed, write_failed};
 ghost use Rattle.ds_grid.specs.Grids.{Shows, Fails, Concludes};
 ghost use Rattle.ds_grid.specs.declared.ending.GridEnd as GridEnd;
 ghost use Rattle.ds_formula.specs.Limits.{INPUT_MOST};
@@ -14,10 +14,10 @@ use crate::ending::GridEnd;
 use crate::grid::{contents, records, shape_of};
 use ds_eval::scratch::scratch;
 use ds_eval::sheet::Sheet;
-use ds_streams::answer::value_lines;
-use ds_streams::input::{InputEnd, read_input};
-use ds_streams::line::INPUT_LIMIT;
-use ds_streams::streams::{Reading, Writing};
+use ds_script_io::answer::value_lines;
+use ds_script_io::input::{InputEnd, read_input};
+use ds_script_io::line::INPUT_LIMIT;
+use ds_script_io::streams::{Reading, Writing};
 use std::alloc::{AllocError, Global};
 use std::io::{Read, Write};
 
@@ -43,6 +43,7 @@ fn write_out<W: Write>(writer: &mut Writing<W>, text: &[u8]) -> GridEnd
     ensures written { result ≢ GridEnd.WriteFailed → Appends (W.contents (writer_of writer.old)) (W.contents (writer_of writer.new)) text.now }
     ensures no_failure { result ≢ GridEnd.WriteFailed → write_failed writer.new ≡ write_failed writer.old }
     ensures write_failed { result ≡ GridEnd.WriteFailed → write_failed writer.new ≡ true }
+    ensures flushed { is_flushed writer.old ≡ true → result ≢ GridEnd.WriteFailed → is_flushed writer.new ≡ true }
 {
     if writer.write_all(text).is_err() || writer.flush().is_err() {
         return GridEnd::WriteFailed;
@@ -60,6 +61,7 @@ pub fn report_grid<R: Read, W: Write>(
     ensures given { bytes_given reader.new ≤ bytes_given reader.old + (INPUT_MOST + 1) }
     ensures no_failure { result ≢ GridEnd.WriteFailed → write_failed writer.new ≡ write_failed writer.old }
     ensures write_failed { result ≡ GridEnd.WriteFailed → write_failed writer.new ≡ true }
+    ensures flushed { is_flushed writer.old ≡ true → result ≢ GridEnd.WriteFailed → is_flushed writer.new ≡ true }
     ensures outcome { result ≢ GridEnd.WriteFailed → (bytes : List ℕ) × (out : List ℕ) × Consumes (R.remaining (reader_of reader.old)) (R.remaining (reader_of reader.new)) bytes
         × Appends (W.contents (writer_of writer.old)) (W.contents (writer_of writer.new)) out
         × Concludes INPUT_MOST (R.remaining (reader_of reader.new)) (has_ended reader.new) (read_failed reader.new) bytes out result }

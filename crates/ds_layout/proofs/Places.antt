@@ -258,12 +258,12 @@ IsPlace-place_of layout n h = IsPlaceOf-place_by (cells_of layout) (parts_of lay
 pub number_of_alone : (layout : Layout) (r place : Place) → IsPlace layout r → IsPlace layout place → number_of layout r ≡ number_of layout place → r ≡ place
 number_of_alone layout r place h k e = sym (place_of-number_of layout r h) ∙ ap (place_of layout) e ∙ place_of-number_of layout place k
 
--- one more class behind those of the words before
+-- one more class after those of the words before
 pub record AreClasses (layout : Layout) (classes : List Class) (n : ℕ) : Type 0 where
   pub count : length classes ≡ n
   pub each : (k : ℕ) → k < n → get_or classes k Stamped ≡ class_of (place_of layout k)
 
--- the next place's class, behind those of the words before
+-- the next place's class, after those of the words before
 pub one_more_class : (layout : Layout) (classes longer : List Class) (n : ℕ) (c : Class) (r : Place) → AreClasses layout classes n → longer ≡ classes ++ c ∷ [] → c ≡ class_of r → r ≡ place_of layout n
     → AreClasses layout longer (n + 1)
 one_more_class layout classes longer n c r h more is at = record {

@@ -6,7 +6,7 @@ use Rattle.std.specs.Int.{bit_at}
 abbrev pub part_with : ℕ → ℕ
 part_with number = number / 64
 
--- how many words the bits of so many numbers take
+-- how many words the bits of that number of numbers take
 abbrev pub parts_for : ℕ → ℕ
 parts_for numbers = (numbers + 63) / 64
 

@@ -9,7 +9,7 @@ pub record CanPack (head : Head) : Type 0 where
   pub process : head.process < 256
   pub number : head.number < 256
 
--- the head is that of an edit of a sheet with so many processes, with a stamp from 1 on
+-- the head is that of an edit of a sheet with that number of processes, with a stamp from 1 on
 pub record IsHead (processes : ℕ) (head : Head) : Type 0 where
   pub counted : 0 < head.stamp
   pub packs : CanPack head

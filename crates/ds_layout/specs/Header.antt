@@ -8,7 +8,7 @@ pub record CanPack (header : Header) : Type 0 where
   pub cell : header.cell < 2 ^ 56
   pub length : header.length < 256
 
--- the header has a cell of a sheet with so many, and the length of a text
+-- the header has a cell of a sheet with that number of cells, and the length of a text
 pub record IsHeader (cells : ℕ) (header : Header) : Type 0 where
   pub cell : header.cell < cells
   pub length : header.length ≤ TEXT_MOST

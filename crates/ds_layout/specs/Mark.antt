@@ -35,7 +35,7 @@ parts_of word = record {
   dirty = word % 2 == 1;
 }
 
--- the holder, where it is one of so many processes; any other one is nobody
+-- the holder, where it is one of that number of processes; any other one is nobody
 abbrev pub present : ℕ → Option ℕ → Option ℕ
 present processes None = None
 present processes (Some process) = if nat_lt process processes then Some process else None
@@ -80,7 +80,7 @@ dirtied word = word + 1
 abbrev pub marked : ℕ → ℕ
 marked word = dirtied (tenure word * 2)
 
--- what a mark's word says in a sheet with so many processes
+-- what a mark's word says in a sheet with that number of processes
 abbrev pub mark_of : ℕ → ℕ → Mark
 mark_of processes word = record {
   generation = word / 32;

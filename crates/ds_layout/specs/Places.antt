@@ -49,12 +49,12 @@ abbrev pub parts_of : Layout → ℕ
 parts_of layout = parts_for (cells_of layout)
 
 -- how many words a sheet may have: its version; a head, a mark, a value, a kind and an index row for each cell; an
--- announcement, the records with a header and a text each, and the done bits of each process; behind them the texts of
+-- announcement, the records with a header and a text each, and the done bits of each process; after them the texts of
 -- the second layout
 abbrev pub WORDS_MOST : ℕ
 WORDS_MOST = 1 + CELLS_MOST * (4 + parts_for CELLS_MOST) + PROCESSES_MOST * (1 + RECORDS * (1 + FIRST_PARTS) + DONE_PARTS + RECORDS * SECOND_PARTS)
 
--- the place is one of a sheet with so many cells, parts of a row, and processes
+-- the place is one of a sheet with that number of cells, parts of a row, and processes
 abbrev pub IsPlaceOf : ℕ → ℕ → ℕ → Place → Type 0
 IsPlaceOf cells parts processes Version = Unit {0}
 IsPlaceOf cells parts processes (Head cell) = cell < cells
@@ -71,7 +71,7 @@ IsPlaceOf cells parts processes (Done process part) = (process < processes) × (
 abbrev pub IsPlace : Layout → Place → Type 0
 IsPlace layout place = IsPlaceOf (cells_of layout) (parts_of layout) layout.processes place
 
--- the numbers where each kind of words begins, one kind behind the other, of rows of so many parts
+-- the numbers where each kind of words begins, one kind after the other, of rows of that number of parts
 abbrev pub starts_for : ℕ → ℕ → ℕ → Starts
 starts_for cells parts processes =
     let marks = 1 + cells in

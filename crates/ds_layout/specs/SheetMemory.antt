@@ -14,7 +14,7 @@ use Rattle.ds_layout.specs.declared.place.Place.TheVariants.{Version, Head, Mark
 use Rattle.ds_layout.specs.declared.layout.Layout.{Layout}
 use Rattle.ds_layout.specs.Places.{cells_of, parts_of, parts_in, words_of, class_of, IsPlace, number_of, place_of}
 
--- whether the place is one of a sheet with so many cells, parts of a row, and processes
+-- whether the place is one of a sheet with that number of cells, parts of a row, and processes
 abbrev pub is_place_of : ℕ → ℕ → ℕ → Place → Bool
 is_place_of cells parts processes Version = true
 is_place_of cells parts processes (Head cell) = nat_lt cell cells

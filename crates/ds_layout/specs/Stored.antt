@@ -13,7 +13,7 @@ kind_code DivZero = 2
 kind_code Num = 3
 kind_code Circular = 4
 
--- the height and the number that go with a kind, in a sheet with so many cells
+-- the height and the number that go with a kind, in a sheet with that number of cells
 abbrev pub Goes : ℕ → Kind → ℕ → ℤ → Type 0
 Goes cells Blank height value = (height < cells) × (value ≡ pos 0)
 Goes cells Number height value = height < cells
@@ -21,7 +21,7 @@ Goes cells DivZero height value = (height < cells) × (value ≡ pos 0)
 Goes cells Num height value = (height < cells) × (value ≡ pos 0)
 Goes cells Circular height value = (height ≡ cells) × (value ≡ pos 0)
 
--- what a cell can show in a sheet with so many cells
+-- what a cell can show in a sheet with that number of cells
 abbrev pub IsStored : ℕ → Stored → Type 0
 IsStored cells s = Goes cells s.kind s.height s.value
 

@@ -3,7 +3,7 @@ use Rattle.std.specs.Prelude.{ℕ, ◌+◌, ◌-◌, ◌*◌, ◌/◌, List, map
 use Rattle.std.specs.List.{range_with_len}
 use Rattle.std.specs.Int.{w64, to_le_bytes, from_le_bytes}
 
--- how many words a text of so many bytes takes, eight bytes in each
+-- how many words a text of n bytes takes, eight bytes in each
 abbrev pub parts_for : ℕ → ℕ
 parts_for bytes = (bytes + 7) / 8
 
@@ -11,7 +11,7 @@ parts_for bytes = (bytes + 7) / 8
 abbrev pub start_of : ℕ → ℕ
 start_of part = 8 * part
 
--- how many bytes of a text of so many bytes the part has
+-- how many bytes of a text of n bytes the part has
 abbrev pub length_in : ℕ → ℕ → ℕ
 length_in bytes part = min (bytes - start_of part) 8
 

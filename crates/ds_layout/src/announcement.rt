@@ -8,11 +8,11 @@ use crate::place::RECORDS;
 /// How far an announced edit is.
 #[derive(Clone, Copy, Debug, PartialEq, Eq)]
 pub enum Phase {
-    /// It may still count or not.
+    /// It may still be linearized or not.
     Pending,
-    /// It counts.
+    /// It is linearized.
     Done,
-    /// It does not count.
+    /// It is not linearized.
     NotDone,
 }
 

@@ -11,7 +11,7 @@ pub fn part(number: usize) -> usize
     number / 64
 }
 
-/// How many words the bits of so many numbers take.
+/// How many words the bits of that number of numbers take.
 #[inline(always)]
 pub fn parts(numbers: usize) -> usize
     ensures { result ≡ parts_for numbers }
@@ -61,7 +61,7 @@ fn behind_blanks(words: &[u64], number: usize, end: usize) -> usize
     if at < parts { number.max(64 * at) } else { end }
 }
 
-// The number behind those that have their bits in the same word, at most the end.
+// The number after those that have their bits in the same word, at most the end.
 #[inline(always)]
 fn word_end(number: usize, end: usize) -> usize
     requires { number ≤ end }

@@ -1,4 +1,4 @@
-//! The head of a cell: its last counted edit.
+//! The head of a cell: its last linearized edit.
 
 ghost use Rattle.std.specs.Prelude.{◌≡◌, ℕ, ◌<◌, IfSome};
 ghost use Rattle.ds_layout.specs.Head.{CanPack, IsHead, parts_of, next_head, head_word, head_of, names_edit};
@@ -58,7 +58,7 @@ impl Head {
         }
     }
 
-    /// What a head's word says in a sheet with so many processes: `None` where the stamp is 0, as
+    /// What a head's word says in a sheet with that number of processes: `None` where the stamp is 0, as
     /// in a cell without edits, or the process is not one of the sheet.
     pub fn read(word: u64, processes: usize) -> Option<Head>
         ensures value { result ≡ head_of processes word }

@@ -26,7 +26,7 @@ impl Header {
         self.cell as u64 * 256 + self.length as u64
     }
 
-    /// What a header's word says in a sheet with so many cells: `None` where the cell is none of
+    /// What a header's word says in a sheet with that number of cells: `None` where the cell is none of
     /// them or the length is more than a text's.
     pub fn read(word: u64, cells: usize) -> Option<Header>
         ensures value { result ≡ header_of cells word }

@@ -305,7 +305,7 @@ impl Layout {
         self.placed(number)
     }
 
-    /// The class of each word, in the order of their numbers. An error is a want of memory.
+    /// The class of each word, in the order of their numbers. An error means that an allocation failed.
     pub fn classes(&self, alloc: Global) -> Result<Vec<Class>, AllocError>
         ensures { IfOk result (λ v. HasClasses self.now v.items) }
     {

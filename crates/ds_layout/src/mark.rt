@@ -49,7 +49,7 @@ impl Mark {
         self.generation * 32 + holder * 2 + self.dirty as u64
     }
 
-    /// What a mark's word says in a sheet with so many processes: a holder that is none of them is
+    /// What a mark's word says in a sheet with that number of processes: a holder that is none of them is
     /// read as nobody.
     #[inline(always)]
     pub fn read(word: u64, processes: usize) -> Mark

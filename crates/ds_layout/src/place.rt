@@ -27,7 +27,7 @@ pub enum Edition {
     /// Texts of 15 words, before the done bits.
     #[default]
     First,
-    /// Texts of 30 words, behind all other words.
+    /// Texts of 30 words, after all other words.
     Second,
 }
 
@@ -37,7 +37,7 @@ pub enum Place {
     /// Which layout the words have.
     #[default]
     Version,
-    /// The last counted edit of a cell.
+    /// The last linearized edit of a cell.
     Head(usize),
     /// Whether a cell is clean, marked or held.
     Mark(usize),
@@ -72,7 +72,7 @@ pub enum Place {
         /// Which part of the text, from 0.
         part: usize,
     },
-    /// A part of the done bits of a process: which of its edits count and were superseded.
+    /// A part of the done bits of a process: which of its edits are linearized and were superseded.
     Done {
         /// The process of the edits.
         process: usize,

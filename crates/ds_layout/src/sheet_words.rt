@@ -32,8 +32,8 @@ impl Model for SheetWords {
 }
 
 impl SheetWords {
-    /// The words of a new sheet: zero on both sides, with empty buffers. An error is a want of
-    /// memory.
+    /// The words of a new sheet: zero on both sides, with empty buffers. An error means that an allocation
+    /// failed.
     pub fn new(alloc: Global, layout: Layout) -> Result<SheetWords, AllocError>
         ensures layout { IfOk result (λ s. s.layout ≡ layout) }
         ensures fresh { IfOk result (λ s. IsFresh (memory s)) }
@@ -48,7 +48,7 @@ impl SheetWords {
         })
     }
 
-    /// Equal words and buffers, in memory of their own. An error is a want of memory.
+    /// Equal words and buffers, in memory of their own. An error means that an allocation failed.
     pub fn copy(&self, alloc: Global) -> Result<SheetWords, AllocError>
         ensures { IfOk result (λ s. s ≡ self.now) }
     {

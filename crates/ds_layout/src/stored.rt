@@ -64,7 +64,7 @@ impl Stored {
         self.value.cast_unsigned()
     }
 
-    /// What the two words of a cell say in a sheet with so many cells. A kind of 4 or more, or a
+    /// What the two words of a cell say in a sheet with that number of cells. A kind of 4 or more, or a
     /// height of the number of cells or more, is read as `Circular` at that height; the value is 0
     /// where the kind is not `Number`.
     pub fn read(value: u64, kind: u64, cells: usize) -> Stored

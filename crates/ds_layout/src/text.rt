@@ -5,14 +5,14 @@ ghost use Rattle.ds_layout.specs.TextWords.{parts_for, length_in, part_of, part_
 
 use crate::place::SECOND_PARTS;
 
-/// How many words a text of so many bytes takes.
+/// How many words a text of n bytes takes.
 pub fn text_parts(bytes: usize) -> usize
     ensures { result ≡ parts_for bytes }
 {
     bytes.div_ceil(8)
 }
 
-/// How many bytes of a text of so many bytes the part has: eight, or what is left in the last one.
+/// How many bytes of a text of n bytes the part has: eight, or what is left in the last one.
 pub fn part_length(bytes: usize, part: usize) -> usize
     requires { part < parts_for bytes }
     ensures { result ≡ length_in bytes part }

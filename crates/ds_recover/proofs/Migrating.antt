@@ -1,4 +1,4 @@
--- Each step of a migration keeps a world sound, and what the others count on.
+-- Each step of a migration keeps a world sound, and what the others rely on.
 use Rattle.std.proofs.Common.{ℕ, ◌≡◌, ◌≢◌, ◌<◌, ◌≤◌, ◌+◌, ◌-◌, ◌*◌, ◌==◌, nat_lt, Bool, true, false, List, [], ◌∷◌, ◌++◌, refl, ap, sym, ◌∙◌, subst, arith, inl, inr, suc, max}
 use Rattle.std.specs.Prelude.{Contains, Option, if◌then◌else◌}
 use Rattle.std.proofs.lemmas.Bool.{cases_eq, ltb-true, ltb-false}
@@ -29,7 +29,7 @@ use Rattle.ds_state.specs.declared.migration.MigrateEnd.TheVariants.{Migrated, A
 use Rattle.ds_state.specs.declared.migration.MigrateStage.{MigrateStage}
 use Rattle.ds_state.specs.declared.migration.MigrateStage.TheVariants.{LoadVersion, LoadOld, StoreNew, FlushNew, BackNew, Swap, FlushVersion, BackVersion, Answer}
 use Rattle.ds_state.specs.declared.situation.Situation.{Situation}
-use Rattle.ds_state.specs.declared.situation.Situation.TheVariants.{Idle, Stopped, Editing, Working, Recovering, Reporting, Migrating}
+use Rattle.ds_state.specs.declared.situation.Situation.TheVariants.{Idle, Stopped, Editing, Working, Recovering, Showing, Migrating}
 use Rattle.ds_state.proofs.Stable.{doubt_grows}
 use Rattle.ds_state.proofs.Frames.{CatchesUp, Moves, Goes, turns, NewTexts, Switches, MovesVersion, KeepsOwing, KeepsApart, grows_own, shown_back, agrees_on, version_word, moves_sound}
 use Rattle.ds_state.proofs.Bearing.{Mine, MyMarks, bears, all_stand, no_new_marks, text_same, splits_last, pends_last, marks_grow, apart_lasts}
@@ -50,7 +50,7 @@ IsHalted Stopped = Unit {0}
 IsHalted (Editing e) = ⊥
 IsHalted (Working e) = ⊥
 IsHalted (Recovering e) = IsWaking e.stage
-IsHalted (Reporting e) = ⊥
+IsHalted (Showing e) = ⊥
 IsHalted (Migrating e) = Unit {0}
 
 -- the words that a migration moves
@@ -94,7 +94,7 @@ owes_halted m p (Idle next) r c x h = absurd h
 owes_halted m p (Editing e) r c x h = absurd h
 owes_halted m p (Working e) r c x h = absurd h
 owes_halted m p (Recovering e) r c x h = waking_owes m p e.row e.stage r c x h
-owes_halted m p (Reporting e) r c x h = absurd h
+owes_halted m p (Showing e) r c x h = absurd h
 
 parts_halted : (s : Situation) (r : ℕ) → IsHalted s → Parts s r
 parts_halted Stopped r h = tt
@@ -103,7 +103,7 @@ parts_halted (Idle next) r h = absurd h
 parts_halted (Editing e) r h = absurd h
 parts_halted (Working e) r h = absurd h
 parts_halted (Recovering e) r h = waking_parts e.stage r h
-parts_halted (Reporting e) r h = absurd h
+parts_halted (Showing e) r h = absurd h
 
 pends_halted : (w : PlainWorld) (p : ℕ) (s : Situation) (c x : ℕ) → IsHalted s → Excuses w p s c x → IsPending w p c
 pends_halted w p Stopped c x h o = o
@@ -112,7 +112,7 @@ pends_halted w p (Idle next) c x h o = absurd h
 pends_halted w p (Editing e) c x h o = absurd h
 pends_halted w p (Working e) c x h o = absurd h
 pends_halted w p (Recovering e) c x h o = o.0
-pends_halted w p (Reporting e) c x h o = absurd h
+pends_halted w p (Showing e) c x h o = absurd h
 
 excuses_halted : (w : PlainWorld) (p : ℕ) (s : Situation) (c x : ℕ) → IsHalted s → IsPending w p c → Excuses w p s c x
 excuses_halted w p Stopped c x h o = o
@@ -121,7 +121,7 @@ excuses_halted w p (Idle next) c x h o = absurd h
 excuses_halted w p (Editing e) c x h o = absurd h
 excuses_halted w p (Working e) c x h o = absurd h
 excuses_halted w p (Recovering e) c x h o = (o, waking_excuses w.memory p c e.stage x h)
-excuses_halted w p (Reporting e) c x h o = absurd h
+excuses_halted w p (Showing e) c x h o = absurd h
 
 split_pends : (w : PlainWorld) (p : ℕ) (s : Situation) (c head : ℕ) → IsHalted s → Splits w p s c head → IsPending w p c
 split_pends w p Stopped c head h o = o
@@ -130,7 +130,7 @@ split_pends w p (Idle next) c head h o = absurd h
 split_pends w p (Editing e) c head h o = absurd h
 split_pends w p (Working e) c head h o = absurd h
 split_pends w p (Recovering e) c head h o = o.0
-split_pends w p (Reporting e) c head h o = absurd h
+split_pends w p (Showing e) c head h o = absurd h
 
 splits_halted : (w : PlainWorld) (p : ℕ) (s : Situation) (c head : ℕ) → IsHalted s → IsPending w p c → Splits w p s c head
 splits_halted w p Stopped c head h o = o
@@ -139,7 +139,7 @@ splits_halted w p (Idle next) c head h o = absurd h
 splits_halted w p (Editing e) c head h o = absurd h
 splits_halted w p (Working e) c head h o = absurd h
 splits_halted w p (Recovering e) c head h o = (o, waking_splits e.stage h)
-splits_halted w p (Reporting e) c head h o = absurd h
+splits_halted w p (Showing e) c head h o = absurd h
 
 away_from : (place r : Place) → IsAway place → (IsAway r → ⊥) → r ≢ place
 away_from place r away not same = not (subst (λ (x : Place). IsAway x) (sym same) away)
@@ -253,7 +253,7 @@ by_test : (P : MigrateStage → Type 0) (b : Bool) (x y : MigrateStage) → (b �
 by_test P true x y f g = f refl
 by_test P false x y f g = g refl
 
--- so many words are copied, and the next one is looked at, or all are copied
+-- n words are copied, and the next one is looked at, or all are copied
 from_fits : (w : PlainWorld) (e : PlainMigrateCall) (n : ℕ) → n ≤ old_words e.processes → Copying w.memory n → MovesAt w e (copy_from (old_words e.processes) n)
 from_fits w e n most h = by_test (λ s. MovesAt w e s) (nat_lt n (old_words e.processes)) (LoadOld n) Swap (λ b. h)
     (λ b. let l = ltb-false n (old_words e.processes) b in subst (λ (k : ℕ). Copying w.memory k) (omega arith) h)
@@ -439,7 +439,7 @@ back_new e n word old new sound real is t =
     (λ k now. absurd (no_second new copying.agrees now)) (inr (inr (λ seen. no_second old h.0.agrees (inl seen))))
     (from_holds new e.process (at e stage) (old_words e.processes) (n + 1) b.mine) (λ c x. no_mark e (BackNew n) word old new sound real is t c x b.mine) version
 
--- all is copied: the second layout has the records of all counted edits
+-- all is copied: the second layout has the records of all linearized edits
 texts_copied : (w : PlainWorld) (processes : ℕ) → IsSound w → w.layout.processes ≡ processes → Copying w.memory (old_words processes) → (q n part : ℕ) → RecordFits w q n (suc part) (w.memory.cached (Text Second q n part)) (w.memory.persisted (Text Second q n part))
 texts_copied w processes sound count h q n part e there i j k =
     let of : IsOfSheet w e = All-contains (λ (f : PlainEdit). IsOfSheet w f) w.counted e sound.of_sheet there in
@@ -537,7 +537,7 @@ answers e how word old new sound real is t =
     halted_keeps e.process Version old new k t.counted sound real tt was' now (t.open_edits e.process) clear (version_word e.process old new k sound)
     (subst (λ (x : Situation). CallFits new e.process x) (sym t.situation) (record { buffer = empty; doubt = doubt_on e.process Version old new k t.counted sound real tt was' now (t.open_edits e.process) clear f.doubt }))
 
--- each step of a migration keeps a sound world sound, and what others count on
+-- each step of a migration keeps a sound world sound, and what others rely on
 pub migration_keeps : (e : PlainMigrateCall) (s : MigrateStage) (word : ℕ) (old new : PlainWorld) → IsSound old → e.process < old.layout.processes → old.situation e.process ≡ Migrating (at e s) → StepsAt e s word old new → Keeps e.process old new
 migration_keeps e LoadVersion word old new sound real is t = load_version e word old new sound real is t
 migration_keeps e (LoadOld n) word old new sound real is t = load_old e n word old new sound real is t

@@ -29,9 +29,9 @@ pub record IsMoved (v : WorldValue) (p : ℕ) (e : PlainMigrateCall) : Type 0 wh
 pub moved_from : (v : WorldValue) (p : ℕ) (e : PlainMigrateCall) (read : Situation) → p < length v.situations → read ≡ get_or v.situations p read → read ≡ Migrating e → IsMoved v p e
 moved_from v p e read lt is here = record { there = lt; is = get_or_default v.situations p (Idle first_rest) read lt ∙ sym is ∙ here }
 
-no_report : (e : PlainMigrateCall) (s : MigrateStage) (word : ℕ) → reports_in (after e s word) ≡ 0
-no_report e (Answer how) word = refl
-no_report e _ word = refl
+no_show : (e : PlainMigrateCall) (s : MigrateStage) (word : ℕ) → reports_in (after e s word) ≡ 0
+no_show e (Answer how) word = refl
+no_show e _ word = refl
 
 module _ (v : WorldValue) (g : IsGood v) (p : ℕ) (e : PlainMigrateCall) (at : IsMoved v p e) where
   pub low : p < v.sheet.layout.processes
@@ -78,7 +78,7 @@ module _ (v : WorldValue) (g : IsGood v) (p : ℕ) (e : PlainMigrateCall) (at : 
         open_edits = g.open_edits ∙ ap (λ (l : Layout). l.processes) (sym layout);
         reports = rw layout g.reports;
         answered = g.answered;
-        counts = no_more v.situations p (after e e.stage word) v.settled _ at.there (no_report e e.stage word) g.counts;
+        counts = no_more v.situations p (after e e.stage word) v.settled _ at.there (no_show e e.stage word) g.counts;
       };
       reserved = (let same = ap (λ (l : Layout). l.processes) layout in let r = kept.reserved in omega arith);
     }

@@ -11,7 +11,7 @@ use Rattle.ds_state.specs.Value.{WorldValue, first_rest, world_of, IsReserved}
 use Rattle.ds_state.specs.declared.situation.Rest.{Rest}
 use Rattle.ds_state.specs.declared.situation.Situation.{Situation}
 use Rattle.ds_state.specs.LayoutsFit.{NoneMoves}
-use Rattle.ds_state.specs.declared.situation.Situation.TheVariants.{Idle, Stopped, Editing, Working, Recovering, Reporting, Migrating}
+use Rattle.ds_state.specs.declared.situation.Situation.TheVariants.{Idle, Stopped, Editing, Working, Recovering, Showing, Migrating}
 use Rattle.ds_state.proofs.Underway.{no_more}
 use Rattle.ds_recover.specs.RecoverySteps.{BeginsRecovery, fresh}
 use Rattle.ds_recover.specs.RecoverBegun.{MayRecover, IsBegun}
@@ -23,10 +23,10 @@ may_be w p Stopped is may = inl is
 may_be w p (Editing e) is may = absurd may
 may_be w p (Working e) is may = absurd may
 may_be w p (Recovering e) is may = absurd may
-may_be w p (Reporting e) is may = absurd may
+may_be w p (Showing e) is may = absurd may
 may_be w p (Migrating e) is may = absurd may
 
--- a beginning keeps a sound world sound, and what others count on
+-- a beginning keeps a sound world sound, and what others rely on
 pub begun_keeps : (p : ℕ) (old new : PlainWorld) → IsSound old → p < old.layout.processes → IsBegun old p new → Keeps p old new
 begun_keeps p old new sound low b = begin_keeps (fresh p (cells_of old.layout) old.layout.processes) old new sound low refl refl b.alone b.begins (may_be old p (old.situation p) refl b.free)
 

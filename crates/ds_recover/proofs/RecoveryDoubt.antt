@@ -127,7 +127,7 @@ recorded_reads w p issue h written word is =
 pub header_reads : (w : PlainWorld) (p : ℕ) (issue : PlainIssue) → (h : IsInDoubt w p issue) → h.now ≡ pending → (word : ℕ) → word ≡ w.memory.cached (Header p issue.edit.number) → cell_from (header_of (cells_of w.layout) word) ≡ issue.edit.cell
 header_reads w p issue h now word is = recorded_reads w p issue h (subst (λ (a : Announced). Rattle.ds_state.specs.CallsFit.IsWritten w issue.edit a) now h.written) word is
 
--- where the announcement is the edit's own, and tells how it ended, its record stands
+-- where the announcement is the edit's own, and says how it ended, its record stands
 ended_written : (w : PlainWorld) (p word : ℕ) (how : Bool) (issue : PlainIssue) (h : IsInDoubt w p issue) → w.memory.cached (Announce p) ≡ word → Tells word how → issue.edit.number + 1 ≡ word / 4
     → IsRecorded w First issue.edit 1 1
 ended_written w p word how issue h there tells own = by h.now h.cached h.written
@@ -169,7 +169,7 @@ shown_own a p b n x y = elim (eqb_tells a p) [
   ]
 ]
 
--- an edit that counts has no number above all of its process's that count
+-- a linearized edit has no number above all linearized ones of its process
 pub not_below : (w : PlainWorld) (f e : PlainEdit) → Contains w.counted f → f.process ≡ e.process → f.number ≡ e.number → AreBelow w e.process e.number → ⊥
 not_below w f e there p n below =
     let less : f.number < e.number = All-contains (λ (g : PlainEdit). g.process ≡ e.process → g.number < e.number) w.counted f below there p in
@@ -179,7 +179,7 @@ no_head : head_after_all [] ≡ 0
 unfolding head_after_all
 no_head = refl
 
--- the head shows the edit in doubt: it counts
+-- the head shows the edit in doubt: it is linearized
 pub shown_in : (w : PlainWorld) → IsSound w → (p : ℕ) (issue : PlainIssue) → IsInDoubt w p issue → (word : ℕ) → word ≡ w.memory.cached (Head issue.edit.cell)
     → is_shown p issue.edit.number (head_of w.layout.processes word) ≡ true → (own : ℕ) × IsIn w issue.edit own
 shown_in w sound p issue h word is shown = at h.standing h.stands
@@ -201,7 +201,7 @@ shown_in w sound p issue h word is shown = at h.standing h.stands
           not_below w found.1 e (gave_counts w e.cell _ found.1 (record { before = found.0; after = []; parts = found.2; is = refl })) (same.0 ∙ sym h.mine) same.1 k)
     ]
 
--- it does not: it does not count, or is passed
+-- it does not: it is not linearized, or is passed
 pub not_shown : (w : PlainWorld) → IsSound w → (p : ℕ) (issue : PlainIssue) → IsInDoubt w p issue → (word : ℕ) → word ≡ w.memory.cached (Head issue.edit.cell)
     → is_shown p issue.edit.number (head_of w.layout.processes word) ≡ false → AreBelow w issue.edit.process issue.edit.number ⊎ (IsPassed w issue.edit × AreBelow w issue.edit.process (issue.edit.number + 1))
 not_shown w sound p issue h word is shown = at h.standing h.stands
@@ -234,7 +234,7 @@ bit_tells w sound e few stands bit =
           record { below = o.1; safe = subst (λ (f : PlainEdit). IsSafe w f) same kept.safe })
     ]
 
--- it is not: it does not count
+-- it is not: it is not linearized
 pub no_bit_tells : (w : PlainWorld) → IsSound w → (e : PlainEdit) → AreBelow w e.process e.number ⊎ (IsPassed w e × AreBelow w e.process (e.number + 1))
     → (HasBit (w.memory.cached (done_place e.process e.number)) e.number → ⊥) → AreBelow w e.process e.number
 no_bit_tells w sound e stands bit = elim stands [

@@ -44,7 +44,7 @@ pub record Passes (p : ℕ) (row : List ℕ) (s : RecoverStage) (row' : List ℕ
   pub parts : (r : ℕ) → IsHeld old.memory p r → RecoveryParts s r → (IsHeld new.memory p r × RecoveryParts s' r) ⊎ AgreesOn new r
   pub splits : (f : PlainEdit) (before : List PlainEdit) → of_cell f.cell old.counted ≡ before ++ f ∷ [] → (issue : PlainIssue) → old.open_edits p ≡ Some issue → issue.edit ≡ f → IsPending old p f.cell → RecoverySplits s → IsPending new p f.cell × RecoverySplits s'
 
--- a step behind the first three
+-- a step after the first three
 pub turn_of : (e : PlainRecoverCall) (s : RecoverStage) (word : ℕ) (old new : PlainWorld) → e.process < old.layout.processes → old.situation e.process ≡ Recovering (record e { stage = s }) → IsAwake s → StepsAt e s word old new → Turn e.process old new
 turn_of e s word old new real was awake t = record { layout = t.layout; counted = t.counted; situations = t.others; pendings = t.others_open_edits; goes = recovery_goes e s word old new real was awake t }
 

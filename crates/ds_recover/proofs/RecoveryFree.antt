@@ -30,7 +30,7 @@ use Rattle.ds_recover.proofs.RecoveryFrame.{turn_of, held_on, pends_on, simple_p
 use Rattle.ds_recover.proofs.RecoveryBack.{held_from, pends_from, first_back, grown_back, backs}
 use Rattle.ds_recover.proofs.RecoveryGive.{give_keeps}
 
--- the first cell that is told is no later than one whose bit stands
+-- the first cell that is marked is no later than one whose bit stands
 pub first_told : (row : List ℕ) (more d c : ℕ) → d ≤ c → c < d + more → StandsIn row c → (d' : ℕ) × (told_from row more d ≡ Some d') × (d' ≤ c)
 first_told row zero d c low high bit = absurd (omega arith)
 first_told row (suc more) d c low high bit = elim (eqb_tells (bit_at (slice_index_or row (d / 64) 0) (d % 64)) 1) [
@@ -47,11 +47,11 @@ none_some x y = let z : None ≡ Some _ = sym x ∙ y in cc
 some_same : {o : Option ℕ} {d k : ℕ} → o ≡ Some d → o ≡ Some k → d ≡ k
 some_same x y = let z : Some _ ≡ Some _ = sym x ∙ y in cc
 
--- where no cell is found to tell, no bit of a cell from there on stands in the row
+-- where no cell is found to mark, no bit of a cell from there on stands in the row
 pub tells_none : (row : List ℕ) (cells d c : ℕ) → told_from row (cells - d) d ≡ None → c < cells → StandsIn row c → d ≤ c → ⊥
 tells_none row cells d c is inside bit low = let k = first_told row (cells - d) d c low (omega arith) bit in none_some is k.1
 
--- the cell that is found to tell is the first from there on whose bit stands in the row
+-- the cell that is found to mark is the first from there on whose bit stands in the row
 pub tells_some : (row : List ℕ) (cells d d' c : ℕ) → told_from row (cells - d) d ≡ Some d' → c < cells → StandsIn row c → d ≤ c → d' ≤ c
 tells_some row cells d d' c is inside bit low =
     let k = first_told row (cells - d) d c low (omega arith) bit in
@@ -71,7 +71,7 @@ held_cases p word = elim (eqb_tells (word / 2 % 16) (p + 1)) [
     by true young mine is = inl (is ∙ young, mine, let l = ltb-true (word / 32) (HELD_MOST + 1) young in omega arith)
     by false old mine is = inr (is ∙ old, λ h. let l = ltb-false (word / 32) (HELD_MOST + 1) old in omega arith)
 
--- a cell that is told is one of the sheet
+-- a cell that is marked is one of the sheet
 pub told_below : (row : List ℕ) (n d k : ℕ) → told_from row n d ≡ Some k → k < d + n
 told_below row n d k is = (subst (λ (o : Option ℕ). ToldFits row n d o) is (first_fits row n d)).1
 

@@ -33,9 +33,9 @@ pub record IsRecovering (v : WorldValue) (p : ℕ) (e : PlainRecoverCall) : Type
 pub recovering_from : (v : WorldValue) (p : ℕ) (e : PlainRecoverCall) (read : Situation) → p < length v.situations → read ≡ get_or v.situations p read → read ≡ Recovering e → IsRecovering v p e
 recovering_from v p e read lt is here = record { there = lt; is = get_or_default v.situations p (Idle first_rest) read lt ∙ sym is ∙ here }
 
-no_report : (e : PlainRecoverCall) (s : RecoverStage) (word : ℕ) → reports_in (after e s word) ≡ 0
-no_report e (Answer how) word = refl
-no_report e _ word = refl
+no_show : (e : PlainRecoverCall) (s : RecoverStage) (word : ℕ) → reports_in (after e s word) ≡ 0
+no_show e (Answer how) word = refl
+no_show e _ word = refl
 
 -- what the effect says of the edit in doubt is what the stage says
 pub resolved_by : (e : PlainRecoverCall) (s : RecoverStage) (issue : Option PlainIssue) → open_edit_by issue (effect_at e s) ≡ open_edit_at issue s
@@ -107,7 +107,7 @@ module _ (v : WorldValue) (g : IsGood v) (p : ℕ) (e : PlainRecoverCall) (at : 
         open_edits = length-set v.open_edits p (open_edit_at (get_or v.open_edits p None) e.stage) ∙ g.open_edits ∙ ap (λ (l : Layout). l.processes) (sym layout);
         reports = rw layout g.reports;
         answered = still_answered v.counted v.counted (world_of v).open_edits (world_of next).open_edits v.done (λ f there. there) open_before g.answered;
-        counts = no_more v.situations p (after e e.stage word) v.settled _ at.there (no_report e e.stage word) g.counts;
+        counts = no_more v.situations p (after e e.stage word) v.settled _ at.there (no_show e e.stage word) g.counts;
       };
       reserved = (let same = ap (λ (l : Layout). l.processes) layout in let r = kept.reserved in omega arith);
     }

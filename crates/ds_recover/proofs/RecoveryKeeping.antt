@@ -1,4 +1,4 @@
--- Behind its first three steps, a recovery keeps the layout that it noted.
+-- After its first three steps, a recovery keeps the layout that it noted.
 use Rattle.std.proofs.Common.{ℕ, List, ◌≡◌, ◌<◌, ◌+◌, ◌++◌, ◌-◌, ◌∷◌, [], ◌==◌, ◌%◌, refl, ap, ◌∙◌, Some, None, true, false}
 use Rattle.std.specs.Prelude.{Option, Bool, nat_lt, if◌then◌else◌}
 use Rattle.std.specs.Int.{bit_at}
@@ -19,7 +19,7 @@ use Rattle.ds_state.specs.declared.situation.Situation.TheVariants.{Recovering}
 use Rattle.ds_state.proofs.Frames.{Goes, notes, noted_in, noted_stage}
 use Rattle.ds_recover.specs.RecoverySteps.{after, StepsAt, number_of, reads_held, told, tell_from, announced_from, resolves_from, phase_from, is_shown}
 
--- a stage behind the first three
+-- a stage after the first three
 abbrev pub IsAwake : RecoverStage → Type 0
 IsAwake LoadVersion = ⊥
 IsAwake FlushVersion = ⊥
@@ -94,6 +94,6 @@ noted_before d FlushVersion h = absurd h
 noted_before d BackVersion h = absurd h
 noted_before d _ h = refl
 
--- behind its first three steps, a step of a recovery goes on with the layout that it noted
+-- after its first three steps, a step of a recovery goes on with the layout that it noted
 pub recovery_goes : (e : PlainRecoverCall) (s : RecoverStage) (word : ℕ) (old new : PlainWorld) → e.process < old.layout.processes → old.situation e.process ≡ Recovering (record e { stage = s }) → IsAwake s → StepsAt e s word old new → Goes e.process old new
 recovery_goes e s word old new real was awake t = notes e.edition real (ap noted_in was ∙ noted_before e.edition s awake) (ap noted_in t.situation ∙ noted_after e s word awake)

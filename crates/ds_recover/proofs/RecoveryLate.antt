@@ -40,7 +40,7 @@ module _ (e : PlainRecoverCall) (word : ℕ) (old new : PlainWorld) (sound : IsS
   abbrev p : ℕ
   p = e.process
 
-  -- its own bit in the cell's mark, whether the edit counts or not
+  -- its own bit in the cell's mark, whether the edit is linearized or not
   pub step_or_mark : (how : Bool) → old.situation e.process ≡ Recovering (at e (OrMark how)) → RecoveryFits old e.process (at e (OrMark how)) → StepsAt e (OrMark how) word old new → Keeps e.process old new
   step_or_mark how was fits t =
       let m : OrsAt (Mark e.cell) DIRTY old.memory new.memory = t.memory.1 in

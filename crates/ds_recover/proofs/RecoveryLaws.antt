@@ -23,11 +23,11 @@ use Rattle.ds_recover.proofs.RecoveryWhole.{recovery_keeps_soundness, answer_res
 pub fits_of : (e : PlainRecoverCall) (w : PlainWorld) → IsSound w → e.process < w.layout.processes → w.situation e.process ≡ Recovering e → RecoveryFits w e.process e
 fits_of e w sound real is = subst (λ (s : Situation). CallFits w e.process s) is (sound.calls e.process real)
 
--- each step of a recovery leaves a sound world sound, and what the others count on
+-- each step of a recovery leaves a sound world sound, and what the others rely on
 pub steps : (e : PlainRecoverCall) (word : ℕ) (old new : PlainWorld) → IsSound old → e.process < old.layout.processes → old.situation e.process ≡ Recovering e → Steps e word old new → Keeps e.process old new
 steps e word old new sound real is t = recovery_keeps_soundness e word old new sound real e.stage is t
 
--- the begin of a recovery leaves a sound world sound, and what the others count on
+-- the begin of a recovery leaves a sound world sound, and what the others rely on
 pub begins : (p : ℕ) (old new : PlainWorld) → IsSound old → p < old.layout.processes → IsBegun old p new → Keeps p old new
 begins p old new sound real b = begun_keeps p old new sound real b
 
@@ -49,7 +49,7 @@ repeated e how w sound real is last = repeats e how w (subst (λ (s : RecoverSta
 idle_after : (e : PlainRecoverCall) (s : RecoverStage) (how : Option Bool) (word : ℕ) → s ≡ Answer how → after e s word ≡ Idle (rest_after e how)
 idle_after e s how word is = ap (λ (x : RecoverStage). after e x word) is
 
--- behind a recovery's answer its process holds no cell
+-- after a recovery's answer its process holds no cell
 pub lets_go : (e : PlainRecoverCall) (how : Option Bool) (word : ℕ) (old new : PlainWorld) → IsSound old → e.process < old.layout.processes → old.situation e.process ≡ Recovering e → e.stage ≡ Answer how
     → Steps e word old new → HoldsNone new e.process
 lets_go e how word old new sound real is last t =

@@ -1,4 +1,4 @@
--- The cell that a recovery's answer tells stands on both sides of its record's header.
+-- The cell that a recovery's answer reports stands on both sides of its record's header.
 use Rattle.std.proofs.Common.{◌≡◌, ◌<◌, ap, sym, ◌∙◌, subst, arith, inl, Some, None}
 use Rattle.std.specs.Prelude.{Bool, Option}
 use Rattle.ds_layout.specs.declared.header.Header.{Header}

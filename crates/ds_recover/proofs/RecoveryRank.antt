@@ -42,7 +42,7 @@ looks_by cells c n false l k = k
 looks_lower : (cells c n : ℕ) → cells_rank cells c < n → 15 < n → rank cells (looks_from cells c) < n
 looks_lower cells c n l k = looks_by cells c n (nat_lt c cells) l k
 
--- the next cell that is told, or the give-back
+-- the next cell that is marked, or the give-back
 tells_by : (cells cell n d n' : ℕ) (row : List ℕ) (o : Option ℕ) → ToldFits row n d o → cells_rank cells (cell + 1) + (6 + 3 * (cells - d)) ≤ n' → rank cells (told cell o) ≤ n'
 tells_by cells cell n d n' row None fits l = omega arith
 tells_by cells cell n d n' row (Some k) fits l = let a = fits.0 in omega arith

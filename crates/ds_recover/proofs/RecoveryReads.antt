@@ -1,4 +1,4 @@
--- What a recovery reads of words, and which cell it tells next.
+-- What a recovery reads of words, and which cell it marks next.
 use Rattle.std.proofs.Common.{ℕ, ◌≡◌, ◌≤◌, ◌-◌, length, refl, arith, true, false, Some, None}
 use Rattle.std.specs.Prelude.{Bool, Option, bit_or, nat_lt, if◌then◌else◌}
 use Rattle.std.proofs.lemmas.Bool.{ltb-true, ltb-false}
@@ -20,22 +20,22 @@ dirty mark = or_dirty mark
 
 -- ---- the stages that follow are of the sheet
 
--- a cell that is told next is one of the sheet
+-- a cell that is marked next is one of the sheet
 tells_stage : (e : PlainRecoverCall) (cell d : ℕ) → IsFreeing e.cells e.mark cell → length e.row ≡ parts_for e.cells → d ≤ e.cells → (o : Option ℕ) → told_from e.row (e.cells - d) d ≡ o → IsStage e (told cell o)
 tells_stage e cell d free row low None is = free
 tells_stage e cell d free row low (Some k) is = (free, ((let l = told_below e.row (e.cells - d) d k is in omega arith), row))
 
--- the stage that tells the next cell, or gives this one back behind the last, is one of the recovery
+-- the stage that marks the next cell, or gives this one back after the last, is one of the recovery
 pub tell_stage : (e : PlainRecoverCall) (cell d : ℕ) → IsFreeing e.cells e.mark cell → length e.row ≡ parts_for e.cells → d ≤ e.cells → IsStage e (tell_from e.row e.cells cell d)
 tell_stage e cell d free row low = tells_stage e cell d free row low (told_from e.row (e.cells - d) d) refl
 
--- the next part of the row, or the first cell that is told
+-- the next part of the row, or the first cell that is marked
 rows_stage : (e : PlainRecoverCall) (cell part : ℕ) → IsFreeing e.cells e.mark cell → part ≤ parts_for e.cells → length e.row ≡ part → (b : Bool) → nat_lt part (parts_for e.cells) ≡ b
     → IsStage e (if b then Telling cell (LoadRow part) else tell_from e.row e.cells cell 0)
 rows_stage e cell part free low row true is = (free, (ltb-true part (parts_for e.cells) is, row))
 rows_stage e cell part free low row false is = tell_stage e cell 0 free (let l = ltb-false part (parts_for e.cells) is in omega arith) (omega arith)
 
--- the stage that loads a part of the row, or tells the first cell behind the last part, is one of the recovery
+-- the stage that loads a part of the row, or marks the first cell after the last part, is one of the recovery
 pub row_stage : (e : PlainRecoverCall) (cell part : ℕ) → IsFreeing e.cells e.mark cell → part ≤ parts_for e.cells → length e.row ≡ part → IsStage e (row_from e.row e.cells cell part)
 row_stage e cell part free low row = rows_stage e cell part free low row (nat_lt part (parts_for e.cells)) refl
 

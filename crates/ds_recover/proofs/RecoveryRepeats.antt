@@ -1,4 +1,4 @@
--- The answer of a recovery repeats how the last spent number ended, and only cells whose bits it found are told.
+-- The answer of a recovery repeats how the last spent number ended, and only cells whose bits it found are marked.
 use Rattle.std.proofs.Common.{ℕ, ◌≡◌, ◌+◌, ◌-◌, ◌/◌, ◌%◌, ◌==◌, ◌⊎◌, List, [], ◌∷◌, ◌++◌, refl, ap, sym, ◌∙◌, subst, arith, inl, inr, zero, suc, true, false, Some, None}
 use Rattle.std.specs.Prelude.{Bool, Option, nat_lt, if◌then◌else◌, slice_index_or}
 use Rattle.std.specs.Int.{bit_at}
@@ -23,7 +23,7 @@ use Rattle.ds_recover.specs.RecoverySteps.{at, number_of, end_of, RepeatsAs, Tel
 use Rattle.ds_recover.proofs.RecoveryDoubt.{phases}
 use Rattle.ds_recover.proofs.RecoveryEnds.{Rests, rests}
 
--- one word tells one phase
+-- one word says one phase
 same_phase : (n m : ℕ) (f : Phase) (how : Bool) → (f ≡ phase.Done) ⊎ (f ≡ phase.NotDone) → announcement n f ≡ announcement m (phase_for how) → f ≡ phase_for how
 same_phase n m f true (inl done) is = done
 same_phase n m f true (inr lost) is = absurd (let x : announcement n phase.NotDone ≡ announcement m phase.Done = ap (λ (y : Phase). announcement n y) (sym lost) ∙ is in omega arith)
@@ -57,7 +57,7 @@ told_stands : (row : List ℕ) (n d k : ℕ) → told_from row n d ≡ Some k �
 told_stands row zero d k is = absurd (cc)
 told_stands row (suc n) d k is = told_by row d k (told_from row n (d + 1)) (told_stands row n (d + 1) k) (bit_at (slice_index_or row (d / 64) 0) (d % 64) == 1) refl is
 
--- the next cell that is told
+-- the next cell that is marked
 tells_found : (row : List ℕ) (n d c : ℕ) (o : Option ℕ) → told_from row n d ≡ o → (cell k : ℕ) → told c o ≡ Telling cell (OrTold k) → StandsIn row k
 tells_found row n d c None is cell k at = absurd (cc)
 tells_found row n d c (Some j) is cell k at = let same : j ≡ k = cc in subst (λ (x : ℕ). StandsIn row x) same (told_stands row n d j is)

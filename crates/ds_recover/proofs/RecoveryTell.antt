@@ -1,4 +1,4 @@
--- A recovery writes back the words of a cell that it holds, and tells the cells that refer to it.
+-- A recovery writes back the words of a cell that it holds, and marks the cells that refer to it.
 use Rattle.std.proofs.Common.{ℕ, ◌≡◌, ◌≢◌, ◌<◌, ◌≤◌, ◌+◌, ◌-◌, ◌/◌, ◌⊎◌, List, [], ◌∷◌, ◌++◌, refl, ap, sym, ◌∙◌, subst, arith, inl, inr, Some, None, true, false, max, length-append}
 use Rattle.std.specs.Prelude.{Contains, Option, Bool, bit_or, nat_lt, if◌then◌else◌}
 use Rattle.std.proofs.lemmas.Bool.{cases_eq, ltb-true, ltb-false}
@@ -151,7 +151,7 @@ module _ (e : PlainRecoverCall) (word : ℕ) (old new : PlainWorld) (sound : IsS
       (Mark d) m (λ h. h) (λ h. h)
       (record { value = old.memory.cached (Mark d); alone = alone; had = (let k = m.cached (Mark d) in omega arith); is = λ q by. rw tn.layout ((sound.words (Mark d)).holder q by) }) fits.is.stage
 
-  -- the mark of a cell that was told is written back: what comes next is a later cell, or the give-back
+  -- the mark of a cell that was marked is written back: what comes next is a later cell, or the give-back
   pub step_back_told : (c d : ℕ) → old.situation e.process ≡ Recovering (at e (Telling c (BackTold d))) → RecoveryFits old e.process (at e (Telling c (BackTold d))) → StepsAt e (Telling c (BackTold d)) word old new → Keeps e.process old new
   step_back_told c d was fits t = go (told_from e.row (e.cells - (d + 1)) (d + 1)) refl t.situation
     where

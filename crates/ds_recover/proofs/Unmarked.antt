@@ -13,7 +13,7 @@ use Rattle.ds_state.specs.Sound.{IsSound}
 use Rattle.ds_state.specs.Standing.{HasContent, Reasons, cached_side, value_for}
 use Rattle.ds_state.specs.World.{PlainIssue, PlainWorld, of_cell, IsHeadBy}
 use Rattle.ds_state.specs.declared.situation.Situation.{Situation}
-use Rattle.ds_state.specs.declared.situation.Situation.TheVariants.{Idle, Stopped, Editing, Working, Recovering, Reporting, Migrating}
+use Rattle.ds_state.specs.declared.situation.Situation.TheVariants.{Idle, Stopped, Editing, Working, Recovering, Showing, Migrating}
 use Rattle.ds_recover.specs.Unmarked.{ReliesOn, AnswersUnmarked}
 
 -- who accounts for a cell has an open edit of it
@@ -31,7 +31,7 @@ module _ (w : PlainWorld) (sound : IsSound w) (q c x : ℕ) (inside : q < w.layo
       record { issue = _; issued = f.open_edits; cell = h.0 }
   by_situation (Working e) is h = absurd h
   by_situation (Recovering e) is h = record { issue = h.0.issue; issued = h.0.issued; cell = h.0.cell }
-  by_situation (Reporting e) is h = absurd h
+  by_situation (Showing e) is h = absurd h
   by_situation (Migrating e) is h = record { issue = h.issue; issued = h.issued; cell = h.cell }
 
   pub has_open : Excuses w q (w.situation q) c x → HasOpen
@@ -53,7 +53,7 @@ relied w p c sound relies =
       | inr other ↦ absurd (let o = has_open w sound e.process c (w.memory.cached (Mark c)) e.inside e.still in relies.alone e.process o.issue other o.issued o.cell)
     ]
 
--- the same cell behind the answer
+-- the same cell after the answer
 on_text : (old new : PlainWorld) (c head : ℕ) (content : PlainContent) → new.layout ≡ old.layout → new.counted ≡ old.counted → HasContent new c head content → HasContent old c head content
 on_text old new c head content layout counted (inl h) = inl h
 on_text old new c head content layout counted (inr h) = inr (record {

@@ -20,7 +20,7 @@ use Rattle.ds_state.specs.Sound.{IsSound}
 use Rattle.ds_state.specs.declared.recovery.RecoverStage.{RecoverStage}
 use Rattle.ds_state.specs.declared.recovery.RecoverStage.TheVariants.{LoadVersion, FlushVersion, BackVersion, LoadMark}
 use Rattle.ds_state.specs.declared.situation.Situation.{Situation}
-use Rattle.ds_state.specs.declared.situation.Situation.TheVariants.{Idle, Stopped, Editing, Working, Recovering, Reporting, Migrating}
+use Rattle.ds_state.specs.declared.situation.Situation.TheVariants.{Idle, Stopped, Editing, Working, Recovering, Showing, Migrating}
 use Rattle.ds_state.proofs.Frames.{Moves, turns, MovesVersion, version_word}
 use Rattle.ds_state.proofs.Buffers.{none, not_mark}
 use Rattle.ds_recover.proofs.Migrating.{IsHalted, IsWaking, halted_keeps, doubt_on, Backed, backed}
@@ -36,7 +36,7 @@ none_moves p w sound real runs q l ne moving = by (w.situation q) (sound.layouts
     by (Editing e) h k = k
     by (Working e) h k = k
     by (Recovering e) h k = k
-    by (Reporting e) h k = k
+    by (Showing e) h k = k
 
 at : PlainRecoverCall → RecoverStage → PlainRecoverCall
 at e s = record e { stage = s }

@@ -32,7 +32,7 @@ access_at e (Answer how) = acts.Nothing
 abbrev pub at : PlainMigrateCall → MigrateStage → PlainMigrateCall
 at e stage = record e { stage = stage }
 
--- the stage that copies this word; behind the last, the one that makes the second layout the sheet's
+-- the stage that copies this word; after the last, the one that makes the second layout the sheet's
 abbrev pub copy_from : ℕ → ℕ → MigrateStage
 copy_from words n = if nat_lt n words then LoadOld n else Swap
 
@@ -48,7 +48,7 @@ next_at e (FlushVersion how) word = at e (BackVersion how)
 next_at e (BackVersion how) word = at e (Answer how)
 next_at e (Answer how) word = e
 
--- the situation of the process after a stage: behind the answer it is stopped, and recovers next
+-- the situation of the process after a stage: after the answer it is stopped, and recovers next
 abbrev pub after : PlainMigrateCall → MigrateStage → ℕ → Situation
 after e (Answer how) word = Stopped
 after e stage word = Migrating (next_at e stage word)
@@ -77,7 +77,7 @@ pub record BeginsMigration (p : ℕ) (old new : PlainWorld) : Type 0 where
   pub counted : new.counted ≡ old.counted
   pub open_edits : (q : ℕ) → new.open_edits q ≡ old.open_edits q
 
--- how many steps are left at most from a stage on, the answer's among them, of so many words to copy
+-- how many steps are left at most from a stage on, the answer's among them, of that number of words to copy
 abbrev pub rank : ℕ → MigrateStage → ℕ
 rank words LoadVersion = 5 + 4 * words
 rank words (LoadOld n) = 4 + 4 * (words - n)

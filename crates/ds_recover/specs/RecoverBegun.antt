@@ -6,7 +6,7 @@ use Rattle.ds_state.specs.LayoutsFit.{IsMigrating, NoneMoves}
 use Rattle.ds_state.specs.declared.refusal.Refusal.{Refusal}
 use Rattle.ds_state.specs.declared.refusal.Refusal.TheVariants as refusal
 use Rattle.ds_state.specs.declared.situation.Situation.{Situation}
-use Rattle.ds_state.specs.declared.situation.Situation.TheVariants.{Idle, Stopped, Editing, Working, Recovering, Reporting, Migrating}
+use Rattle.ds_state.specs.declared.situation.Situation.TheVariants.{Idle, Stopped, Editing, Working, Recovering, Showing, Migrating}
 use Rattle.ds_recover.specs.RecoverySteps.{BeginsRecovery, fresh}
 
 -- a process in no call may recover, stopped or idle
@@ -16,7 +16,7 @@ MayRecover Stopped = Unit {0}
 MayRecover (Editing e) = ⊥
 MayRecover (Working e) = ⊥
 MayRecover (Recovering e) = ⊥
-MayRecover (Reporting e) = ⊥
+MayRecover (Showing e) = ⊥
 MayRecover (Migrating e) = ⊥
 
 -- the recovery of a process in no call begins, while no other process migrates

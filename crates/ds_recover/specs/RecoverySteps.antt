@@ -30,7 +30,7 @@ use Rattle.ds_state.specs.Telling.{spread_access, told_from}
 use Rattle.ds_state.specs.declared.turn.Turn.TheVariants.{GoesOn, Answers}
 use Rattle.ds_state.specs.declared.recovery.RecoveryEnd.{RecoveryEnd}
 use Rattle.ds_state.specs.declared.recovery.RecoveryEnd.TheVariants.{Nothing, Last}
-use Rattle.ds_state.specs.declared.recovery.Told.{Told}
+use Rattle.ds_state.specs.declared.recovery.LastEdit.{LastEdit}
 use Rattle.ds_state.specs.declared.situation.Rest.{Rest}
 use Rattle.ds_state.specs.declared.situation.Situation.{Situation}
 use Rattle.ds_layout.specs.declared.place.Edition.TheVariants.{First}
@@ -81,7 +81,7 @@ access_at e (Answer how) = acts.Nothing
 abbrev pub at : PlainRecoverCall → RecoverStage → PlainRecoverCall
 at e stage = record e { stage = stage }
 
--- the stage that loads this cell's mark; behind the last cell, the announcement
+-- the stage that loads this cell's mark; after the last cell, the announcement
 abbrev pub looks_from : ℕ → ℕ → RecoverStage
 looks_from cells cell = if nat_lt cell cells then LoadMark cell else LoadAnnounce
 
@@ -102,11 +102,11 @@ abbrev pub told : ℕ → Option ℕ → RecoverStage
 told cell None = Give cell
 told cell (Some d) = Telling cell (OrTold d)
 
--- the stage that marks the next cell whose bit stands in the row; behind the last, the one that gives this cell back
+-- the stage that marks the next cell whose bit stands in the row; after the last, the one that gives this cell back
 abbrev pub tell_from : List ℕ → ℕ → ℕ → ℕ → RecoverStage
 tell_from row cells cell d = told cell (told_from row (cells - d) d)
 
--- the stage that loads this part of the index row; behind the last part, the one that tells the first cell
+-- the stage that loads this part of the index row; after the last part, the one that marks the first cell
 abbrev pub row_from : List ℕ → ℕ → ℕ → ℕ → RecoverStage
 row_from row cells cell part = if nat_lt part (parts_for cells) then Telling cell (LoadRow part) else tell_from row cells cell 0
 
@@ -122,13 +122,13 @@ abbrev pub announced_from : PlainRecoverCall → ℕ → Option Announcement →
 announced_from e word None = record e { announcement = word; stage = Answer None }
 announced_from e word (Some a) = record e { announcement = word; stage = LoadHeader }
 
--- the stage behind the header, by the announced phase: pending, it looks at the head; else it persists the outcome
+-- the stage after the header, by the announced phase: pending, it looks at the head; else it persists the outcome
 abbrev pub phase_from : Phase → RecoverStage
 phase_from phase.Pending = LoadHead
 phase_from phase.Done = FlushOutcome true
 phase_from phase.NotDone = FlushOutcome false
 
--- the stage behind the header, by the announcement; without one, the answer
+-- the stage after the header, by the announcement; without one, the answer
 abbrev pub resolves_from : Option Announcement → RecoverStage
 resolves_from None = Answer None
 resolves_from (Some a) = phase_from a.phase
@@ -176,7 +176,7 @@ next_at e (Answer how) word = e
 abbrev pub got_at : PlainRecoverCall → ℕ → PlainRecoverCall
 got_at e word = next_at e e.stage word
 
--- the number of the process's next edit after a recovery: the one behind the announced one, or 0 without one
+-- the number of the process's next edit after a recovery: the one after the announced one, or 0 without one
 abbrev pub next_number : ℕ → Option Bool → ℕ
 next_number word None = 0
 next_number word (Some how) = number_after word
@@ -195,7 +195,7 @@ abbrev pub open_edit_at : Option PlainIssue → RecoverStage → Option PlainIss
 open_edit_at issue (Answer how) = None
 open_edit_at issue stage = issue
 
--- one step of the recovery at a stage, whose access answered the word: no edit comes to count
+-- one step of the recovery at a stage, whose access answered the word: no edit is linearized
 pub record StepsAt (e : PlainRecoverCall) (stage : RecoverStage) (word : ℕ) (old new : PlainWorld) : Type 0 where
   pub layout : new.layout ≡ old.layout
   pub memory : PerformsAt (access_at e stage) e.process old.memory new.memory word
@@ -287,9 +287,9 @@ abbrev pub Falls : PlainRecoverCall → RecoverStage → PlainRecoverCall → Ty
 Falls e (Answer how) after = Unit {0}
 Falls e stage after = rank e.cells after.stage < rank e.cells stage
 
--- what it says of an edit in doubt that a recovery tells this edit as one that counts, or does not: with its number it
--- has its cell; where that counts, it counts for good; else it does not count
-abbrev pub ResolvesBy : PlainWorld → PlainEdit → Told → Bool → Type 0
+-- what it says of an edit in doubt that a recovery reports this edit as linearized, or as not linearized: with its
+-- number it has its cell; where that is linearized, it is so for good; else it is not linearized
+abbrev pub ResolvesBy : PlainWorld → PlainEdit → LastEdit → Bool → Type 0
 ResolvesBy w f told true = ((told.number ≡ f.number) × (f.cell ≡ told.cell) × IsSafelyIn w f) ⊎ ((told.number < f.number) × AreBelow w f.process f.number)
 ResolvesBy w f told false = (told.number ≤ f.number) × AreBelow w f.process f.number × (told.number ≡ f.number → f.cell ≡ told.cell)
 
@@ -298,16 +298,17 @@ abbrev pub ResolvesAs : PlainWorld → PlainEdit → RecoveryEnd → Type 0
 ResolvesAs w f Nothing = AreBelow w f.process f.number
 ResolvesAs w f (Last told) = ResolvesBy w f told told.counts
 
--- the answer repeats how the process's last edit with a spent number ended: with that number, and whether one counts
+-- the answer repeats how the process's last edit with a spent number ended: with that number, and whether one is
+-- linearized
 abbrev pub RepeatsAs : PlainWorld → ℕ → RecoveryEnd → Type 0
 RepeatsAs w p Nothing = AreBelow w p 0
 RepeatsAs w p (Last told) = AreBelow w p (told.number + 1) × (phase_among w.counted p told.number ≡ phase_for told.counts)
 
--- the cell that a recovery's answer tells is that which both sides of the header of that record say, one of the sheet
+-- the cell that a recovery's answer reports is that which both sides of the header of that record say, one of the sheet
 abbrev pub NamesCell : PlainWorld → ℕ → RecoveryEnd → Type 0
 NamesCell w p Nothing = Unit {0}
 NamesCell w p (Last told) = SaysCell w.layout told.cell (w.memory.cached (place.Header p told.number)) × SaysCell w.layout told.cell (w.memory.persisted (place.Header p told.number))
 
--- the cell that the recovery tells next is one whose bit it found in the index row
+-- the cell that the recovery marks next is one whose bit it found in the index row
 abbrev pub TellsFound : PlainRecoverCall → Type 0
 TellsFound e = (cell d : ℕ) → e.stage ≡ Telling cell (OrTold d) → StandsIn e.row d

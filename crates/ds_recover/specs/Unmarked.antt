@@ -19,8 +19,8 @@ pub record ReliesOn (w : PlainWorld) (p c : ℕ) : Type 0 where
       → w.memory.cached (Value c) ≢ value_for (local w.layout.shape content inputs)
   pub alone : (q : ℕ) (issue : PlainIssue) → q ≢ p → w.open_edits q ≡ Some issue → issue.edit.cell ≢ c
 
--- the process has answered its recovery; mark, value and head of the cell are as they were, no edit came to count, and no
--- other process's edit was begun or answered
+-- the process has answered its recovery; mark, value and head of the cell are as they were, no edit was linearized, and
+-- no other process's edit was begun or answered
 pub record AnswersUnmarked (p c : ℕ) (old new : PlainWorld) : Type 0 where
   pub layout : new.layout ≡ old.layout
   pub mark : new.memory.cached (Mark c) ≡ old.memory.cached (Mark c)

@@ -12,7 +12,7 @@ use ds_layout::layout::Layout;
 use ds_layout::place::Edition;
 use ds_state::recovery::{RecoverCall, RecoverStage};
 use ds_state::refusal::Refusal;
-use ds_state::row::Row;
+use ds_state::row::IndexRow;
 use ds_state::situation::{Situation, put};
 use ds_state::world::World;
 
@@ -22,7 +22,7 @@ pub(crate) fn may_recover(situation: &Situation) -> bool
 {
     match situation {
         Situation::Idle(_) | Situation::Stopped => true,
-        Situation::Working(_) | Situation::Recovering(_) | Situation::Reporting(_) => false,
+        Situation::Working(_) | Situation::Recovering(_) | Situation::Showing(_) => false,
         Situation::Editing(_) | Situation::Migrating(_) => false,
     }
 }
@@ -33,7 +33,7 @@ fn is_moving(situation: &Situation) -> bool
     match situation {
         Situation::Migrating(_) => true,
         Situation::Idle(_) | Situation::Stopped | Situation::Editing(_) => false,
-        Situation::Working(_) | Situation::Recovering(_) | Situation::Reporting(_) => false,
+        Situation::Working(_) | Situation::Recovering(_) | Situation::Showing(_) => false,
     }
 }
 
@@ -64,7 +64,7 @@ pub fn fresh(layout: &Layout, process: usize) -> RecoverCall
         cells: layout.cells(),
         processes: layout.processes,
         mark: 0,
-        row: Row::new(),
+        row: IndexRow::new(),
         announcement: 0,
         cell: 0,
         stage: RecoverStage::LoadVersion,

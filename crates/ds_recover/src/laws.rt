@@ -26,7 +26,7 @@ ghost use Rattle.ds_recover.specs.MigrationSteps.{BeginsMigration};
 ghost use Rattle.ds_recover.specs.MigrationSteps as migrations;
 
 /// Each step of a recovery, whatever the word that its access answers, leaves a sound sheet sound,
-/// and leaves each other process what it may count on.
+/// and leaves each other process what it may rely on.
 #[tactic(auto, using(crate::proofs::RecoveryLaws::steps))]
 pub fn steps_keep_soundness()
     ensures { (e : PlainRecoverCall) (word : ℕ) (old new : PlainWorld) → IsSound old
@@ -41,7 +41,7 @@ pub fn begins_keep_soundness()
 {}
 
 /// A migration that begins, and each of its steps, leaves a sound sheet sound, and leaves each other
-/// process what it may count on.
+/// process what it may rely on.
 pub fn migrations_keep_soundness()
     ensures begins { (p : ℕ) (old new : PlainWorld) → IsSound old → p < old.layout.processes
         → BeginsMigration p old new → Keeps p old new }
@@ -67,8 +67,8 @@ pub fn migrations_end_in_the_second_layout()
         → Agrees w.memory Second }
 {}
 
-/// Each step of a migration, and its beginning, leave the others what is theirs: no edit comes to
-/// count, and each report under way still has a middle.
+/// Each step of a migration, and its beginning, leave the others what is theirs: no edit is
+/// linearized, and each show under way still has a middle.
 pub fn migrations_leave_others()
     ensures steps { (e : PlainMigrateCall) (stage : MigrateStage) (word : ℕ) (old new : PlainWorld) → IsSound old
         → e.process < old.layout.processes → old.situation e.process ≡ Migrating (migrations.at e stage)
@@ -104,8 +104,8 @@ pub fn steps_are_few()
 {}
 
 /// Where an edit of the process is open, the answer resolves it: Last with its number has its cell and
-/// says whether it counts, and where it does, no crash takes it; Nothing, or Last with a smaller number, says that it
-/// does not count. What is open no more never comes to count.
+/// says whether it is linearized, and where it is, no crash takes it; Nothing, or Last with a smaller number, says that
+/// it is not linearized. What is open no more is never linearized.
 #[tactic(auto, using(crate::proofs::RecoveryLaws::answers))]
 pub fn answers_resolve()
     ensures { (e : PlainRecoverCall) (how : Option Bool) (w : PlainWorld) (issue : PlainIssue) → IsSound w
@@ -114,8 +114,8 @@ pub fn answers_resolve()
 {}
 
 /// The answer repeats how the last of the process's edits ended whose number is spent, whether one is
-/// open or not: Last has that number, and says whether an edit of it counts; after Nothing none of the
-/// process's edits counts.
+/// open or not: Last has that number, and says whether an edit of it is linearized; after Nothing none of the
+/// process's edits is linearized.
 #[tactic(auto, using(crate::proofs::RecoveryLaws::repeated))]
 pub fn answers_repeat()
     ensures { (e : PlainRecoverCall) (how : Option Bool) (w : PlainWorld) → IsSound w
@@ -123,7 +123,7 @@ pub fn answers_repeat()
         → RepeatsAs w e.process (end_of e how) }
 {}
 
-/// The cell that a recovery's answer tells, also of an edit that does not count, is a cell of the
+/// The cell that a recovery's answer reports, also of an edit that is not linearized, is a cell of the
 /// sheet, and the one that both sides of the header of that record say: a crash keeps it.
 pub fn answers_name_their_cell()
     ensures { (e : PlainRecoverCall) (how : Option Bool) (w : PlainWorld) → IsSound w
@@ -132,9 +132,9 @@ pub fn answers_name_their_cell()
 {}
 
 /// A recovery marks only cells whose bits it found in the row of a cell that it gives back, and the
-/// cell of its edit: no step makes it tell a cell without a bit.
+/// cell of its edit: no step makes it mark a cell without a bit.
 #[tactic(auto, using(crate::proofs::RecoveryRepeats::each_found))]
-pub fn only_cells_with_bits_are_told()
+pub fn only_cells_with_bits_are_marked()
     ensures { (e : PlainRecoverCall) (word : ℕ) → TellsFound e → TellsFound (next_at e e.stage word) }
 {}
 
@@ -146,8 +146,8 @@ pub fn no_cell_stays_held()
         → Steps e word old new → HoldsNone new e.process }
 {}
 
-/// Each step of a recovery, and its beginning, leave the others what is theirs: no edit comes to
-/// count, and each report under way still has a middle.
+/// Each step of a recovery, and its beginning, leave the others what is theirs: no edit is
+/// linearized, and each show under way still has a middle.
 pub fn recoveries_leave_others()
     ensures steps { (e : PlainRecoverCall) (word : ℕ) (old new : PlainWorld) → IsSound old
         → e.process < old.layout.processes → old.situation e.process ≡ Recovering e
@@ -157,11 +157,11 @@ pub fn recoveries_leave_others()
 {}
 
 /// A cell may be clean and show what its content does not give, because an edit in doubt took the
-/// cell, another process worked on it then, and a crash took the edit: it does not count. In a sound
+/// cell, another process worked on it then, and a crash took the edit: it is not linearized. In a sound
 /// world that edit's process accounts for it alone. A recovery of that process that answered and left
-/// the cell unmarked would leave no sound world. Behind `set 1 A1 9`, `begin 0 set A1 5`,
+/// the cell unmarked would leave no sound world. After `set 1 A1 9`, `begin 0 set A1 5`,
 /// `run 0 to swung`, `work 1 A1`, `crash`, the cell A1 is clean, shows 5, and has the text 9; the
-/// recovery of process 0 tells its edit as not done.
+/// recovery of process 0 reports its edit as not done.
 pub fn undone_edits_need_their_mark()
     ensures relied { (w : PlainWorld) (p c : ℕ) → IsSound w → ReliesOn w p c
         → Excuses w p (w.situation p) c (w.memory.cached (Mark c)) }

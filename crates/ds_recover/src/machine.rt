@@ -19,7 +19,7 @@ use ds_layout::head::Head;
 use ds_layout::header::Header;
 use ds_layout::mark::{DIRTY, Mark, State};
 use ds_layout::place::{Edition, Place};
-use ds_state::recovery::{RecoverCall, RecoverStage, RecoveryEnd, Told};
+use ds_state::recovery::{LastEdit, RecoverCall, RecoverStage, RecoveryEnd};
 use ds_state::spread::{Spread, told_from};
 use ds_state::turn::Turn;
 use ds_words::access::Access;
@@ -129,7 +129,7 @@ pub fn effect_of(call: &RecoverCall) -> Turn<RecoveryEnd>
 {
     match call.stage {
         RecoverStage::Answer(None) => Turn::Answers(RecoveryEnd::Nothing),
-        RecoverStage::Answer(Some(how)) => Turn::Answers(RecoveryEnd::Last(Told {
+        RecoverStage::Answer(Some(how)) => Turn::Answers(RecoveryEnd::Last(LastEdit {
             number: number(call),
             cell: call.cell,
             counts: how,
@@ -220,6 +220,7 @@ fn look_first(call: &mut RecoverCall)
     requires { call.old.stage ≡ BackVersion }
     ensures { call.new ≡ at call.old (LoadMark 0) }
 {
+    // For the proof: reading the field gives its invariant.
     let _cells = call.cells;
     call.stage = RecoverStage::LoadMark(0);
 }
@@ -255,7 +256,7 @@ fn note_row(call: &mut RecoverCall, cell: usize, part: usize, word: u64)
     call.stage = row_from(call.row.as_slice(), call.cells, cell, part + 1);
 }
 
-// A cell has been told: the next one, or the cell is given back.
+// A cell has been marked: the next one, or the cell is given back.
 fn tell_next(call: &mut RecoverCall, cell: usize, told: usize, word: u64)
     requires { call.old.stage ≡ Telling cell (BackTold told) }
     ensures { call.new ≡ next_at call.old (Telling cell (BackTold told)) word }
@@ -267,6 +268,7 @@ fn tell(call: &mut RecoverCall, cell: usize, spread: Spread, word: u64)
     requires { call.old.stage ≡ Telling cell spread }
     ensures { call.new ≡ next_at call.old (Telling cell spread) word }
 {
+    // For the proof: reading the field gives its invariant.
     let _cells = call.cells;
     match spread {
         Spread::LoadRow(part) => note_row(call, cell, part, word),
@@ -330,6 +332,7 @@ fn see_done(call: &mut RecoverCall, word: u64)
     requires { call.old.stage ≡ LoadDone }
     ensures { call.new ≡ next_at call.old LoadDone word }
 {
+    // For the proof: reading the field gives its invariant.
     let _cell = call.cell;
     let counts = bits::has_bit(word, number(call));
     go_to(call, RecoverStage::OrMark(counts));

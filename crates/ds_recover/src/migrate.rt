@@ -83,6 +83,7 @@ fn copy_from(words: usize, at: usize) -> MigrateStage
 fn old_words(call: &MigrateCall) -> usize
     ensures { result ≡ old_words call.now.processes }
 {
+    // For the proof: reading the field gives its invariant.
     let _stage = call.stage;
     call.processes * RECORDS * FIRST_PARTS
 }

@@ -19,7 +19,7 @@ fn is_stopped(situation: &Situation) -> bool
     match situation {
         Situation::Stopped => true,
         Situation::Idle(_) | Situation::Editing(_) | Situation::Working(_) => false,
-        Situation::Recovering(_) | Situation::Reporting(_) | Situation::Migrating(_) => false,
+        Situation::Recovering(_) | Situation::Showing(_) | Situation::Migrating(_) => false,
     }
 }
 

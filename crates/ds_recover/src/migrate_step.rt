@@ -20,11 +20,11 @@ fn call_of(situation: &Situation) -> Option<&MigrateCall>
     match situation {
         Situation::Migrating(call) => Some(call),
         Situation::Idle(_) | Situation::Stopped | Situation::Editing(_) => None,
-        Situation::Working(_) | Situation::Reporting(_) | Situation::Recovering(_) => None,
+        Situation::Working(_) | Situation::Showing(_) | Situation::Recovering(_) => None,
     }
 }
 
-// The process goes on with the word that its access answered; behind the answer it is stopped.
+// The process goes on with the word that its access answered; after the answer it is stopped.
 fn go_on(situation: &mut Situation, word: u64)
     ensures { (e : PlainMigrateCall) → situation.old ≡ Migrating e → situation.new ≡ after e e.stage word }
 {
@@ -38,7 +38,7 @@ fn go_on(situation: &mut Situation, word: u64)
 
 /// A process makes the next step of its migration, and what that did to it. With its answer the process is stopped,
 /// and recovers next. It takes no memory. Where the process has no migration under way, or the sheet has no such
-/// process, the step can not happen, and nothing changes.
+/// process, the step cannot happen, and nothing changes.
 pub fn step(world: &mut World, process: usize) -> Option<Turn<MigrateEnd>>
     ensures { StepTakes world.old process result world.new }
 {

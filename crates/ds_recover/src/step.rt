@@ -22,15 +22,16 @@ fn call_of(situation: &Situation) -> Option<&RecoverCall>
     match situation {
         Situation::Recovering(call) => Some(call),
         Situation::Idle(_) | Situation::Stopped | Situation::Editing(_) => None,
-        Situation::Working(_) | Situation::Reporting(_) | Situation::Migrating(_) => None,
+        Situation::Working(_) | Situation::Showing(_) | Situation::Migrating(_) => None,
     }
 }
 
-// The number of the process's next edit: that behind the one that was announced.
+// The number of the process's next edit: that after the one that was announced.
 fn next_number(call: &RecoverCall, how: Option<bool>) -> usize
     requires { call.now.stage ≡ Answer how }
     ensures { result ≡ next_number call.now.announcement how }
 {
+    // For the proof: reading the field gives its invariant.
     let _stage = call.stage;
     match how {
         None => 0,
@@ -67,7 +68,7 @@ fn close(open_edit: &mut Option<Issue>, what: Turn<RecoveryEnd>)
 
 /// A process makes the next step of its recovery, and what that did to it. With its answer no edit of
 /// the process is open any more. It takes no memory. Where the process has no recovery under way, or
-/// the sheet has no such process, the step can not happen, and nothing changes.
+/// the sheet has no such process, the step cannot happen, and nothing changes.
 pub fn step(world: &mut World, process: usize) -> Option<Turn<RecoveryEnd>>
     ensures { StepTakes world.old process result world.new }
 {

@@ -24,7 +24,7 @@ pub obeys_fault : {B : Type 0} (rules : Rules B) (old : B) (joined : Option ℕ)
     → s ≡ rules.shape old → n ≡ rules.processes old → Err fault ≡ call_of s n joined d → Obeys rules old joined d (Faulted fault) old
 obeys_fault rules old joined d s n fault es en e = refuses fault (sym (e ∙ same_call s (rules.shape old) n (rules.processes old) joined d es en))
 
--- a line that reads as no JSON, or for which memory is wanting, is answered so, and the board stays
+-- a line that reads as no JSON, or for which an allocation fails, is answered so, and the board stays
 pub no_value : {B : Type 0} (rules : Rules B) (old : B) (joined : Option ℕ) (line : List ℕ) (fault : LineFault) → ReadsJson line (Err fault) → Answers rules old joined line (Faulted fault) old
 no_value rules old joined line faults.NotJson h = no_json h
 no_value rules old joined line faults.NoMemory h = no_memory

@@ -2,7 +2,7 @@
 use Rattle.std.proofs.Common.{◌≡◌, ◌≢◌, ℕ, ◌+◌, ◌-◌, ◌<◌, List, [], ◌∷◌, ◌++◌, length, min, refl, ap, arith, length-append}
 use Rattle.ds_server.specs.SessionLines.{HasNoFeed, ReadsOver, ReadsLong}
 
--- bytes without a line feed, and another byte behind that is none, have none
+-- bytes without a line feed, and another byte after them that is none, have none
 pub no_feed_more : (bytes : List ℕ) (b : ℕ) → HasNoFeed bytes → b ≢ 10 → HasNoFeed (bytes ++ b ∷ [])
 no_feed_more [] b h n = (n, tt)
 no_feed_more (c ∷ bytes) b h n = (h.0, no_feed_more bytes b h.1 n)

@@ -5,7 +5,7 @@ use Rattle.serde_json.specs.Data.{Data}
 use Rattle.ds_eval.specs.declared.value.Value.{Value}
 use Rattle.ds_server.specs.SessionTexts.{row_data, rows_of}
 
--- the next row, behind those so far, leaves the rows that are still to come
+-- the next row, after those so far, leaves the rows that are still to come
 pub rows_more : (columns rows i : ℕ) (rest : List Value) (so_far whole : List Data) (first behind : List Value) (d : Data) (items : List Data) → i < rows
     → so_far ++ map row_data (rows_of columns (rows - i) rest) ≡ whole → first ≡ take columns rest → behind ≡ drop columns rest → d ≡ row_data first → items ≡ so_far ++ d ∷ []
     → items ++ map row_data (rows_of columns (rows - (i + 1)) behind) ≡ whole

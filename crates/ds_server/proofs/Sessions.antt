@@ -11,7 +11,7 @@ use Rattle.ds_server.specs.Boards.{Rules, joined_after}
 use Rattle.ds_server.specs.SessionTexts.{said_text}
 use Rattle.ds_server.specs.Session.{Answers, Turns, short, long, Session, turns, Served, Within, OverLimit, Ran}
 use Rattle.ds_server.specs.LineAnswers.{Writes, Says, end_of}
-use Rattle.ds_streams.proofs.Known.{Appends-both}
+use Rattle.ds_script_io.proofs.Known.{Appends-both}
 
 -- ---- one line
 
@@ -47,7 +47,7 @@ module _ {B : Type 0} (rules : Rules B) (most : ℕ) (first old new : B) (bytes 
     record { lines = bytes; more = more; board = old; before = joined; said = said; session = s; turn = t; joined_is = j; is = refl },
   )
 
--- a write that failed is told
+-- a write that failed is reported
 pub stop_told : {B : Type 0} (rules : Rules B) (old : B) (said : Said) (before now : Option (List ℕ)) (failed_before failed_now : Bool) (stop : Hindrance)
     → Writes (rules.shape old) said before now failed_before failed_now (Err stop) → end_of stop ≡ ends.WriteFailed → failed_now ≡ true
 stop_told rules old said before now failed_before failed_now hindrances.NoMemory tells is = absurd (cc)
@@ -60,7 +60,7 @@ stop_hides rules old said before now failed_before failed_now hindrances.WriteFa
 
 -- ---- ends
 
--- the lines of a session, with a rest behind them, are served
+-- the lines of a session, with a rest after them, are served
 pub served : {B : Type 0} (rules : Rules B) (most : ℕ) (first last : B) (bytes rest out : List ℕ) (joined : Option ℕ) → Session rules most first bytes last joined out → Served rules most first (bytes ++ rest) out rest last joined
 served rules most first last bytes rest out joined s = record { lines = bytes; session = s; is = refl }
 

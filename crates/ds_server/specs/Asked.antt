@@ -25,7 +25,7 @@ abbrev pub result_view : Result Request LineFault → Result Call LineFault
 result_view (Ok found) = Ok (request_view found)
 result_view (Err fault) = Err fault
 
--- what reading a line as JSON gives: its value; a fault where it is none; or one for want of memory
+-- what reading a line as JSON gives: its value; a fault where it is none; or the one of a failed allocation
 abbrev pub ReadsJson : List ℕ → Result Value LineFault → Type 0
 ReadsJson line (Ok value) = IsJson line (view value)
 ReadsJson line (Err NotJson) = IsNoJson line

@@ -1,7 +1,7 @@
 -- What a board says of itself.
 use Rattle.std.specs.Prelude.{ℕ, ◌≡◌, Option, Some, None, Result, Ok, Err}
 use Rattle.ds_formula.specs.declared.cells.Shape.{Shape}
-use Rattle.ds_state.specs.declared.recovery.Told.{Told}
+use Rattle.ds_state.specs.declared.recovery.LastEdit.{LastEdit}
 use Rattle.ds_server.specs.declared.board.CallRefusal.{CallRefusal}
 use Rattle.ds_server.specs.BoardCalls.{Call, Leave}
 use Rattle.ds_server.specs.Replies.{Said, Joined, Left}
@@ -15,7 +15,7 @@ pub record Rules (B : Type 0) : Type 1 where
   pub does : B → Call → Said → B → Type 0
 
 -- after a join that is not refused the session has the process
-abbrev pub SitsAfter : {B : Type 0} → Rules B → ℕ → Result (Option Told) CallRefusal → B → Type 0
+abbrev pub SitsAfter : {B : Type 0} → Rules B → ℕ → Result (Option LastEdit) CallRefusal → B → Type 0
 SitsAfter rules process (Ok last) board = rules.sits board process
 SitsAfter rules process (Err why) board = Unit {0}
 

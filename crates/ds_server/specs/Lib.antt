@@ -10,3 +10,4 @@ pub mod Session
 pub mod SessionEndings
 pub mod WorldBoards
 pub mod LineAnswers
+pub mod SessionTraces

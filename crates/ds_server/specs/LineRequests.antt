@@ -7,9 +7,9 @@ use Rattle.serde_json.specs.Find.{get, as_str, as_number, as_u64}
 use Rattle.ds_formula.specs.declared.cells.Shape.{Shape}
 use Rattle.ds_formula.specs.Cells.{IsInside}
 use Rattle.ds_formula.specs.Names.{cell_named}
-use Rattle.ds_streams.specs.Fields.{◌>>=◌}
-use Rattle.ds_server.specs.declared.request.Verb.{Verb}
-use Rattle.ds_server.specs.declared.request.Verb.TheVariants as verb
+use Rattle.ds_script_io.specs.Fields.{◌>>=◌}
+use Rattle.ds_server.specs.declared.request.Operation.{Operation}
+use Rattle.ds_server.specs.declared.request.Operation.TheVariants as verb
 use Rattle.ds_server.specs.declared.request.LineFault.{LineFault}
 use Rattle.ds_server.specs.declared.request.LineFault.TheVariants as fault
 use Rattle.ds_server.specs.BoardCalls.{Call, Join, Set, Report, Last, Leave}
@@ -35,7 +35,7 @@ abbrev pub number_field : List ℕ → Data → Option ℕ
 number_field key value = (get key value >>= as_number) >>= as_u64
 
 -- the verb that a word names
-abbrev pub verb_named : List ℕ → Option Verb
+abbrev pub verb_named : List ℕ → Option Operation
 verb_named word =
     if bytes_eq word (codes "join") then Some verb.Join
     else (if bytes_eq word (codes "set") then Some verb.Set
@@ -64,7 +64,7 @@ or_bad_field (Some call) = Ok call
 
 -- the call of the verb and the fields, by the process that the session has joined, if any: a join where it has none,
 -- else one of that process
-abbrev pub call_by : Shape → ℕ → Option ℕ → Verb → Data → Result Call LineFault
+abbrev pub call_by : Shape → ℕ → Option ℕ → Operation → Data → Result Call LineFault
 call_by shape processes None verb.Join value = or_bad_field (join_in processes value)
 call_by shape processes (Some process) verb.Join value = Err fault.AlreadyJoined
 call_by shape processes None verb value = Err fault.NotJoined
@@ -72,8 +72,8 @@ call_by shape processes (Some process) verb.Set value = or_bad_field (set_in sha
 call_by shape processes (Some process) verb.Report value = Ok (Report process)
 call_by shape processes (Some process) verb.Last value = Ok (Last process)
 
--- the call, where the word behind `op` names a verb
-abbrev pub call_with : Shape → ℕ → Option ℕ → Data → Option Verb → Result Call LineFault
+-- the call, where the word after `op` names a verb
+abbrev pub call_with : Shape → ℕ → Option ℕ → Data → Option Operation → Result Call LineFault
 call_with shape processes joined value None = Err fault.UnknownOp
 call_with shape processes joined value (Some verb) = call_by shape processes joined verb value
 
@@ -82,7 +82,7 @@ abbrev pub call_op : Shape → ℕ → Option ℕ → Data → Option (List ℕ)
 call_op shape processes joined value None = Err fault.BadField
 call_op shape processes joined value (Some op) = call_with shape processes joined value (verb_named op)
 
--- the call that a value asks for, or the first fault: no text behind `op`, an unknown one, not joined or already
+-- the call that a value asks for, or the first fault: no text after `op`, an unknown one, not joined or already
 -- joined, a bad field
 abbrev pub call_of : Shape → ℕ → Option ℕ → Data → Result Call LineFault
 call_of shape processes joined value = call_op shape processes joined value (text_field (codes "op") value)

@@ -5,7 +5,7 @@ use Rattle.ds_layout.specs.declared.place.Place.{Place}
 use Rattle.ds_state.specs.declared.answer.EditEnd.{EditEnd}
 use Rattle.ds_state.specs.declared.answer.EditEnd.TheVariants as edit
 use Rattle.ds_state.specs.declared.answer.Other.{Other}
-use Rattle.ds_state.specs.declared.recovery.Told.{Told}
+use Rattle.ds_state.specs.declared.recovery.LastEdit.{LastEdit}
 use Rattle.ds_server.specs.declared.board.CallRefusal.{CallRefusal}
 use Rattle.ds_server.specs.declared.board.Reported.{Reported}
 use Rattle.ds_server.specs.declared.board.Reported.TheVariants as report
@@ -13,18 +13,18 @@ use Rattle.ds_server.specs.declared.request.LineFault.{LineFault}
 
 -- what a board answers to a call; and `Faulted`, what a session says to a line that asks for no call
 pub data Said : Type 0 where
-  Joined : ℕ → Option Told → Said
+  Joined : ℕ → Option LastEdit → Said
   Done : ℕ → Said
   Overtaken : ℕ → Other → Said
   Settled : List Value → Said
   Unsettled : Place → ℕ → Said
-  Tells : Option Told → Said
+  Tells : Option LastEdit → Said
   Left : Said
   Refused : CallRefusal → Said
   Faulted : LineFault → Said
 
 -- what is said to a join of the process
-abbrev pub joined_view : ℕ → Result (Option Told) CallRefusal → Said
+abbrev pub joined_view : ℕ → Result (Option LastEdit) CallRefusal → Said
 joined_view process (Ok last) = Joined process last
 joined_view process (Err why) = Refused why
 
@@ -41,6 +41,6 @@ report_view (Ok (report.Unsettled place word)) = Unsettled place word
 report_view (Err why) = Refused why
 
 -- what is said to a recovery
-abbrev pub last_view : Result (Option Told) CallRefusal → Said
+abbrev pub last_view : Result (Option LastEdit) CallRefusal → Said
 last_view (Ok last) = Tells last
 last_view (Err why) = Refused why

@@ -1,4 +1,4 @@
--- A session: its lines in order, the board behind each, and what is said to them. Over any board: what a call does and
+-- A session: its lines in order, the board after each, and what is said to them. Over any board: what a call does and
 -- is answered is what the board says of itself.
 use Rattle.std.specs.Prelude.{◌≡◌, ◌⊎◌, ℕ, ◌+◌, ◌<◌, ◌≤◌, List, [], ◌++◌, ◌∷◌, length, Option, None, Ok, Err}
 use Rattle.serde_json.specs.Data.{Data}
@@ -15,7 +15,7 @@ use Rattle.ds_server.specs.SessionTexts.{said_text}
 
 -- ---- one line
 
--- what is said to the value of a line, and the board before and behind it: a fault, which leaves the board as it is;
+-- what is said to the value of a line, and the board before and after it: a fault, which leaves the board as it is;
 -- or the answer to the call that the value asks for
 pub data Obeys {B : Type 0} (rules : Rules B) (old : B) (joined : Option ℕ) (value : Data) : Said → B → Type 0 where
   refuses : (fault : LineFault) → call_of (rules.shape old) (rules.processes old) joined value ≡ Err fault → Obeys rules old joined value (Faulted fault) old
@@ -43,7 +43,7 @@ pub data Session {B : Type 0} (rules : Rules B) (most : ℕ) (first : B) : List 
       → Session rules most first bytes old joined out → Turns rules most old joined more said new
       → Session rules most first (bytes ++ more) new (joined_after joined said) (out ++ said_text (rules.shape old) said)
 
--- every line of the bytes is answered; the rest, behind the last line feed, is no line
+-- every line of the bytes is answered; the rest, after the last line feed, is no line
 pub record Served {B : Type 0} (rules : Rules B) (most : ℕ) (first : B) (bytes out rest : List ℕ) (last : B) (joined : Option ℕ) : Type 0 where
   pub lines : List ℕ
   pub session : Session rules most first lines last joined out

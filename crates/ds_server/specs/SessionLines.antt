@@ -23,13 +23,13 @@ pub record IsLine (bytes line : List ℕ) : Type 0 where
   pub no_feed : HasNoFeed line
   pub is : bytes ≡ line ++ 10 ∷ []
 
--- the bytes are a line of at most `most` bytes; `left` bytes could come before it was read, and `rest` can behind it
+-- the bytes are a line of at most `most` bytes; `left` bytes could come before it was read, and `rest` can after it
 pub record ReadsLine (most left : ℕ) (bytes line : List ℕ) (rest : ℕ) : Type 0 where
   pub is_line : IsLine bytes line
   pub short : length line ≤ most
   pub counted : length bytes + rest ≡ left
 
--- the bytes are a line of more than `most` bytes; `left` bytes could come before it was read, and `rest` can behind it
+-- the bytes are a line of more than `most` bytes; `left` bytes could come before it was read, and `rest` can after it
 pub record ReadsLong (most left : ℕ) (bytes : List ℕ) (rest : ℕ) : Type 0 where
   pub whole : List ℕ
   pub is_line : IsLine bytes whole
@@ -50,7 +50,7 @@ pub record ReadsOver (left : ℕ) (bytes : List ℕ) : Type 0 where
   pub at : length front ≡ left
 
 -- what was read, by where reading stopped: a line is too long over `most` bytes; `left` bytes could come before these
--- were read, and `rest` can behind them; `line` is what was kept
+-- were read, and `rest` can after them; `line` is what was kept
 abbrev pub Reads : ℕ → ℕ → List ℕ → List ℕ → ℕ → LineEnd → Type 0
 Reads most left bytes line rest Line = ReadsLine most left bytes line rest
 Reads most left bytes line rest Long = ReadsLong most left bytes rest

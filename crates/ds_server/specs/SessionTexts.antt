@@ -13,7 +13,7 @@ use Rattle.ds_eval.specs.Numbers.{value_text}
 use Rattle.ds_layout.specs.declared.place.Place.{Place}
 use Rattle.ds_layout.specs.declared.place.Place.TheVariants as place
 use Rattle.ds_state.specs.declared.answer.Other.{Other}
-use Rattle.ds_state.specs.declared.recovery.Told.{Told}
+use Rattle.ds_state.specs.declared.recovery.LastEdit.{LastEdit}
 use Rattle.ds_server.specs.declared.board.CallRefusal.{CallRefusal}
 use Rattle.ds_server.specs.declared.board.CallRefusal.TheVariants as refusal
 use Rattle.ds_server.specs.declared.request.LineFault.{LineFault}
@@ -52,17 +52,17 @@ number_data n = number (unsigned n)
 abbrev pub text_data : List ℕ → Data
 text_data text = string text
 
--- the word for how an edit ended, by whether it counts
+-- the word for how an edit ended, by whether it is linearized
 abbrev pub outcome_text : Bool → List ℕ
 outcome_text true = codes "done"
 outcome_text false = codes "not-done"
 
 -- the last edit of a process: {"cell":"A1","number":0,"outcome":"done"}
-abbrev pub told_data : Shape → Told → Data
+abbrev pub told_data : Shape → LastEdit → Data
 told_data shape told = object (member (codes "cell") (text_data (cell_text (cell_at shape told.cell))) (member (codes "number") (number_data told.number) (member (codes "outcome") (text_data (outcome_text told.counts)) no_members)))
 
 -- the last edit of a process, null where it has none
-abbrev pub last_data : Shape → Option Told → Data
+abbrev pub last_data : Shape → Option LastEdit → Data
 last_data shape None = null
 last_data shape (Some told) = told_data shape told
 
@@ -96,10 +96,10 @@ place_text shape other = []
 -- ---- answers
 
 -- the answer to a join, with the process and its last edit: {"last":null,"ok":"join","process":0}
-abbrev pub joined_data : Shape → ℕ → Option Told → Data
+abbrev pub joined_data : Shape → ℕ → Option LastEdit → Data
 joined_data shape process last = object (member (codes "last") (last_data shape last) (member (codes "ok") (text_data (codes "join")) (member (codes "process") (number_data process) no_members)))
 
--- the answer of an edit that counts: {"number":0,"ok":"done"}
+-- the answer of a linearized edit: {"number":0,"ok":"done"}
 abbrev pub done_data : ℕ → Data
 done_data n = object (member (codes "number") (number_data n) (member (codes "ok") (text_data (codes "done")) no_members))
 
@@ -115,8 +115,8 @@ settled_data shape values = object (member (codes "ok") (text_data (codes "settl
 abbrev pub unsettled_data : Shape → Place → ℕ → Data
 unsettled_data shape at word = object (member (codes "ok") (text_data (codes "unsettled")) (member (codes "place") (text_data (place_text shape at)) (member (codes "word") (number_data word) no_members)))
 
--- what a process is told of its last edit: {"last":{"cell":"A1","number":0,"outcome":"done"},"ok":"last"}
-abbrev pub tells_data : Shape → Option Told → Data
+-- what a process is reported of its last edit: {"last":{"cell":"A1","number":0,"outcome":"done"},"ok":"last"}
+abbrev pub tells_data : Shape → Option LastEdit → Data
 tells_data shape last = object (member (codes "last") (last_data shape last) (member (codes "ok") (text_data (codes "last")) no_members))
 
 -- an error by its code and name: {"code":1,"error":"not-json"}

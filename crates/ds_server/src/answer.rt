@@ -14,9 +14,9 @@ use ds_eval::value::Value;
 use ds_formula::cells::Shape;
 use ds_formula::fault::TextFault;
 use ds_layout::place::Place;
+use ds_script_io::answer::cell_at;
 use ds_state::answer::Other;
-use ds_state::recovery::Told;
-use ds_streams::answer::cell_at;
+use ds_state::recovery::LastEdit;
 use serde_json::{Value as Json, json};
 use std::alloc::{AllocError, Global};
 
@@ -24,17 +24,17 @@ use std::alloc::{AllocError, Global};
 #[derive(Debug, Drop)]
 pub enum Response {
     /// The process is the session's; its last edit that was announced, if any.
-    Joined(usize, Option<Told>),
-    /// The edit of this number counts.
+    Joined(usize, Option<LastEdit>),
+    /// The edit of this number is linearized.
     Done(usize),
-    /// The edit of this number does not count: the other edit stood in its place.
+    /// The edit of this number is not linearized: the other edit stood in its place.
     Overtaken(usize, Other),
     /// The values of the cells, row by row from the left.
     Settled(Vec<Value>),
     /// This mark or announcement, whose word the report saw, was not at rest.
     Unsettled(Place, u64),
     /// The last edit of the process that was announced, if any.
-    Tells(Option<Told>),
+    Tells(Option<LastEdit>),
     /// The board refuses the call.
     Refused(CallRefusal),
     /// The line is no call.
@@ -83,14 +83,14 @@ fn outcome(counts: bool) -> &'static str
     if counts { "done" } else { "not-done" }
 }
 
-fn told_value(alloc: Global, shape: &Shape, told: Told) -> Result<Json, AllocError>
+fn told_value(alloc: Global, shape: &Shape, told: LastEdit) -> Result<Json, AllocError>
     ensures { IfOk result (λ v. view v ≡ told_data shape.now told) }
 {
     let cell = Json::String(cell_name(alloc, shape, told.cell)?);
     json!(in alloc; {"cell": cell, "number": (told.number as u64), "outcome": (outcome(told.counts))})
 }
 
-fn last_value(alloc: Global, shape: &Shape, last: Option<Told>) -> Result<Json, AllocError>
+fn last_value(alloc: Global, shape: &Shape, last: Option<LastEdit>) -> Result<Json, AllocError>
     ensures { IfOk result (λ v. view v ≡ last_data shape.now last) }
 {
     match last {
@@ -121,6 +121,7 @@ fn rows_value(alloc: Global, shape: &Shape, values: &[Value]) -> Result<Json, Al
     let mut rows = Vec::with_capacity(alloc, shape.rows)?;
     let mut rest = values;
     for row in 0..shape.rows {
+        // The body does not use it: the signature or a clause names it.
         let _row = row;
         let (first, behind) = rest.split_at(shape.columns.min(rest.len()));
         rows.push(row_value(alloc, first)?)?;
@@ -147,7 +148,7 @@ fn joined_value(
     alloc: Global,
     shape: &Shape,
     process: usize,
-    last: Option<Told>,
+    last: Option<LastEdit>,
 ) -> Result<Json, AllocError>
     ensures { IfOk result (λ v. view v ≡ joined_data shape.now process last) }
 {
@@ -187,7 +188,7 @@ fn unsettled_value(
     json!(in alloc; {"ok": "unsettled", "place": place, "word": word})
 }
 
-fn tells_value(alloc: Global, shape: &Shape, last: Option<Told>) -> Result<Json, AllocError>
+fn tells_value(alloc: Global, shape: &Shape, last: Option<LastEdit>) -> Result<Json, AllocError>
     ensures { IfOk result (λ v. view v ≡ tells_data shape.now last) }
 {
     let last = last_value(alloc, shape, last)?;
@@ -242,7 +243,7 @@ fn response_text(alloc: Global, shape: &Shape, response: &Response) -> Result<St
     value.to_string(alloc)
 }
 
-/// The line that a response is written as. An error is a want of memory.
+/// The line that a response is written as. An error means that an allocation failed.
 pub fn response_line(
     alloc: Global,
     shape: &Shape,

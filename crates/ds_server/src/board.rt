@@ -11,7 +11,7 @@ use ds_formula::cells::{Cell, Shape};
 use ds_formula::fault::TextFault;
 use ds_layout::place::Place;
 use ds_state::answer::EditEnd;
-use ds_state::recovery::Told;
+use ds_state::recovery::LastEdit;
 use std::alloc::Global;
 
 /// Why a board refuses a call. Its codes are apart from those of a line that is no call
@@ -57,9 +57,9 @@ pub trait Board {
     fn processes(&self) -> usize
         ensures { result ≡ rules.processes self.now };
 
-    /// The session takes a process, whose recovery tells of its last edit that was announced, if any.
+    /// The session takes a process, whose recovery reports its last edit that was announced, if any.
     /// After an error the process is not the session's.
-    fn join(&mut self, alloc: Global, process: usize) -> Result<Option<Told>, CallRefusal>
+    fn join(&mut self, alloc: Global, process: usize) -> Result<Option<LastEdit>, CallRefusal>
         requires { process < rules.processes self.old }
         ensures does { rules.does self.old (Join process) (joined_view process result) self.new }
         ensures sits { SitsAfter rules process result self.new };
@@ -83,8 +83,8 @@ pub trait Board {
         ensures does { rules.does self.old (Report process) (report_view result) self.new }
         ensures sits { rules.sits self.new process };
 
-    /// A whole recovery, which tells of the process's last edit that was announced, if any.
-    fn last(&mut self, alloc: Global, process: usize) -> Result<Option<Told>, CallRefusal>
+    /// A whole recovery, which reports the process's last edit that was announced, if any.
+    fn last(&mut self, alloc: Global, process: usize) -> Result<Option<LastEdit>, CallRefusal>
         requires { rules.sits self.old process }
         ensures does { rules.does self.old (Last process) (last_view result) self.new }
         ensures sits { rules.sits self.new process };

@@ -2,11 +2,11 @@
 
 ghost use Rattle.std.specs.Prelude.{◌≡◌, ◌+◌, ◌<◌, ◌≤◌, ◌^◌, ◌∷◌, [], ◌++◌, ℕ, List, true, length, vec_capacity};
 ghost use Rattle.std.specs.Io.KnownBytes.{Consumes, IsAtEnd};
-ghost use Rattle.ds_streams.specs.Streams.{reader_of, bytes_given, has_ended, read_failed};
+ghost use Rattle.ds_script_io.specs.Streams.{reader_of, bytes_given, has_ended, read_failed};
 ghost use Rattle.ds_server.specs.SessionLines.{Gives, Reads};
 ghost use Rattle.ds_server.specs.declared.line.LineEnd.TheVariants as ends;
 
-use ds_streams::streams::Reading;
+use ds_script_io::streams::Reading;
 use std::io::Read;
 
 // What a reader gave.

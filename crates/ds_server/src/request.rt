@@ -31,14 +31,14 @@ pub enum LineFault {
 
 /// What the field `op` names.
 #[derive(Clone, Copy, Debug, PartialEq, Eq)]
-pub enum Verb {
+pub enum Operation {
     /// To take a process.
     Join,
     /// To edit a cell.
     Set,
     /// To settle and report.
     Report,
-    /// To tell of the last edit.
+    /// To report the last edit.
     Last,
 }
 
@@ -55,7 +55,7 @@ pub enum Request<'a> {
     Last(usize),
 }
 
-/// Reads a line as JSON. A fault is `NotJson` where it is none, and `NoMemory` for want of memory.
+/// Reads a line as JSON. A fault is `NotJson` where it is none, and `NoMemory` where an allocation fails.
 pub fn read_json(alloc: Global, line: &[u8]) -> Result<Value, LineFault>
     ensures { ReadsJson line.now result }
 {
@@ -66,14 +66,14 @@ pub fn read_json(alloc: Global, line: &[u8]) -> Result<Value, LineFault>
     }
 }
 
-fn verb_named(word: &str) -> Option<Verb>
+fn verb_named(word: &str) -> Option<Operation>
     ensures { result ≡ verb_named word.now }
 {
     match word {
-        "join" => Some(Verb::Join),
-        "set" => Some(Verb::Set),
-        "report" => Some(Verb::Report),
-        "last" => Some(Verb::Last),
+        "join" => Some(Operation::Join),
+        "set" => Some(Operation::Set),
+        "report" => Some(Operation::Report),
+        "last" => Some(Operation::Last),
         _ => None,
     }
 }
@@ -133,15 +133,15 @@ pub fn read_request<'a>(
     };
     match (verb_named(op), joined) {
         (None, _) => Err(LineFault::UnknownOp),
-        (Some(Verb::Join), None) => join_request(value, shape, processes).ok_or(
+        (Some(Operation::Join), None) => join_request(value, shape, processes).ok_or(
             LineFault::BadField,
         ),
-        (Some(Verb::Join), Some(_)) => Err(LineFault::AlreadyJoined),
+        (Some(Operation::Join), Some(_)) => Err(LineFault::AlreadyJoined),
         (Some(_), None) => Err(LineFault::NotJoined),
-        (Some(Verb::Set), Some(process)) => {
+        (Some(Operation::Set), Some(process)) => {
             set_request(value, shape, processes, process).ok_or(LineFault::BadField)
         }
-        (Some(Verb::Report), Some(process)) => Ok(Request::Report(process)),
-        (Some(Verb::Last), Some(process)) => Ok(Request::Last(process)),
+        (Some(Operation::Report), Some(process)) => Ok(Request::Report(process)),
+        (Some(Operation::Last), Some(process)) => Ok(Request::Last(process)),
     }
 }

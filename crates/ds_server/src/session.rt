@@ -1,10 +1,10 @@
 //! A session.
 
-ghost use Rattle.std.specs.Prelude.{◌≡◌, ◌≢◌, ◌≤◌, ◌<◌, ◌+◌, ◌^◌, List, ℕ, true, Some, None, length};
+ghost use Rattle.std.specs.Prelude.{◌≡◌, ◌≢◌, ◌≤◌, ◌<◌, ◌+◌, ◌^◌, List, ℕ, true, Some, None, OnOk, IfErr, length};
 ghost use Rattle.std.specs.Io.KnownBytes.{Consumes, Appends, IsAtEnd};
 ghost use Rattle.serde_json.specs.View.{view};
 ghost use Rattle.ds_formula.specs.Cells.{IsInside};
-ghost use Rattle.ds_streams.specs.Streams.{reader_of, writer_of, bytes_given, has_ended, read_failed, write_failed};
+ghost use Rattle.ds_script_io.specs.Streams.{reader_of, writer_of, is_flushed, bytes_given, has_ended, read_failed, write_failed};
 ghost use Rattle.ds_server.specs.SessionLimits.{SESSION_LINE_MOST, SESSION_MOST};
 ghost use Rattle.ds_server.specs.BoardCalls.{Join, Set, Report, Last};
 ghost use Rattle.ds_server.specs.Boards.{Seated, Leaves, joined_after};
@@ -19,8 +19,8 @@ use crate::board::{Board, Reported};
 use crate::line::{LineEnd, read_line};
 use crate::request::{LineFault, Request, read_json, read_request};
 use ds_formula::cells::{Cell, Shape};
+use ds_script_io::streams::{Reading, Writing};
 use ds_state::answer::EditEnd;
-use ds_streams::streams::{Reading, Writing};
 use serde_json::Value;
 use std::alloc::Global;
 use std::fmt;
@@ -35,7 +35,7 @@ pub const SESSION_LIMIT: usize = 1_048_576;
 /// How a session ended. What was written before stays written, and what was done before stays done.
 #[derive(Clone, Copy, Debug, PartialEq, Eq)]
 pub enum SessionEnd {
-    /// The reader has ended, and every line is answered. What stands behind the last line feed is no
+    /// The reader has ended, and every line is answered. What stands after the last line feed is no
     /// line.
     Ended,
     /// The session is longer than 1,048,576 bytes; the lines whole within them are answered.
@@ -189,7 +189,7 @@ fn leave<B: Board>(board: &mut B, joined: Option<usize>)
     }
 }
 
-// Why a session goes no further behind a line.
+// Why a session goes no further after a line.
 #[derive(Clone, Copy, Debug)]
 enum Hindrance {
     NoMemory,
@@ -203,7 +203,9 @@ fn tell<W: Write>(
     shape: &Shape,
     response: &Response,
 ) -> Result<(), Hindrance>
-    ensures { Writes shape.now (response_view response.now) (W.contents (writer_of writer.old)) (W.contents (writer_of writer.new)) (write_failed writer.old) (write_failed writer.new) result }
+    ensures writes { Writes shape.now (response_view response.now) (W.contents (writer_of writer.old)) (W.contents (writer_of writer.new)) (write_failed writer.old) (write_failed writer.new) result }
+    ensures flushed { is_flushed writer.old ≡ true → OnOk result (is_flushed writer.new ≡ true) }
+    ensures none_left { is_flushed writer.old ≡ true → IfErr result (λ why. why ≢ Hindrance.WriteFailed → is_flushed writer.new ≡ true) }
 {
     let Ok(text) = response_line(alloc, shape, response) else {
         return Err(Hindrance::NoMemory);
@@ -257,7 +259,9 @@ fn turn<W: Write, B: Board>(
     long: bool,
 ) -> Result<(), Hindrance>
     requires { Seated B.rules joined.old board.old }
-    ensures { Turned B.rules long board.old joined.old line.now (W.contents (writer_of writer.old)) (W.contents (writer_of writer.new)) (write_failed writer.old) (write_failed writer.new) result board.new joined.new }
+    ensures turned { Turned B.rules long board.old joined.old line.now (W.contents (writer_of writer.old)) (W.contents (writer_of writer.new)) (write_failed writer.old) (write_failed writer.new) result board.new joined.new }
+    ensures flushed { is_flushed writer.old ≡ true → OnOk result (is_flushed writer.new ≡ true) }
+    ensures none_left { is_flushed writer.old ≡ true → IfErr result (λ why. why ≢ Hindrance.WriteFailed → is_flushed writer.new ≡ true) }
 {
     let shape = board.shape();
     let response = response_to(alloc, board, *joined, line, long);
@@ -282,6 +286,7 @@ fn run_lines<R: Read, W: Write, B: Board>(
     ensures at_end { result ≡ SessionEnd.Ended → IsAtEnd (R.remaining (reader_of reader.new)) }
     ensures read_failed { result ≡ SessionEnd.ReadFailed → read_failed reader.new ≡ true }
     ensures write_failed { result ≡ SessionEnd.WriteFailed → write_failed writer.new ≡ true }
+    ensures flushed { is_flushed writer.old ≡ true → result ≢ SessionEnd.WriteFailed → is_flushed writer.new ≡ true }
     ensures no_failure { result ≢ SessionEnd.WriteFailed → write_failed writer.new ≡ write_failed writer.old }
     ensures outcome { (bytes : List ℕ) × (out : List ℕ) × Consumes (R.remaining (reader_of reader.old)) (R.remaining (reader_of reader.new)) bytes
         × (result ≢ SessionEnd.WriteFailed → Appends (W.contents (writer_of writer.old)) (W.contents (writer_of writer.new)) out)
@@ -324,6 +329,7 @@ pub fn session<R: Read, W: Write, B: Board>(
     ensures at_end { result ≡ SessionEnd.Ended → IsAtEnd (R.remaining (reader_of reader.new)) }
     ensures read_failed { result ≡ SessionEnd.ReadFailed → read_failed reader.new ≡ true }
     ensures write_failed { result ≡ SessionEnd.WriteFailed → write_failed writer.new ≡ true }
+    ensures flushed { is_flushed writer.old ≡ true → result ≢ SessionEnd.WriteFailed → is_flushed writer.new ≡ true }
     ensures no_failure { result ≢ SessionEnd.WriteFailed → write_failed writer.new ≡ write_failed writer.old }
     ensures outcome { (bytes : List ℕ) × (out : List ℕ) × Consumes (R.remaining (reader_of reader.old)) (R.remaining (reader_of reader.new)) bytes
         × (result ≢ SessionEnd.WriteFailed → Appends (W.contents (writer_of writer.old)) (W.contents (writer_of writer.new)) out)

@@ -6,21 +6,23 @@ ghost use Rattle.ds_state.specs.Fresh.{IsNew};
 ghost use Rattle.ds_recover.specs.RecoverBegun.{MayRecover};
 ghost use Rattle.ds_core.specs.Takes.{IsOfWorld};
 ghost use Rattle.ds_core.specs.Headline.{HasHeadline};
-ghost use Rattle.ds_calls.specs.Whole.{HasProcess, KeepsFree, IsRun, request};
+ghost use Rattle.ds_calls.specs.Traces.{Trace, both, Leads};
+ghost use Rattle.ds_calls.specs.Whole.{HasProcess, KeepsFree, request};
 ghost use Rattle.ds_server.specs.declared.session.SessionEnd.{SessionEnd};
 ghost use Rattle.ds_server.specs.BoardCalls.{Join, Set, Report, Last, Leave};
 ghost use Rattle.ds_server.specs.Replies.{Left, joined_view, set_view, report_view, last_view};
 ghost use Rattle.ds_server.specs.Session.{Outcome};
+ghost use Rattle.ds_server.specs.SessionTraces.{outcome_trace};
 ghost use Rattle.ds_server.specs.WorldBoards.{refused_by, values_of, Copies, Does, IsSeated, world_rules, HasRecovered, HasEdited, HasReported};
 
 use crate::board::{Board, CallRefusal, Reported};
-use ds_calls::call::{whole_edit, whole_recovery, whole_report};
+use ds_calls::call::{whole_edit, whole_recovery, whole_show};
 use ds_calls::settle::{SettleEnd, settle};
 use ds_formula::cells::{Cell, Shape};
 use ds_state::answer::EditEnd;
-use ds_state::recovery::{RecoveryEnd, Told};
+use ds_state::recovery::{LastEdit, RecoveryEnd};
 use ds_state::refusal::Refusal;
-use ds_state::report::ReportEnd;
+use ds_state::show::ShowEnd;
 use ds_state::world::World;
 use std::alloc::Global;
 
@@ -39,8 +41,12 @@ impl From<Refusal> for CallRefusal {
     }
 }
 
-// A whole recovery, and what it tells.
-fn recovered(alloc: Global, world: &mut World, process: usize) -> Result<Option<Told>, CallRefusal>
+// A whole recovery, and what it reports.
+fn recovered(
+    alloc: Global,
+    world: &mut World,
+    process: usize,
+) -> Result<Option<LastEdit>, CallRefusal>
     requires { HasProcess world.old process }
     ensures recovered { HasRecovered process world.old result world.new }
     ensures seated { OnOk result (IsSeated world.new process) }
@@ -89,9 +95,9 @@ fn reported(alloc: Global, world: &mut World, process: usize) -> Result<Reported
     ensures reported { HasReported process world.old result world.new }
     ensures free { KeepsFree process world.old world.new }
 {
-    match whole_report(alloc, world, process) {
-        Ok(ReportEnd::Settled) => copied(alloc, world, process),
-        Ok(ReportEnd::Unsettled(place, word)) => Ok(Reported::Unsettled(place, word)),
+    match whole_show(alloc, world, process) {
+        Ok(ShowEnd::Settled) => copied(alloc, world, process),
+        Ok(ShowEnd::Unsettled(place, word)) => Ok(Reported::Unsettled(place, word)),
         Err(refusal) => Err(CallRefusal::from(refusal)),
     }
 }
@@ -110,7 +116,7 @@ fn settled(alloc: Global, world: &mut World, process: usize) -> Result<Reported,
 }
 
 /// A session acts on a world by whole calls, with no other event between theirs. A process that is in
-/// a call can not be joined.
+/// a call cannot be joined.
 impl Board for World {
     ghost use Rattle.ds_server.specs.WorldBoards.{world_rules};
 
@@ -124,7 +130,7 @@ impl Board for World {
         self.words.layout().processes
     }
 
-    fn join(&mut self, alloc: Global, process: usize) -> Result<Option<Told>, CallRefusal> {
+    fn join(&mut self, alloc: Global, process: usize) -> Result<Option<LastEdit>, CallRefusal> {
         recovered(alloc, self, process)
     }
 
@@ -142,22 +148,26 @@ impl Board for World {
         settled(alloc, self, process)
     }
 
-    fn last(&mut self, alloc: Global, process: usize) -> Result<Option<Told>, CallRefusal> {
+    fn last(&mut self, alloc: Global, process: usize) -> Result<Option<LastEdit>, CallRefusal> {
         recovered(alloc, self, process)
     }
 
     fn leave(&mut self, process: usize) {
+        // The body does not use it: the signature or a clause names it.
         let _process = process;
     }
 }
 
-/// What a session does to its world is a run of `ds_core::take`, whatever its lines are; so what is
-/// proved of runs is true of sessions, one after another on one world, and first of all the headline.
-#[tactic(auto, using(crate::proofs::Runs::outcome_runs, crate::proofs::Runs::outcome_headline))]
+/// What a session does to its world is a run of `ds_core::take`, whatever its lines are: of just the events that its
+/// calls consist of, with the replies that its answers report (`outcome_trace`). So what is proved of runs is true of
+/// sessions, one after another on one world, and first of all the headline.
+#[tactic(auto, using(crate::proofs::Runs::outcome_leads, crate::proofs::Runs::outcome_headline))]
 pub fn sessions_are_runs()
     ensures runs { (most limit : ℕ) (first last : WorldValue) (bytes out : List ℕ) (end : SessionEnd)
-        → Outcome world_rules most limit first bytes out last end → IsRun first last }
-    ensures headline { (most limit : ℕ) (start first last : WorldValue) (bytes out : List ℕ) (end : SessionEnd)
-        → IsNew (world_of start) → IsGood start → IsRun start first → Outcome world_rules most limit first bytes out last end
-        → (run : IsRun start last) × HasHeadline start run.events run.replies last run.run }
+        (h : Outcome world_rules most limit first bytes out last end) → Leads first (outcome_trace most limit first last bytes out end h) last }
+    ensures headline { (most limit : ℕ) (start first last : WorldValue) (before : Trace) (bytes out : List ℕ) (end : SessionEnd)
+        → IsNew (world_of start) → IsGood start → Leads start before first → (h : Outcome world_rules most limit first bytes out last end)
+        → (run : Leads start (both before (outcome_trace most limit first last bytes out end h)) last)
+        × HasHeadline start (both before (outcome_trace most limit first last bytes out end h)).events
+        (both before (outcome_trace most limit first last bytes out end h)).replies last run }
 {}

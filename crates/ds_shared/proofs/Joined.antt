@@ -6,7 +6,12 @@ use Rattle.std.proofs.lemmas.List.{map_push, reverse-append, append-nil, append_
 use Rattle.std.proofs.lemmas.List.Elements.{Contains-push_cases, Contains-append_left, Contains-append_right}
 use Rattle.ds_drives.specs.declared.board.Seated.{Seated}
 use Rattle.ds_drives.specs.declared.board.View.{View}
-use Rattle.ds_drives.specs.Views.{In, lone, sole, united, newcomer, first_now, deeds_at}
+use Rattle.std.specs.Prelude.{Some}
+use Rattle.atomic_table.specs.Table.{Me}
+use Rattle.atomic_table.specs.declared.shared.Seat.{Seat}
+use Rattle.ds_drives.specs.declared.board.HistoryEntry.{HistoryEntry}
+use Rattle.ds_shared.specs.Known.{IsKnown, IsMemory, past_in, seen_by}
+use Rattle.ds_drives.specs.Views.{HasRest, In, lone, sole, united, newcomer, newcomers_from, first_in, first_now, deeds_at, seen_at, whole_view}
 use Rattle.ds_drives.proofs.Dealt.{in_left, in_right, in_append}
 use Rattle.ds_shared.specs.declared.pass.Pass.{Pass}
 use Rattle.ds_shared.specs.Answers.{IsFresh, seated_by}
@@ -65,7 +70,7 @@ one_seated ps qs all x v w e is so_far =
     ap (λ (z : View). z.entries ++ seated_by qs) is ∙ (ap (λ m. (v.entries ++ m.0.entries) ++ seated_by qs) x.known.alone
     ∙ (append_assoc v.entries (sole x.place ∷ []) (seated_by qs) ∙ (ap (λ (es : List Seated). v.entries ++ es) (sym (seated_push ps qs x e)) ∙ so_far)))
 
--- none waits any more: the past, and behind it the processes of all passes
+-- none waits any more: the past, and after it the processes of all passes
 pub all_seated : (qs all : List Pass) (v : View) (past : List Seated) → length qs ≡ 0 → v.past ≡ past → v.entries ++ seated_by qs ≡ seated_by all
     → v.past ++ v.entries ≡ past ++ seated_by all
 all_seated [] all v past none before seats = λ i. before i ++ (sym (append-nil v.entries) ∙ seats) i
@@ -77,11 +82,44 @@ all_seated (q ∷ qs) all v past none before seats = absurd (omega arith)
 pub in_order : (xs ys : List Pass) (x : Pass) (p : ℕ) → ys ≡ xs ++ x ∷ [] → x.process ≡ p → map (λ (q : Pass). q.process) xs ≡ range_with_len 0 p → map (λ (q : Pass). q.process) ys ≡ range_with_len 0 (p + 1)
 in_order xs ys x p is own so_far = ap (map (λ (q : Pass). q.process)) is ∙ (map_push (λ (q : Pass). q.process) xs x ∙ ((λ i. so_far i ++ own i ∷ []) ∙ sym (one_more 0 p p (omega arith))))
 
--- a pass on a newcomer's seat, with number 0, has begun no call
-pub fresh_at : (x : Pass) (p : ℕ) (stopped : Bool) → x.stopped ≡ stopped → x.number ≡ 0 → x.place.me ≡ (lone (newcomer (first_now stopped) p), []) → IsFresh stopped x
-fresh_at x p stopped is number me = record { stopped_is = is; number = number; told = ap (λ m. (deeds_at m).told) me; steps = ap (λ m. (deeds_at m).steps) me }
+-- the seat runs every process, each before its first call, and each has seen this
+abbrev pub HasAll : Bool → ℕ → List HistoryEntry → Seat ℕ View → Type 0
+HasAll stopped processes seen s = s.me ≡ (whole_view stopped (Some seen) processes (past_in s), [])
 
--- with one pass more behind, a list is one longer
+-- the seat runs every process from this one on, so
+abbrev pub HasLeft : Bool → ℕ → List HistoryEntry → List Seated → ℕ → Seat ℕ View → Type 0
+HasLeft stopped processes seen past p s = HasRest (first_now stopped) (Some seen) p processes past s.me.0
+
+-- at first it runs all
+pub all_left : (stopped : Bool) (processes : ℕ) (seen : List HistoryEntry) (s : Seat ℕ View) → HasAll stopped processes seen s → HasLeft stopped processes seen (past_in s) 0 s
+all_left stopped processes seen s is = (processes, (omega arith), ap (λ (m : Me ℕ View). m.0) is)
+
+-- where none is left, it remembers alone
+pub none_to_deal : (stopped : Bool) (processes : ℕ) (seen : List HistoryEntry) (past : List Seated) (s : Seat ℕ View) → s.me.1 ≡ [] → HasLeft stopped processes seen past processes s → IsMemory s
+none_to_deal stopped processes seen past s empty h =
+    let none : h.0 ≡ 0 = (let e = h.1 in omega arith) in
+    let view : s.me.0 ≡ record { entries = []; past = past } = h.2 ∙ ap (λ (n : ℕ). record { entries = newcomers_from (first_now stopped) (Some seen) processes n; past = past }) none in
+    λ i. ((view ∙ ap (λ (v : View). record { entries = []; past = v.past }) (sym view)) i, empty i)
+
+-- a pass on a newcomer's seat, with number 0, has begun no call
+pub fresh_at : (x : Pass) (p : ℕ) (stopped : Bool) (seen : List HistoryEntry) → x.stopped ≡ stopped → x.number ≡ 0 → x.place.me ≡ (lone (newcomer (first_now stopped) (Some seen) p), []) → IsFresh stopped x
+fresh_at x p stopped seen is number me = record { stopped_is = is; number = number; told = ap (λ m. (deeds_at m).told) me; steps = ap (λ m. (deeds_at m).steps) me }
+
+-- and has seen what the newcomer has
+pub sees_so : (s : Seat ℕ View) (p : ℕ) (stopped : Bool) (seen : List HistoryEntry) → s.me ≡ (lone (newcomer (first_now stopped) (Some seen) p), []) → seen_by s ≡ seen
+sees_so s p stopped seen me = ap seen_at me
+
+-- a newcomer's seat is known
+pub known_new : (s : Seat ℕ View) (p : ℕ) (stopped : Bool) (seen : List HistoryEntry) → s.me ≡ (lone (newcomer (first_now stopped) (Some seen) p), []) → IsKnown s p 0 stopped
+known_new s p stopped seen me =
+    let one : sole s ≡ newcomer (first_now stopped) (Some seen) p = ap (λ (m : Me ℕ View). first_in m.0.entries) me in record {
+      alone = me ∙ ap (λ (e : Seated). (lone e, [])) (sym one);
+      process_is = ap (λ (e : Seated). e.process) one;
+      idle = λ off. ap (λ (e : Seated). e.now) one ∙ ap first_now off;
+      looked = ap (λ (e : Seated). e.deeds.seen) one ∙ ap Some (sym (ap seen_at me));
+    }
+
+-- with one pass more after it, a list is one longer
 pub one_longer : (xs ys : List Pass) (x : Pass) → ys ≡ xs ++ x ∷ [] → length ys ≡ length xs + 1
 one_longer xs ys x is = ap length is ∙ length-append xs (x ∷ [])
 
@@ -91,6 +129,6 @@ one_longer xs ys x is = ap length is ∙ length-append xs (x ∷ [])
 pub last_there : (ps qs : List Pass) (x : Pass) → ps ≡ qs ++ x ∷ [] → Contains ps x
 last_there ps qs x e = subst (λ (l : List Pass). Contains l x) (sym e) (Contains-append_right qs (x ∷ []) x (0, omega arith, refl))
 
--- a pass of a list is in it with one more behind
+-- a pass of a list is in it with one more after it
 pub still_there : (ps qs : List Pass) (x p : Pass) → ps ≡ qs ++ x ∷ [] → Contains qs p → Contains ps p
 still_there ps qs x p e there = subst (λ (l : List Pass). Contains l p) (sym e) (Contains-append_left qs (x ∷ []) p there)

@@ -1,6 +1,7 @@
 pub mod Losses
 pub mod Powerless
 pub mod Passing
+pub mod Noting
 pub mod Joined
 pub mod Ordered
 pub mod Texts

@@ -1,4 +1,4 @@
--- A crash takes no edit whose number is spent, and what was told stays true.
+-- A crash takes no edit whose number is spent, and what was answered stays true.
 use Rattle.std.proofs.Common.{ℕ, ◌≡◌, ◌≢◌, ◌+◌, ◌*◌, ◌%◌, ◌==◌, ◌<◌, List, [], ◌∷◌, ◌++◌, refl, ap, sym, ◌∙◌, subst, arith, inl, inr, zero, suc, length, Bool, true, false, cond, Some}
 use Rattle.std.specs.Prelude.{Contains, filter, if◌then◌else◌}
 use Rattle.std.proofs.lemmas.Bool.{eq-eqb}
@@ -22,7 +22,7 @@ use Rattle.ds_state.proofs.Losing.{increasing_cell}
 use Rattle.ds_state.proofs.Spent.{spent_crashed}
 use Rattle.ds_state.specs.declared.recovery.RecoveryEnd.TheVariants.{Last, Nothing}
 use Rattle.ds_drives.specs.declared.board.Told.{Told}
-use Rattle.ds_drives.specs.declared.board.Told.TheVariants.{Edited, Worked, Recovered, Reported}
+use Rattle.ds_drives.specs.declared.board.Told.TheVariants.{Began, Edited, Worked, Recovered, Reported}
 use Rattle.ds_drives.specs.Rule.{IsTold, IsTrueTold, CountsAs}
 
 -- ---- lists
@@ -126,6 +126,7 @@ module _ (old new : PlainWorld) (sound : IsSound old) (rest : (p : ℕ) → p < 
   counts q n false spent out = λ d there own is. out d (fewer d there) own is
 
   pub told_crashed : (q : ℕ) (t : Told) → IsTold old q t → IsTold new q t
+  told_crashed q (Began event reply) h = tt
   told_crashed q (Edited d how) h = record {
     own = h.own;
     spent = spent_crashed old new crash q d.number h.spent;

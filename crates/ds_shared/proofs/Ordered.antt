@@ -8,7 +8,7 @@ last : (a n j : ℕ) → a + n ≡ j → range_with_len a (suc n) ≡ range_with
 last a zero j e = let same : a ≡ j = omega arith in ap (λ k. k ∷ []) same
 last a (suc n) j e = ap (λ l. a ∷ l) (last (a + 1) n j (omega arith))
 
--- the numbers in order, with the next one behind, are one more of them
+-- the numbers in order, with the next one after them, are one more of them
 pub one_more : (a n j : ℕ) → a + n ≡ j → range_with_len a (n + 1) ≡ range_with_len a n ++ j ∷ []
 one_more a n j e = let on : n + 1 ≡ suc n = omega arith in ap (range_with_len a) on ∙ last a n j e
 

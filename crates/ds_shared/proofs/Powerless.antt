@@ -18,26 +18,38 @@ use Rattle.ds_state.specs.World.{PlainWorld, edit_of}
 use Rattle.ds_state.specs.Events.{Evicts}
 use Rattle.ds_state.specs.Crashes.{survivors, CrashesTo}
 use Rattle.ds_state.specs.Sound.{IsSound}
-use Rattle.ds_state.specs.declared.situation.Situation.TheVariants.{Stopped}
+use Rattle.ds_state.specs.declared.situation.Situation.TheVariants.{Idle, Stopped}
 use Rattle.ds_state.proofs.Accesses.{evict_sound}
 use Rattle.ds_state.proofs.Buffers.{buffered}
 use Rattle.ds_state.proofs.CrashSound.{crash_sound}
 use Rattle.ds_state.proofs.Spent.{spent_evicted}
 use Rattle.ds_state.specs.declared.recovery.RecoveryEnd.TheVariants.{Last, Nothing}
 use Rattle.ds_drives.specs.declared.board.Told.{Told}
-use Rattle.ds_drives.specs.declared.board.Told.TheVariants.{Edited, Worked, Recovered, Reported}
+use Rattle.ds_drives.specs.declared.board.Told.TheVariants.{Began, Edited, Worked, Recovered, Reported}
 use Rattle.ds_drives.specs.Table.{two_sided}
-use Rattle.ds_drives.specs.Rule.{Behind, world_on, IsSecond, IsTold, AtRest, Survives}
+use Rattle.std.proofs.Common.{◌++◌}
+use Rattle.std.proofs.lemmas.List.{append_assoc}
+use Rattle.ds_core.specs.declared.event.Event.TheVariants.{Evict, Crash}
+use Rattle.ds_core.specs.declared.reply.Reply.TheVariants as reply
+use Rattle.ds_drives.specs.History.{Happened, Run, Stood}
+use Rattle.std.specs.Prelude.{nat_lt}
+use Rattle.std.proofs.lemmas.Bool.{lt-ltb, le-ltb}
+use Rattle.ds_state.specs.Value.{first_rest}
+use Rattle.ds_state.specs.LayoutsFit.{IsMoving}
+use Rattle.ds_drives.specs.Rule.{Behind, WasTold, all_of, world_on, IsSecond, IsTold, AtRest, Survives}
+use Rattle.ds_drives.proofs.Behinds.{was_further, tidy_on}
+use Rattle.ds_drives.proofs.Histories.{begins_still}
 use Rattle.ds_shared.proofs.Losses.{told_crashed}
 
 told_evicted : (place : Place) (old new : PlainWorld) → IsSound old → Evicts place old new → (q : ℕ) (t : Told) → IsTold old q t → IsTold new q t
+told_evicted place old new sound v q (Began event reply) h = tt
 told_evicted place old new sound v q (Edited d how) h = record { own = h.own; spent = spent_evicted place old new sound v q d.number h.spent; holds = subst (λ l. Rattle.ds_drives.specs.Rule.IsTrueTold l (edit_of d) how) (sym v.counted) h.holds }
 told_evicted place old new sound v q (Worked e end) h = tt
 told_evicted place old new sound v q (Recovered e Nothing) h = tt
 told_evicted place old new sound v q (Recovered e (Last told)) h = record { spent = spent_evicted place old new sound v q told.number h.spent; holds = subst (λ l. Rattle.ds_drives.specs.Rule.CountsAs l q told.number told.counts) (sym v.counted) h.holds }
 told_evicted place old new sound v q (Reported e end) h = tt
 
--- the words after so many of them were evicted, those that are chosen
+-- the words after n of them were evicted, those that are chosen
 abbrev backed : (ℕ → Bool) → List ℕ → ℕ → List ℕ
 backed c ws zero = ws
 backed c ws (suc k) = if c k then set (backed c ws k) (8 * k + 1) (get_or (backed c ws k) (8 * k) 0) else backed c ws k
@@ -77,11 +89,14 @@ module _ (layout : Layout) (c : ℕ → Bool) (ws : List ℕ) (long : length ws 
 
   module _ (b : Behind) (rests : AtRest layout ws b) where
     record Evicted (w : List ℕ) : Type 0 where
+      more : List Happened
       sound : IsSound (world_on layout w b)
+      run : Run b.origin.opened (more ++ b.happened) (world_on layout w b)
+      stood : Stood (more ++ b.happened)
       told : (q : ℕ) (t : Told) → IsTold (world_on layout ws b) q t → IsTold (world_on layout w b) q t
 
     evicted : (k : ℕ) → k ≤ words_of layout → Evicted (backed c ws k)
-    evicted zero few = record { sound = rests.sound; told = λ q t h. h }
+    evicted zero few = record { more = []; sound = rests.sound; run = rests.run; stood = rests.stood; told = λ q t h. h }
     evicted (suc k) few = by (evicted k (omega arith)) (backed_is k (omega arith)) (c k)
       where
         by : Evicted (backed c ws k) → Backed k (backed c ws k) → (t : Bool) → Evicted (if t then set (backed c ws k) (8 * k + 1) (get_or (backed c ws k) (8 * k) 0) else backed c ws k)
@@ -106,6 +121,9 @@ module _ (layout : Layout) (c : ℕ → Bool) (ws : List ℕ) (long : length ws 
               counted = refl;
               open_edits = λ q. refl;
             } in record {
+              more = record { before = world_on layout w b; event = Evict place; reply = reply.Evicted } ∷ r.more;
+              run = (e, r.run);
+              stood = (record { sound = r.sound; tidy = tidy_on layout w b rests.bare }, r.stood);
               sound = (evict_sound place (world_on layout w b) (world_on layout w' b) r.sound (buffered (world_on layout w b) r.sound) e).0;
               told = λ q t h. told_evicted place (world_on layout w b) (world_on layout w' b) r.sound e q t (r.told q t h);
             }
@@ -134,8 +152,24 @@ module _ (layout : Layout) (c : ℕ → Bool) (ws : List ℕ) (long : length ws 
         | inr l ↦ low n l.1 ∙ sym (facts.done n l.1)
       ]
 
+      backs : Evicted mid
+      unfolding mid
+      backs = evicted (words_of layout) (le_refl (words_of layout))
+
+      -- the crash after the evictions
+      lost : List Happened
+      lost = record { before = world_on layout mid b; event = Crash; reply = reply.Crashed } ∷ backs.more
+
       after : Behind
-      after = record { situation = λ p. Stopped; buffer = λ q. []; counted = survivors (memory_at layout (two_sided mid b.buffer)) b.counted; open_edits = b.open_edits }
+      after = record { situation = λ p. if nat_lt p layout.processes then Stopped else Idle first_rest; buffer = λ q. []; counted = survivors (memory_at layout (two_sided mid b.buffer)) b.counted; open_edits = b.open_edits; origin = b.origin; happened = lost ++ b.happened }
+
+      stopped_low : (p : ℕ) → p < layout.processes → after.situation p ≡ Stopped
+      unfolding after
+      stopped_low p low = rw (lt-ltb p layout.processes low) refl
+
+      idle_far : (p : ℕ) → layout.processes ≤ p → after.situation p ≡ Idle first_rest
+      unfolding after
+      idle_far p far = rw (le-ltb p layout.processes far) refl
 
       crash : CrashesTo (world_on layout mid b) (world_on layout ws' after)
       unfolding after
@@ -146,7 +180,7 @@ module _ (layout : Layout) (c : ℕ → Bool) (ws : List ℕ) (long : length ws 
           persisted = side_same layout (λ n. get_or ws' (8 * n + 1) 0) (λ n. get_or mid (8 * n + 1) 0) (both (λ n. get_or ws' (8 * n + 1) 0) persisted (λ n g. beyond ws' (8 * n + 1) (omega arith)));
           buffer = λ q. refl;
         };
-        situation = λ q low. refl;
+        situation = stopped_low;
         counted = refl;
         open_edits = λ q. refl;
       }
@@ -169,13 +203,20 @@ module _ (layout : Layout) (c : ℕ → Bool) (ws : List ℕ) (long : length ws 
           (sym (side_at_place layout (λ k. get_or ws (8 * k + 1) 0) Version tt) ∙ rests.second.persisted) in record {
             cached = side_at_place layout (λ k. get_or ws' (8 * k) 0) Version tt ∙ cached n low ∙ one;
             persisted = side_at_place layout (λ k. get_or ws' (8 * k + 1) 0) Version tt ∙ persisted n low ∙ one;
-            settled = λ q inside moving. moving;
+            settled = λ q inside moving. subst IsMoving (stopped_low q inside) moving;
           }
 
       pub survives : Survives layout ws ws' b
-      unfolding after mid
-      survives = let e = evicted (words_of layout) (le_refl (words_of layout)) in record {
+      unfolding after lost
+      survives = record {
         behind = after;
-        rests = record { sound = crash_sound (world_on layout mid b) (world_on layout ws' after) e.sound crash; second = second; stopped = λ p low. refl; buffer = λ p low. refl };
-        told = λ q t h. told_crashed (world_on layout mid b) (world_on layout ws' after) e.sound rests.stopped crash q t (e.told q t h);
+        rests = record { sound = crash_sound (world_on layout mid b) (world_on layout ws' after) backs.sound crash; second = second; run = (crash, backs.run); bare = record { situations = idle_far; buffers = λ q far. refl; open_edits = rests.bare.open_edits }; stood = (record { sound = backs.sound; tidy = tidy_on layout mid b rests.bare }, backs.stood); from = rests.from; stopped = stopped_low; buffer = λ p low. refl };
+        origin = refl;
+        more = lost;
+        happened = refl;
+        told = λ e h. record {
+          told = λ t here. told_crashed (world_on layout mid b) (world_on layout ws' after) backs.sound rests.stopped crash e.process t (backs.told e.process t (h.told t here));
+          was = subst (λ (z : List Happened). WasTold z e) (sym (append_assoc lost b.happened b.origin.older)) (was_further lost (all_of b) e h.was);
+          saw = λ seen is. begins_still lost (all_of b) (all_of after) seen (append_assoc lost b.happened b.origin.older) (h.saw seen is);
+        };
       }

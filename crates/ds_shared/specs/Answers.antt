@@ -1,28 +1,30 @@
 -- What a call on the shared sheet answers.
-use Rattle.std.specs.Prelude.{ℕ, ◌≡◌, ◌<◌, ◌+◌, Bool, true, false, List, [], ◌∷◌, map, reverse, Option, Some, None, Vec}
+use Rattle.std.specs.Prelude.{ℕ, ◌≡◌, ◌⊎◌, ◌<◌, ◌≤◌, ◌+◌, ◌++◌, Bool, true, false, List, [], ◌∷◌, map, reverse, Option, Some, None, Vec}
 use Rattle.std.specs.Global.{Global}
 use Rattle.ds_eval.specs.declared.value.Value.{Value}
-use Rattle.ds_report.specs.ReportSteps.{answered}
+use Rattle.ds_show.specs.ShowSteps.{answered}
 use Rattle.ds_state.specs.declared.refusal.Refusal.{Refusal}
 use Rattle.ds_state.specs.declared.situation.Situation.{Situation}
 use Rattle.ds_state.specs.declared.situation.Situation.TheVariants.{Idle, Stopped}
-use Rattle.ds_state.specs.Works.{PlainReportCall, PlainWorkCall}
-use Rattle.ds_state.specs.declared.report.ReportEnd.{ReportEnd}
-use Rattle.ds_state.specs.declared.report.ReportEnd.TheVariants.{Settled, Unsettled}
+use Rattle.ds_state.specs.Works.{PlainShowCall, PlainWorkCall}
+use Rattle.ds_state.specs.declared.show.ShowEnd.{ShowEnd}
+use Rattle.ds_state.specs.declared.show.ShowEnd.TheVariants.{Settled, Unsettled}
 use Rattle.ds_state.specs.declared.recovery.RecoveryEnd.{RecoveryEnd}
 use Rattle.ds_state.specs.declared.recovery.RecoveryEnd.TheVariants as recoveries
+use Rattle.ds_drives.specs.declared.board.HistoryEntry.{HistoryEntry}
 use Rattle.ds_drives.specs.declared.board.Told.{Told}
+use Rattle.ds_drives.specs.History.{calls_of}
 use Rattle.ds_drives.specs.Fuses.{Asked}
 use Rattle.ds_drives.specs.declared.board.Seated.{Seated}
 use Rattle.ds_drives.specs.Views.{deeds_at, second_rest, sole}
 use Rattle.ds_drives.specs.Rules.{Rules}
-use Rattle.ds_drives.specs.Rule.{CallHolds}
 use Rattle.ds_drives.specs.Machines.{IsBroken}
 use Rattle.ds_layout.specs.declared.layout.Layout.{Layout}
-use Rattle.ds_shared.specs.Known.{outcomes, steps_of}
+use Rattle.ds_shared.specs.Known.{outcomes, seen_by, steps_of}
 use Rattle.ds_shared.specs.declared.ended.Ended.{Ended}
 use Rattle.ds_shared.specs.declared.ended.Ended.TheVariants as ends
 use Rattle.ds_shared.specs.declared.pass.Pass.{Pass}
+use Rattle.ds_shared.specs.declared.pass.Note.{Note}
 use Rattle.ds_shared.specs.declared.pass.Past.{Past}
 use Rattle.ds_shared.specs.declared.sheet.SharedSheet.{SharedSheet}
 
@@ -31,18 +33,37 @@ pub record IsOf (s : SharedSheet) (p : Pass) : Type 0 where
   pub table : p.place.table_id ≡ s.board.table.shared.table_id
   pub process : p.process < s.board.layout.processes
 
+-- the words with which the sheet was made, or opened again
+abbrev pub opened_with : SharedSheet → List ℕ
+opened_with s = s.board.table.shared.key.words.value.items
+
+-- the note is of the sheet
+abbrev pub IsNoteOf : SharedSheet → Note → Type 0
+IsNoteOf s note = note.place.table_id ≡ s.board.table.shared.table_id
+
+-- the pass has looked at the sheet, and done nothing else: what it has seen since has nothing of its process
+pub record HasLooked (old new : Pass) : Type 0 where
+  pub late : List HistoryEntry
+  pub seen : seen_by new.place ≡ late ++ seen_by old.place
+  pub own : calls_of old.process late ≡ []
+  pub process : new.process ≡ old.process
+  pub number : new.number ≡ old.number
+  pub stopped : new.stopped ≡ old.stopped
+  pub told : outcomes new.place ≡ outcomes old.place
+  pub steps : steps_of new.place ≡ steps_of old.place
+
 -- the past is that of the sheet
 abbrev pub IsPastOf : SharedSheet → Past → Type 0
 IsPastOf s past = past.place.table_id ≡ s.board.table.shared.table_id
 
--- the pass has begun no call: stopped or not, with number 0, told nothing, before its first step
+-- the pass has begun no call: stopped or not, with number 0, answered nothing, before its first step
 pub record IsFresh (stopped : Bool) (p : Pass) : Type 0 where
   pub stopped_is : p.stopped ≡ stopped
   pub number : p.number ≡ 0
   pub told : outcomes p.place ≡ []
   pub steps : steps_of p.place ≡ 0
 
--- the processes of passes, each with what it does and what it was told, the last pass first
+-- the processes of passes, each with what it does and what it was answered, the last pass first
 abbrev pub seated_by : List Pass → List Seated
 seated_by passes = map (λ p. sole p.place) (reverse passes)
 
@@ -64,21 +85,34 @@ IfStopped (ends.Answered end) P = Unit {0}
 IfStopped (ends.Refused r) P = Unit {0}
 IfStopped ends.Stopped P = P
 
--- the number of a process's next edit behind a recovery that ended so
+-- the call has begun or may have: it was not refused, and this is so
+abbrev pub IfBegun : {E : Type 0} → Ended E → Type 0 → Type 0
+IfBegun (ends.Answered end) P = P
+IfBegun (ends.Refused r) P = Unit {0}
+IfBegun ends.Stopped P = P
+
+-- the pass took at most n steps
+abbrev pub HasFewSteps : Pass → Pass → ℕ → Type 0
+HasFewSteps old new most = steps_of new.place ≤ steps_of old.place + most
+
+-- the number of a process's next edit after a recovery that ended so
 abbrev pub number_behind : RecoveryEnd → ℕ
 number_behind recoveries.Nothing = 0
 number_behind (recoveries.Last told) = told.number + 1
 
--- a report that ended so shows these values: those that it loaded where it is settled, and else none
-abbrev pub ShowsValues : PlainReportCall → ReportEnd → Option (Vec Value Global) → Type 0
+-- a show that ended so shows these values: those that it loaded where it is settled, and else none
+abbrev pub ShowsValues : PlainShowCall → ShowEnd → Option (Vec Value Global) → Type 0
 ShowsValues e Settled (Some values) = values.items ≡ answered e
 ShowsValues e Settled None = ⊥
 ShowsValues e (Unsettled place word) values = values ≡ None
 
--- the pass was told this of its call, as the last thing; the call came to its end by its own steps
-pub record Tells (layout : Layout) (old new : Pass) (t : Told) : Type 0 where
-  pub last : outcomes new.place ≡ t ∷ outcomes old.place
-  pub holds : CallHolds layout old.process (outcomes old.place) t
+-- the pass's call began so, and was answered so: both stand in the part of the sheet's history that the pass has seen
+-- since, after all that it had seen before, and nothing else of its process does
+pub record Tells (old new : Pass) (begin answer : Told) : Type 0 where
+  pub late : List HistoryEntry
+  pub seen : seen_by new.place ≡ late ++ seen_by old.place
+  pub own : calls_of old.process late ≡ answer ∷ begin ∷ []
+  pub last : outcomes new.place ≡ answer ∷ begin ∷ outcomes old.place
 
 -- how often the fuse said no: once in a call that it stopped
 abbrev pub noes : {E : Type 0} → Ended E → ℕ
@@ -92,11 +126,15 @@ pub record IsAskedEachStep {F E : Type 0} (said : F → F → ℕ → ℕ → Ty
   pub steps : steps_of after.place ≡ steps_of before.place + taken
   pub asked : Asked said old new taken (noes how)
 
--- the pass's call, which began so, was broken off: the pass is stopped, and was told no more; its process is in this call
--- still, or, before the first step, where it was
+-- the pass's call, which begins so, was broken off: the pass is stopped. Before the first step nothing has happened; else
+-- the begin stands in the part of the history that the pass has seen since, nothing else of its process does, and its
+-- process is in this call still
 pub record BreaksOff {C E : Type 0} (r : Rules C E) (layout : Layout) (first : C) (old new : Pass) : Type 0 where
   pub stopped : new.stopped ≡ true
-  pub told : outcomes new.place ≡ outcomes old.place
+  pub late : List HistoryEntry
+  pub seen : seen_by new.place ≡ late ++ seen_by old.place
+  pub own : (calls_of old.process late ≡ []) ⊎ (calls_of old.process late ≡ r.begins layout first ∷ [])
+  pub told : outcomes new.place ≡ calls_of old.process late ++ outcomes old.place
   pub view : IsBroken r layout first old.place.me (deeds_at new.place.me) new.place.me
 
 -- the work is the pass's, of this cell

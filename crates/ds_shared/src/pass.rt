@@ -2,7 +2,7 @@
 
 ghost use Rattle.std.specs.Prelude.{◌≤◌};
 ghost use Rattle.ds_layout.specs.declared.place.TheConstants.{RECORDS};
-ghost use Rattle.ds_shared.specs.Known.{IsKnown, IsMemory};
+ghost use Rattle.ds_shared.specs.Known.{IsKnown, IsMemory, IsNote};
 ghost use Rattle.ds_eval.specs.Code.{plain_code};
 ghost use Rattle.std.specs.Coded.{codes};
 
@@ -10,11 +10,19 @@ use ds_drives::board::Place;
 use ds_layout::place::Edition;
 use ds_state::situation::Rest;
 
-/// What was told before a sheet was opened. Its owner keeps it for the close.
+/// What was answered before a sheet was opened. Its owner keeps it for the close.
 #[derive(Drop)]
 pub struct Past {
     pub(crate) place: Place,
     pub ghost memory: { IsMemory place } by { Prim.hlevel (codes, plain_code) },
+}
+
+/// What a pass had seen of a sheet's history once. It takes no memory, and can go to another thread, whose pass is
+/// shown it by `SharedSheet::learn`.
+#[derive(Drop)]
+pub struct Note {
+    pub(crate) place: Place,
+    pub ghost known: { IsNote place } by { Prim.hlevel (codes, plain_code) },
 }
 
 /// The right to act for a process of a sheet.

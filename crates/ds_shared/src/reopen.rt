@@ -1,12 +1,14 @@
 //! A closed sheet is opened again.
 
-ghost use Rattle.std.specs.Prelude.{◌≡◌, ◌*◌, ◌<◌, ◌≤◌, [], true, map, IfOk, IfErr, All};
+ghost use Rattle.std.specs.Prelude.{List, ◌≡◌, ◌*◌, ◌<◌, ◌≤◌, [], true, map, IfOk, IfErr, All};
 ghost use Rattle.std.specs.List.{range_with_len};
 ghost use Rattle.std.specs.Mem.Slots.{slots_items, slots_len};
 ghost use Rattle.ds_drives.specs.Rule.{AreTrue, AtRest, Behind};
 ghost use Rattle.ds_drives.specs.Views.{past_of};
-ghost use Rattle.ds_shared.specs.Known.{outcomes, past_in};
-ghost use Rattle.ds_shared.specs.Answers.{IsFresh, IsOf, IsPastOf};
+ghost use Rattle.ds_drives.specs.Looks.{BeginsWithAll};
+ghost use Rattle.ds_drives.specs.declared.board.HistoryEntry.{HistoryEntry};
+ghost use Rattle.ds_shared.specs.Known.{outcomes, past_in, seen_by};
+ghost use Rattle.ds_shared.specs.Answers.{IsFresh, IsOf, IsPastOf, opened_with};
 
 use crate::pass::{Pass, Past};
 use crate::seats::dealt;
@@ -15,7 +17,7 @@ use ds_drives::board::Board;
 use std::alloc::{AllocError, Global};
 
 impl ClosedSheet {
-    // Its words, in memory of their own.
+    // The words of the closed sheet, in memory of their own.
     fn copied(&self, alloc: Global) -> Result<Vec<u64>, AllocError>
         ensures { IfOk result (λ v. v.items ≡ slots_items self.now.table.words) }
     {
@@ -29,8 +31,8 @@ impl ClosedSheet {
 
     /// Opens a sheet with these words, in which every process has stopped, with a pass for each, in
     /// order. It asks for what `close` and `crash_with` leave: a sound world at rest, in the second
-    /// layout, has the words, and what is remembered is true of it. It is the past of the new sheet. Where memory is
-    /// wanting the words are handed back.
+    /// layout, has the words, and what is remembered is true of it. It is the past of the new sheet. Where an
+    /// allocation fails the words are handed back.
     pub fn reopen(
         self,
         alloc: Global,
@@ -40,6 +42,8 @@ impl ClosedSheet {
         ensures order { IfOk result (λ r. map (λ p. p.process) r.2.items ≡ range_with_len 0 self.layout.processes) }
         ensures fit { IfOk result (λ r. All (λ p. IsOf r.0 p × IsFresh true p) r.2.items) }
         ensures past { IfOk result (λ r. IsPastOf r.0 r.1 × (past_in r.1.place ≡ past_of self.before)) }
+        ensures words { IfOk result (λ r. opened_with r.0 ≡ slots_items self.table.words) }
+        ensures seen { IfOk result (λ r. (seen : List HistoryEntry) × BeginsWithAll seen (past_of self.before) × All (λ p. seen_by p.place ≡ seen) r.2.items) }
         ensures back { IfErr result (λ c. c ≡ self) }
     {
         let Ok(words) = self.copied(alloc) else {
@@ -54,7 +58,7 @@ impl ClosedSheet {
             layout,
             before,
         } = self;
-        match Board::remake(alloc, layout, words.as_slice(), before) {
+        match Board::remake(alloc, layout, &words, before) {
             Ok((board, mut before)) => {
                 table.free();
                 let passes = dealt(&board, &mut before, true, passes);

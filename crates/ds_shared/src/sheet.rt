@@ -30,7 +30,7 @@ impl SharedSheet {
     }
 }
 
-/// The words, once no seat is left. It remembers what was told. Call `free` at the end.
+/// The words, once no seat is left. It remembers what was answered. Call `free` at the end.
 pub struct ClosedSheet {
     pub(crate) table: Closed<u8, Global>,
     pub(crate) layout: Layout,
@@ -65,7 +65,7 @@ impl ClosedSheet {
     ghost use Rattle.ds_state.specs.Sound.{IsSound};
     ghost use Rattle.ds_drives.specs.Rule.{Behind, world_on};
 
-    /// The text of a cell: that of the last of its edits that count. An error is a want of memory.
+    /// The text of a cell: that of the last of its linearized edits. An error means that an allocation failed.
     pub fn text_of(&self, alloc: Global, cell: Cell) -> Result<Vec<u8>, AllocError>
         requires { IsInside self.now.layout.shape cell }
         ensures { IfOk result (λ v. (b : Behind) → IsSound (world_on self.now.layout (slots_items self.now.table.words) b)
@@ -144,7 +144,7 @@ impl ClosedSheet {
 
     /// A crash, before which the chosen words were evicted: of each word the cached side is left where
     /// it is chosen, else the persisted side. Whatever sound world at rest has the words before, one has
-    /// those after in which all that was told still is true.
+    /// those after in which all that was answered still is true.
     pub fn crash_with(&mut self, choice: &[bool])
         requires { length choice.now ≡ words_of self.old.layout }
         ensures layout { self.new.layout ≡ self.old.layout }

@@ -25,7 +25,7 @@ use Rattle.ds_state.proofs.Bearing.{Buffered, Mine, MyMarks, bears, all_stand, a
 use Rattle.ds_state.proofs.Frames.{CatchesUp, MovesWord, Goes, nobody, version_word, shown_back, Moves, stays_hold, KeepsApart, KeepsOwing, grows_by, word_bears, moves_sound}
 use Rattle.ds_state.proofs.Sides.{IsBetween, cached_between, between_moves, between_fits}
 
--- the process's turn, but for what its access does: no edit comes to count, and the others do nothing
+-- the process's turn, but for what its access does: no edit is linearized, and the others do nothing
 pub record Turn (p : ℕ) (old new : PlainWorld) : Type 0 where
   pub layout : new.layout ≡ old.layout
   pub counted : new.counted ≡ old.counted

@@ -28,13 +28,13 @@ use Rattle.ds_state.specs.declared.work.WorkStage.TheVariants as works
 use Rattle.ds_state.specs.declared.recovery.RecoverStage.{RecoverStage}
 use Rattle.ds_state.specs.declared.recovery.RecoverStage.TheVariants as recoveries
 use Rattle.ds_state.specs.declared.situation.Situation.{Situation}
-use Rattle.ds_state.specs.declared.situation.Situation.TheVariants.{Idle, Stopped, Editing, Working, Recovering, Reporting, Migrating}
+use Rattle.ds_state.specs.declared.situation.Situation.TheVariants.{Idle, Stopped, Editing, Working, Recovering, Showing, Migrating}
 use Rattle.ds_state.proofs.Heads.{cell_of-middle}
 use Rattle.ds_state.proofs.Noted.{of_sheet_middle}
 use Rattle.ds_state.proofs.Found.{refs_indexed}
 use Rattle.ds_state.proofs.Frames.{CatchesUp, Moves, each_moved, owned_catches, clean_free}
 
--- the contents of heads, where the same edits count
+-- the contents of heads, where the same edits are linearized
 pub text_same : (old new : PlainWorld) → new.layout ≡ old.layout → new.counted ≡ old.counted → (c head : ℕ) (content : PlainContent) → HasContent old c head content → HasContent new c head content
 text_same old new layout counted c head content (inl none) = inl none
 text_same old new layout counted c head content (inr h) = inr (record {
@@ -75,7 +75,7 @@ parts_owe m p Stopped r c x h = tt
 parts_owe m p (Editing e) r c x h = absurd h
 parts_owe m p (Working e) r c x h = (h.0, work_parts m p e.row e.stage c x h.1)
 parts_owe m p (Recovering e) r c x h = recovery_parts m p e.row e.stage r c x h
-parts_owe m p (Reporting e) r c x h = absurd h
+parts_owe m p (Showing e) r c x h = absurd h
 parts_owe m p (Migrating e) r c x h = tt
 
 pub apart_owes : (w : PlainWorld) (r c x : ℕ) → IsApart w r → CellOwes w r c x
@@ -104,7 +104,7 @@ splits_excuse w p Stopped c head x h = h
 splits_excuse w p (Editing e) c head x h = (h.0, splits_at w.memory p c e.stage head x h.1)
 splits_excuse w p (Working e) c head x h = absurd h
 splits_excuse w p (Recovering e) c head x h = (h.0, recovery_splits w.memory p c e.stage x h.1)
-splits_excuse w p (Reporting e) c head x h = absurd h
+splits_excuse w p (Showing e) c head x h = absurd h
 splits_excuse w p (Migrating e) c head x h = h
 
 -- a cell whose head is on its way is excused: the edit that swung it still owes the cell its mark
@@ -158,7 +158,7 @@ module _ (old new : PlainWorld) (h : ℕ) (marks : (c : ℕ) → old.memory.cach
   owes_lasts (Editing e) r c x k = absurd k
   owes_lasts (Working e) r c x k = (k.0, work_lasts e.row e.stage c x k.1)
   owes_lasts (Recovering e) r c x k = recovery_lasts e.row e.stage r c x k
-  owes_lasts (Reporting e) r c x k = absurd k
+  owes_lasts (Showing e) r c x k = absurd k
   owes_lasts (Migrating e) r c x k = tt
 
   edit_lasts : (s : Stage) (c x : ℕ) → EditOwes old.memory h c s x → EditOwes new.memory h c s x
@@ -184,7 +184,7 @@ module _ (old new : PlainWorld) (h : ℕ) (marks : (c : ℕ) → old.memory.cach
   excuses_lasts pends (Editing e) c x k = (k.0, edit_lasts e.stage c x k.1)
   excuses_lasts pends (Working e) c x k = absurd k
   excuses_lasts pends (Recovering e) c x k = (pends c k.0, excuse_lasts e.stage c x k.1)
-  excuses_lasts pends (Reporting e) c x k = absurd k
+  excuses_lasts pends (Showing e) c x k = absurd k
   excuses_lasts pends (Migrating e) c x k = pends c k
 
   pub splits_last : ((c : ℕ) → IsPending old h c → IsPending new h c) → (s : Situation) (c head : ℕ) → Splits old h s c head → Splits new h s c head
@@ -193,7 +193,7 @@ module _ (old new : PlainWorld) (h : ℕ) (marks : (c : ℕ) → old.memory.cach
   splits_last pends (Editing e) c head k = k
   splits_last pends (Working e) c head k = absurd k
   splits_last pends (Recovering e) c head k = (pends c k.0, k.1)
-  splits_last pends (Reporting e) c head k = absurd k
+  splits_last pends (Showing e) c head k = absurd k
   splits_last pends (Migrating e) c head k = pends c k
 
 -- what others owe, while p steps
@@ -472,7 +472,7 @@ module _ (p : ℕ) (place : Place) (old new : PlainWorld) (m : Moves p place old
     on_persisted = λ c x clean now. elim (marks.durable c x clean now) [ inl was ↦ same_durable c x clean now was | inr fresh ↦ fresh ];
   }
 
--- an entry of a buffer with one more behind is one of the buffer's, or that one
+-- an entry of a buffer with one more after it is one of the buffer's, or that one
 pub in_push : (xs : List (BufferEntry Place)) (y e : BufferEntry Place) → Contains (xs ++ y ∷ []) e → Contains xs e ⊎ (y ≡ e)
 in_push xs y e h = elim (Contains-append_cases xs (y ∷ []) e h) [
   | inl k ↦ inl k

@@ -21,7 +21,7 @@ use Rattle.ds_state.specs.declared.migration.MigrateStage.{MigrateStage}
 use Rattle.ds_state.specs.declared.migration.MigrateStage.TheVariants.{LoadVersion, LoadOld, StoreNew, FlushNew, BackNew, Swap, FlushVersion, BackVersion, Answer}
 use Rattle.ds_state.specs.Sound.{IsSound}
 use Rattle.ds_state.specs.declared.situation.Situation.{Situation}
-use Rattle.ds_state.specs.declared.situation.Situation.TheVariants.{Idle, Stopped, Editing, Working, Recovering, Reporting, Migrating}
+use Rattle.ds_state.specs.declared.situation.Situation.TheVariants.{Idle, Stopped, Editing, Working, Recovering, Showing, Migrating}
 use Rattle.ds_state.proofs.Bearing.{Buffered}
 use Rattle.ds_layout.specs.declared.place.Edition.{Edition}
 
@@ -113,7 +113,7 @@ call_had w p Stopped c x h k = absurd (none (entry (Mark c) x) h.buffer k)
 call_had w p (Editing e) c x h k = holds_had w e.edition (edit_of e) (held_at (text_parts e.text) e.refs e.stage) c x h.buffer (subst (λ (q : ℕ). Contains (w.memory.buffer q) (entry (Mark c) x)) (sym h.mine) k)
 call_had w p (Working e) c x h k = work_had w e (work_held e e.stage) c x h.buffer (subst (λ (q : ℕ). Contains (w.memory.buffer q) (entry (Mark c) x)) (sym h.mine) k)
 call_had w p (Recovering e) c x h k = recovery_had w e.process e.announcement e.cell (recovery_held e.cell e.stage) c x h.buffer (subst (λ (q : ℕ). Contains (w.memory.buffer q) (entry (Mark c) x)) (sym h.mine) k)
-call_had w p (Reporting e) c x h k = absurd (none (entry (Mark c) x) h.1.buffer (subst (λ (q : ℕ). Contains (w.memory.buffer q) (entry (Mark c) x)) (sym h.1.mine) k))
+call_had w p (Showing e) c x h k = absurd (none (entry (Mark c) x) h.1.buffer (subst (λ (q : ℕ). Contains (w.memory.buffer q) (entry (Mark c) x)) (sym h.1.mine) k))
 call_had w p (Migrating e) c x h k = migration_had w p e e.stage c x h.buffer k
 
 -- in a sound world each mark in a buffer is one that its cell has had

@@ -5,7 +5,7 @@ use Rattle.std.proofs.lemmas.Bool.{eqb-false, false≢true, ne_eqb, lt-ltb}
 use Rattle.ds_layout.specs.Mark.{state_by, holder_of, present, IsClean}
 use Rattle.ds_state.specs.World.{PlainWorld}
 use Rattle.ds_state.specs.Owing.{IsMark}
-use Rattle.ds_state.specs.KnownReport.{is_clean, reads_clean}
+use Rattle.ds_state.specs.KnownShow.{is_clean, reads_clean}
 
 none_clean : (dirty : Bool) → is_clean (state_by None dirty) ≡ true → dirty ≡ false
 none_clean false is = refl

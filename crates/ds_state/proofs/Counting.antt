@@ -1,4 +1,4 @@
--- A step by which an edit comes to count.
+-- A step by which an edit is linearized.
 use Rattle.std.proofs.Common.{ℕ, ◌≡◌, ◌≢◌, ◌<◌, ◌≤◌, ◌/◌, ◌⊎◌, List, [], ◌∷◌, ◌++◌, ap, sym, ◌∙◌, subst, arith, append_assoc, inl, inr, Some, zero, suc, get_or}
 use Rattle.std.specs.Prelude.{All, Contains}
 use Rattle.std.proofs.lemmas.Bool.{cases_eq}
@@ -29,7 +29,7 @@ use Rattle.ds_state.proofs.Stable.{call_stable}
 use Rattle.ds_layout.specs.declared.place.Edition.{Edition}
 use Rattle.ds_state.specs.Editions.{Shows, Agrees}
 
--- the edit's head takes its cell's place, and the edit counts
+-- the edit's head takes its cell's place, and the edit is linearized
 pub record Counts (e : PlainEdit) (issue : PlainIssue) (old new : PlainWorld) : Type 0 where
   pub layout : new.layout ≡ old.layout
   pub counted : new.counted ≡ old.counted ++ e ∷ []

@@ -26,7 +26,7 @@ use Rattle.ds_state.specs.declared.stage.Outcome.TheVariants as outcome
 use Rattle.ds_state.specs.declared.stage.Stage.{Stage}
 use Rattle.ds_state.specs.declared.stage.Stage.TheVariants as edits
 use Rattle.ds_state.specs.declared.situation.Situation.{Situation}
-use Rattle.ds_state.specs.declared.situation.Situation.TheVariants.{Idle, Stopped, Editing, Working, Recovering, Reporting, Migrating}
+use Rattle.ds_state.specs.declared.situation.Situation.TheVariants.{Idle, Stopped, Editing, Working, Recovering, Showing, Migrating}
 use Rattle.ds_state.proofs.Outcomes.{among}
 use Rattle.std.proofs.lemmas.Bool.{cases_eq}
 use Rattle.ds_state.specs.World.{IsHeadBy, head_after_all}
@@ -39,7 +39,7 @@ use Rattle.ds_layout.specs.declared.place.Edition.{Edition}
 use Rattle.ds_layout.specs.declared.place.Edition.TheVariants.{First}
 use Rattle.ds_state.specs.LayoutsFit.{LayoutFits}
 
--- fewer edits tell no more
+-- fewer edits say no more
 filter_not : (keep : PlainEdit → Bool) (es : List PlainEdit) (p n : ℕ) → phase_among es p n ≡ phase.NotDone → phase_among (filter keep es) p n ≡ phase.NotDone
 filter_not keep [] p n h = refl
 filter_not keep (x ∷ es) p n h = by (is_edit_of p n x) (keep x) refl refl (filter_not keep es p n)
@@ -108,7 +108,7 @@ written_all w edition e last h = tt
 written_all w edition e pending h = header_of_record w edition e (record_size e) (omega arith) h
 written_all w edition e (ended how) h = header_of_record w edition e (record_size e) (omega arith) h
 
--- the side that is behind says no more
+-- the side with the lower rank says no more
 pub written_before : (w : PlainWorld) (e : PlainEdit) (b a : Announced) → rank b ≤ rank a → IsWritten w e a → IsWritten w e b
 written_before w e last a le h = tt
 written_before w e pending last le h = absurd (omega arith)
@@ -309,7 +309,7 @@ module _ (old new : PlainWorld) (sound : IsSound old) (crash : CrashesTo old new
   stopped_left p (Editing e) h = editing_left p e h
   stopped_left p (Working e) h = through p e.next (ap old.open_edits (sym h.mine) ∙ h.rest.open_edits) (subst (λ (q : ℕ). IsAtRest old q e.next) h.mine h.rest)
   stopped_left p (Recovering e) h = doubt_left p (old.open_edits p) refl h.doubt
-  stopped_left p (Reporting e) h = through p e.next (ap old.open_edits (sym h.1.mine) ∙ h.1.rest.open_edits) (subst (λ (q : ℕ). IsAtRest old q e.next) h.1.mine h.1.rest)
+  stopped_left p (Showing e) h = through p e.next (ap old.open_edits (sym h.1.mine) ∙ h.1.rest.open_edits) (subst (λ (q : ℕ). IsAtRest old q e.next) h.1.mine h.1.rest)
   stopped_left p (Migrating e) h = doubt_left p (old.open_edits p) refl h.doubt
 
   -- both sides of a header are the persisted one, which said that cell

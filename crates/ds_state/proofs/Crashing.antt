@@ -16,7 +16,7 @@ use Rattle.ds_state.specs.Crashes.{CrashesTo}
 use Rattle.ds_state.specs.declared.stage.Stage.{Stage}
 use Rattle.ds_state.specs.declared.stage.Stage.TheVariants as edits
 use Rattle.ds_state.specs.declared.situation.Situation.{Situation}
-use Rattle.ds_state.specs.declared.situation.Situation.TheVariants.{Idle, Stopped, Editing, Working, Recovering, Reporting, Migrating}
+use Rattle.ds_state.specs.declared.situation.Situation.TheVariants.{Idle, Stopped, Editing, Working, Recovering, Showing, Migrating}
 use Rattle.ds_state.proofs.Heads.{Small, small_counted, small_of_cell, head_grows, by_cases}
 use Rattle.ds_state.proofs.Bearing.{stands_lasts}
 
@@ -54,7 +54,7 @@ pends_while w p (Editing e) c x fits o = both (announced e.stage o.1 fits.knows.
         }
 pends_while w p (Working e) c x fits o = absurd o
 pends_while w p (Recovering e) c x fits o = o.0
-pends_while w p (Reporting e) c x fits o = absurd o
+pends_while w p (Showing e) c x fits o = absurd o
 pends_while w p (Migrating e) c x fits o = o
 
 module _ (old new : PlainWorld) (sound : IsSound old) (crash : CrashesTo old new) (leaves : Leaves old new) where

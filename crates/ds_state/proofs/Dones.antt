@@ -1,4 +1,4 @@
--- No more edits are answered Done than count.
+-- No more edits are answered Done than are linearized.
 use Rattle.std.proofs.Common.{ℕ, zero, suc, ◌≡◌, ◌≤◌, ◌+◌, List, [], ◌∷◌, ◌++◌, length, length-append, refl, ap, sym, ◌∙◌, subst, arith, inl, inr, Some, None}
 use Rattle.std.specs.Prelude.{Option, Contains}
 use Rattle.std.proofs.lemmas.List.Elements.{Contains-append_cases, Contains-append_left, Contains-append_right}
@@ -46,7 +46,7 @@ distinct_few (e ∷ es) cs d h =
 pub dones_few : (counted : List PlainEdit) (pending : ℕ → Option PlainIssue) (done : ℕ) → HasAnswered counted pending done → done ≤ length counted
 dones_few counted pending done h = subst (λ (n : ℕ). n ≤ length counted) h.as_many (distinct_few h.closed counted h.once h.count)
 
--- no more edits were answered Done than count
+-- no more edits were answered Done than are linearized
 pub few_dones : (v : WorldValue) → IsGood v → v.done ≤ length v.counted
 few_dones v g = dones_few (world_of v).counted (world_of v).open_edits v.done g.answered
 
@@ -58,7 +58,7 @@ few_done v g =
     let l = v.sheet.layout.limited in
     omega (arith, a, b, l)
 
--- edits come to count; an edit that counted and is open now was open
+-- edits are linearized; an edit that was linearized and is open now was open
 pub still_answered : (cs ds : List PlainEdit) (p q : ℕ → Option PlainIssue) (done : ℕ) → ((e : PlainEdit) → Contains cs e → Contains ds e)
     → ((e : PlainEdit) (issue : PlainIssue) → Contains cs e → q e.process ≡ Some issue → issue.edit ≡ e → p e.process ≡ Some issue)
     → HasAnswered cs p done → HasAnswered ds q done
@@ -70,7 +70,7 @@ still_answered cs ds p q done more was h = record {
   answered = λ e issue inside at is. h.answered e issue inside (was e issue (h.count e inside) at is) is;
 }
 
--- also an edit that was open, and counts, is answered
+-- also an edit that was open, and linearized, is answered
 pub one_answered : (cs ds : List PlainEdit) (p q : ℕ → Option PlainIssue) (done : ℕ) (last : PlainEdit) (since : ℕ) → ((e : PlainEdit) → Contains cs e → Contains ds e)
     → ((e : PlainEdit) (issue : PlainIssue) → Contains cs e → q e.process ≡ Some issue → issue.edit ≡ e → p e.process ≡ Some issue)
     → p last.process ≡ Some (record { edit = last; since = since }) → q last.process ≡ None → Contains cs last

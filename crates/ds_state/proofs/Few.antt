@@ -1,4 +1,4 @@
--- How many edits can count: as many as there are records.
+-- How many edits can be linearized: as many as there are records.
 use Rattle.std.proofs.Common.{ℕ, ◌≡◌, ◌<◌, ◌≤◌, ◌+◌, ◌*◌, List, [], ◌∷◌, sym, ◌∙◌, arith, inl, inr, zero, suc, length}
 use Rattle.std.specs.Prelude.{All, ◌==◌, if◌then◌else◌, filter}
 use Rattle.std.proofs.lemmas.Bool.Decides.{eqb_tells}
@@ -7,7 +7,7 @@ use Rattle.ds_state.specs.World.{PlainEdit, PlainWorld, of_cell}
 use Rattle.ds_state.specs.Sound.{IsSound, Increasing}
 use Rattle.ds_state.proofs.Heads.{IsSmall, Small, small_counted}
 
--- the edits of one process, and of the first so many
+-- the edits of one process, and of the first n
 abbrev own : ℕ → List PlainEdit → ℕ
 own p [] = 0
 own p (e ∷ es) = (if e.process == p then 1 else 0) + own p es
@@ -56,7 +56,7 @@ length_total k (e ∷ es) h =
     let b = total_more k e es (All-head (λ (f : PlainEdit). f.process < k) e es h) in
     omega arith
 
--- in a sound world no more edits count than 256 for each process
+-- in a sound world no more edits are linearized than 256 for each process
 pub counted_few : (w : PlainWorld) → IsSound w → length w.counted ≤ 256 * w.layout.processes
 counted_few w s =
     let a = length_total w.layout.processes w.counted (λ k d l. (s.of_sheet k d l).process) in

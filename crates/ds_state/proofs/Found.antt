@@ -1,4 +1,4 @@
--- An edit that gave a head counts, and its references have its cell in their rows.
+-- An edit that gave a head is linearized, and its references have its cell in their rows.
 use Rattle.std.proofs.Common.{ℕ, ◌≡◌, ◌/◌, List, [], ◌∷◌, ◌++◌, refl, sym, subst, arith, inl, inr, zero, suc}
 use Rattle.std.specs.Prelude.{Contains}
 use Rattle.std.proofs.lemmas.Bool.Decides.{eqb_tells}
@@ -38,7 +38,7 @@ from_cell cell (x ∷ es) e h = elim (eqb_tells x.cell cell) [
   | inr other ↦ contains_more x e es (from_cell cell es e (subst (λ (xs : List PlainEdit). Contains xs e) (dropped cell x es other.0) h))
 ]
 
--- an edit that gave a cell a head counts
+-- an edit that gave a cell a head is linearized
 pub gave_counts : (w : PlainWorld) (cell head : ℕ) (by : PlainEdit) → IsHeadBy (of_cell cell w.counted) head by → Contains w.counted by
 gave_counts w cell head by h = from_cell cell w.counted by (subst (λ (es : List PlainEdit). Contains es by) (sym h.parts) (contains_at h.before by h.after))
 

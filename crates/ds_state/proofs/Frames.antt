@@ -34,7 +34,7 @@ use Rattle.ds_state.specs.declared.recovery.RecoverStage.TheVariants.{LoadVersio
 use Rattle.ds_state.specs.declared.migration.MigrateStage.{MigrateStage}
 use Rattle.ds_state.specs.declared.migration.MigrateStage.TheVariants as stages
 use Rattle.ds_state.specs.declared.situation.Situation.{Situation}
-use Rattle.ds_state.specs.declared.situation.Situation.TheVariants.{Idle, Stopped, Editing, Working, Recovering, Reporting, Migrating}
+use Rattle.ds_state.specs.declared.situation.Situation.TheVariants.{Idle, Stopped, Editing, Working, Recovering, Showing, Migrating}
 
 -- the cached side stays, and the persisted side stays or becomes the cached one
 abbrev pub CatchesUp : ℕ → ℕ → ℕ → ℕ → Type 0
@@ -86,14 +86,14 @@ noted_stage edition FlushVersion = None
 noted_stage edition BackVersion = None
 noted_stage edition _ = Some edition
 
--- the layout that a process in this situation counts on, where it counts on one
+-- the layout that a process in this situation relies on, where it relies on one
 abbrev pub noted_in : Situation → Option Edition
 noted_in (Idle next) = Some next.edition
 noted_in Stopped = None
 noted_in (Editing e) = Some e.edition
 noted_in (Working e) = Some e.edition
 noted_in (Recovering e) = noted_stage e.edition e.stage
-noted_in (Reporting e) = Some e.edition
+noted_in (Showing e) = Some e.edition
 noted_in (Migrating e) = None
 
 -- how the process's part in layouts goes on: it has noted this layout, before and after; it stops; it makes a step of
@@ -104,7 +104,7 @@ pub data Goes (p : ℕ) (old new : PlainWorld) : Type 0 where
   turns : NoneMoves old p → (p < old.layout.processes → LayoutFits new p (new.situation p)) → Goes p old new
   nobody : old.layout.processes ≤ p → ((r : Place) → CatchesUp (old.memory.cached r) (old.memory.persisted r) (new.memory.cached r) (new.memory.persisted r)) → Goes p old new
 
--- the texts of the second layout hold the records of all counted edits
+-- the texts of the second layout hold the records of all linearized edits
 abbrev pub NewTexts : PlainWorld → Type 0
 NewTexts w = (q n part : ℕ) → RecordFits w q n (suc part) (w.memory.cached (Text Second q n part)) (w.memory.persisted (Text Second q n part))
 
@@ -237,7 +237,7 @@ noted_agrees w p (Recovering e) edition is h = by e.stage is h
     by FlushVersion i k = absurd (cc)
     by BackVersion i k = absurd (cc)
     by _ i k = let same : e.edition ≡ edition = cc in subst (λ (d : Edition). Agrees w.memory d) same k
-noted_agrees w p (Reporting e) edition is h = let same : e.edition ≡ edition = cc in subst (λ (d : Edition). Agrees w.memory d) same h
+noted_agrees w p (Showing e) edition is h = let same : e.edition ≡ edition = cc in subst (λ (d : Edition). Agrees w.memory d) same h
 noted_agrees w p (Migrating e) edition is h = absurd (cc)
 
 agrees_noted : (w : PlainWorld) (p : ℕ) (s : Situation) (edition : Edition) → noted_in s ≡ Some edition → Agrees w.memory edition → LayoutFits w p s
@@ -252,7 +252,7 @@ agrees_noted w p (Recovering e) edition is h = by e.stage is
     by FlushVersion i = absurd (cc)
     by BackVersion i = absurd (cc)
     by _ i = let same : edition ≡ e.edition = cc in subst (λ (d : Edition). Agrees w.memory d) same h
-agrees_noted w p (Reporting e) edition is h = let same : edition ≡ e.edition = cc in subst (λ (d : Edition). Agrees w.memory d) same h
+agrees_noted w p (Showing e) edition is h = let same : edition ≡ e.edition = cc in subst (λ (d : Edition). Agrees w.memory d) same h
 agrees_noted w p (Migrating e) edition is h = absurd (cc)
 
 -- where words at most catch up, a migration has come as far as before
@@ -297,7 +297,7 @@ module _ (p : ℕ) (place : Place) (old new : PlainWorld) (m : Moves p place old
       by FlushVersion k = ap edition_of up.0 ∙ k
       by BackVersion k = (ap edition_of up.0 ∙ k.0, m.buffers q ne ∙ k.1 ∙ ap (λ (v : ℕ). entry Version v ∷ []) (sym up.0))
       by _ k = agrees_on old new up e.edition k
-  others_layout (Reporting e) q l ne at up sound h = agrees_on old new up e.edition h
+  others_layout (Showing e) q l ne at up sound h = agrees_on old new up e.edition h
   others_layout (Migrating e) q l ne at up sound h = elim (cases_lt p old.layout.processes) [
     | inl real ↦ absurd (no_turn real (h.alone p real (λ same. ne (sym same))) m.goes)
     | inr past ↦ by_nobody past m.goes
@@ -448,7 +448,7 @@ module _ (p : ℕ) (place : Place) (old new : PlainWorld) (m : Moves p place old
     told = λ n small its has. kept_stable q n (h.told n small its has);
   }
 
-  -- a step that counts nothing
+  -- a step that linearizes nothing
   pub moves_sound : IsSound old → Bears old new → AllStand new → KeepsApart old new → ((cell : ℕ) → Head cell ≢ place → KeepsOwing old new cell)
       → WordFits new place (new.memory.cached place) (new.memory.persisted place)
       → (p < new.layout.processes → CallFits new p (new.situation p))

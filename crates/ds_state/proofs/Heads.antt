@@ -25,7 +25,7 @@ IsSmall-of_sheet w e h = let p = h.process in let n = h.number in let l = w.layo
 pub small_counted : (w : PlainWorld) → All (λ e. IsOfSheet w e) w.counted → Small w.counted
 small_counted w h = λ k d lt. IsSmall-of_sheet w (get_or w.counted k d) (h k d lt)
 
--- the edits of a cell in two lists, one behind the other, are those in the first and then those in the second
+-- the edits of a cell in two lists, one after the other, are those in the first and then those in the second
 pub of_cell-append : (cell : ℕ) (xs ys : List PlainEdit) → of_cell cell (xs ++ ys) ≡ of_cell cell xs ++ of_cell cell ys
 unfolding of_cell
 of_cell-append cell xs ys = filter-append (λ e. e.cell == cell) xs ys
@@ -79,12 +79,12 @@ bounds (e ∷ es) stamp head s low high =
     let h = bounds es (stamp + 1) (head_by (stamp + 1) e) (small_tail e es s) (omega arith) (omega arith) in
     (omega arith, omega arith)
 
--- the head after so many edits has no stamp below their number
+-- the head after n edits has no stamp below their number
 pub head_low : (es : List PlainEdit) → Small es → length es * 65536 ≤ head_after_all es
 unfolding head_after_all
 head_low es s = let h = bounds es 0 0 s (omega arith) (omega arith) in omega (arith, h.0)
 
--- the head after so many edits has no stamp above their number
+-- the head after n edits has no stamp above their number
 pub head_high : (es : List PlainEdit) → Small es → head_after_all es < (length es + 1) * 65536
 unfolding head_after_all
 head_high es s = let h = bounds es 0 0 s (omega arith) (omega arith) in omega (arith, h.1)
@@ -98,7 +98,7 @@ pub head_push : (es : List PlainEdit) (e : PlainEdit) → head_after_all (es ++ 
 unfolding head_after_all
 head_push es e = from-push es 0 0 e ∙ ap (λ n. head_by n e) (omega arith)
 
--- the head after some edits is less than that after one more, and whatever comes behind
+-- the head after some edits is less than that after one more, and whatever comes after it
 pub head_grows : (before : List PlainEdit) (e : PlainEdit) (after : List PlainEdit) → Small (before ++ e ∷ after) → head_after_all before < head_after_all (before ++ e ∷ after)
 head_grows before e after s =
     let low = head_low (before ++ e ∷ after) s in
@@ -123,7 +123,7 @@ by_most es word e s h =
     let w = h.is in
     omega arith
 
--- a head that an edit gave is still that edit's where others come behind
+-- a head that an edit gave is still that edit's where others come after it
 pub by_append : (es more : List PlainEdit) (word : ℕ) (e : PlainEdit) → IsHeadBy es word e → IsHeadBy (es ++ more) word e
 by_append es more word e h = record {
   before = h.before;

@@ -31,7 +31,7 @@ last_cases (x ∷ es) = elim (last_cases es) [
   | inr b ↦ inr (x ∷ b.0, b.1, ap (λ xs. x ∷ xs) b.2)
 ]
 
--- what is known of each edit that counts
+-- what is known of each linearized edit
 record Stands (w : PlainWorld) (e : PlainEdit) : Type 0 where
   of_sheet : IsOfSheet w e
   fits : length e.text ≤ most_in (seen_edition w.memory)
@@ -121,6 +121,6 @@ by_head : (w : PlainWorld) (cell : ℕ) → IsSound w → (found : Option declar
 by_head w cell s None is = sym (text_without_head w cell s is)
 by_head w cell s (Some head) is = let h = text_at_head w cell head s is in record_read w.layout w.memory (seen_edition w.memory) head.process head.number h.cell (last_text (of_cell cell w.counted)) h.within h.stands
 
--- in a sound world a cell has the text of its last edit that counts
+-- in a sound world a cell has the text of its last linearized edit
 pub text_right : (w : PlainWorld) (cell : ℕ) → IsSound w → text_at w.layout w.memory cell ≡ last_text (of_cell cell w.counted)
 text_right w cell s = by_head w cell s (head_of w.layout.processes (w.memory.cached (place.Head cell))) refl

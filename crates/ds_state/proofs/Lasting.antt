@@ -1,4 +1,4 @@
--- What stays of the edits that count, while words only grow.
+-- What stays of the linearized edits, while words only grow.
 use Rattle.std.proofs.Common.{ℕ, ◌≡◌, ◌≢◌, ◌<◌, ◌≤◌, List, [], ◌∷◌, ◌++◌, refl, ap, ◌∙◌, arith, length, length-append, inl, inr, zero, suc, take}
 use Rattle.std.specs.Prelude.{All, if◌then◌else◌}
 use Rattle.std.proofs.lemmas.List.{take-append-le}
@@ -19,7 +19,7 @@ use Rattle.ds_state.specs.Editions.{seen_edition}
 pub at_most : {a b c : ℕ} → a ≤ b → b ≤ c → a ≤ c
 at_most h k = omega arith
 
--- edits of others tell nothing of a process's own
+-- edits of others say nothing of a process's own
 phase_append : (xs ys : List PlainEdit) (p n : ℕ) → All (λ e. e.process ≢ p) ys → phase_among (xs ++ ys) p n ≡ phase_among xs p n
 phase_append [] [] p n h = refl
 phase_append [] (y ∷ ys) p n h =

@@ -2,7 +2,7 @@
 use Rattle.std.proofs.Common.{ℕ, ◌≡◌, ◌<◌, ◌⊎◌, List, ◌∙◌, subst, arith, suc, inl, inr}
 use Rattle.std.specs.Prelude.{Contains}
 use Rattle.ds_layout.specs.declared.place.Place.TheVariants.{Version}
-use Rattle.ds_state.specs.Works.{PlainReportCall}
+use Rattle.ds_state.specs.Works.{PlainShowCall}
 use Rattle.ds_state.specs.World.{PlainEdit, PlainWorld}
 use Rattle.ds_state.specs.Spent.{IsSpent}
 use Rattle.ds_state.specs.Rely.{Keeps}
@@ -10,14 +10,14 @@ use Rattle.ds_state.specs.Crashes.{StopsIn}
 use Rattle.ds_state.specs.Sound.{IsSound}
 use Rattle.ds_state.specs.Middles.{HaveMiddles}
 use Rattle.ds_state.specs.Leaves.{Leaves}
-use Rattle.ds_state.specs.declared.situation.Situation.TheVariants.{Reporting}
+use Rattle.ds_state.specs.declared.situation.Situation.TheVariants.{Showing}
 use Rattle.ds_state.proofs.Middles.{lasts_kept, lasts_on, middles_kept, middles_stopped}
 use Rattle.ds_state.proofs.Lasting.{at_most}
 use Rattle.ds_state.proofs.Spent.{spent_grown}
 use Rattle.ds_state.proofs.Stopping.{stop_keeps}
 
 module _ (p : ℕ) (old new : PlainWorld) where
-  -- it keeps the world, and something is known of the edits that came to count
+  -- it keeps the world, and something is known of the edits that were linearized
   pub leaves_of : Keeps p old new → ((d : PlainEdit) → Contains new.counted d → Contains old.counted d ⊎ ((d.process ≡ p) × ((n : ℕ) → IsSpent old p n → n < d.number)))
       → (HaveMiddles old → HaveMiddles new) → Leaves p old new
   leaves_of k came middles = record {
@@ -30,12 +30,12 @@ module _ (p : ℕ) (old new : PlainWorld) where
     middles = middles;
   }
 
-  -- none came to count
+  -- none was linearized
   pub leaves_same : Keeps p old new → new.counted ≡ old.counted → (HaveMiddles old → HaveMiddles new) → Leaves p old new
   leaves_same k same middles = leaves_of k (λ d here. inl (subst (λ (es : List PlainEdit). Contains es d) same here)) middles
 
-  -- it is in no report then
-  pub middles_left : Keeps p old new → ((e : PlainReportCall) → new.situation p ≡ Reporting e → ⊥) → HaveMiddles old → HaveMiddles new
+  -- it is in no show then
+  pub middles_left : Keeps p old new → ((e : PlainShowCall) → new.situation p ≡ Showing e → ⊥) → HaveMiddles old → HaveMiddles new
   middles_left k none h = (h.0, h.1, middles_kept h.0 h.1 old new h.2 p k none)
 
   pub stop_leaves : IsSound old → p < old.layout.processes → StopsIn p old new → Leaves p old new

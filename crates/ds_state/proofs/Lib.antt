@@ -2,7 +2,7 @@ pub mod New
 pub mod Heads
 pub mod Lasting
 pub mod StableWork
-pub mod StableReport
+pub mod StableShow
 pub mod StableRecovery
 pub mod Stable
 pub mod Found
@@ -41,4 +41,4 @@ pub mod CleanRead
 pub mod StillRight
 pub mod QuietShown
 pub mod MarkLaws
-pub mod ReportRooms
+pub mod ShowRooms

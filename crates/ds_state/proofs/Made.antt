@@ -20,7 +20,7 @@ use Rattle.ds_state.specs.declared.situation.Situation.TheVariants.{Idle}
 use Rattle.ds_state.proofs.New.{new_sound, reads_back}
 use Rattle.ds_state.proofs.Underway.{none_idle}
 
--- so many equal situations and one more are one more of them
+-- n equal situations and one more are one more of them
 pub one_more : (n : ℕ) (s : Situation) → replicate n s ++ s ∷ [] ≡ replicate (n + 1) s
 one_more n s = replicate_more n s
 

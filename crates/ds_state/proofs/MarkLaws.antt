@@ -11,7 +11,7 @@ use Rattle.ds_state.specs.KnownWork.{Hold, free, seen, claimed, held, outrun, Ho
 use Rattle.ds_state.specs.CallsFit.{CallFits}
 use Rattle.ds_state.specs.Sound.{IsSound}
 use Rattle.ds_state.specs.declared.situation.Situation.{Situation}
-use Rattle.ds_state.specs.declared.situation.Situation.TheVariants.{Idle, Stopped, Editing, Working, Recovering, Reporting, Migrating}
+use Rattle.ds_state.specs.declared.situation.Situation.TheVariants.{Idle, Stopped, Editing, Working, Recovering, Showing, Migrating}
 
 -- the holder's code is the one in the word, where each holder there is one of the processes
 code_of : (processes code : ℕ) → ((q : ℕ) → code ≡ q + 1 → q < processes) → holder_code (present processes (holder_of code)) ≡ code
@@ -64,7 +64,7 @@ by_call w cell q Stopped fits by = tt
 by_call w cell q (Editing e) fits by = fits.holds_none cell (subst (λ p. IsHeldBy p (w.memory.cached (Mark cell))) (sym fits.mine) by)
 by_call w cell q (Working e) fits by = by_work w e cell (work_known (length e.inputs) e.stage).hold fits.knows.hold (subst (λ p. IsHeldBy p (w.memory.cached (Mark cell))) (sym fits.mine) by)
 by_call w cell q (Recovering e) fits by = tt
-by_call w cell q (Reporting e) fits by = fits.1.holds_none cell (subst (λ p. IsHeldBy p (w.memory.cached (Mark cell))) (sym fits.1.mine) by)
+by_call w cell q (Showing e) fits by = fits.1.holds_none cell (subst (λ p. IsHeldBy p (w.memory.cached (Mark cell))) (sym fits.1.mine) by)
 by_call w cell q (Migrating e) fits by = tt
 
 -- in a sound world a mark names a process of the sheet that may hold the cell

@@ -1,4 +1,4 @@
--- What lasts, and the middles of reports while others step.
+-- What lasts, and the middles of shows while others step.
 use Rattle.std.proofs.Common.{ℕ, ◌≡◌, ◌≢◌, ◌<◌, ◌++◌, List, [], refl, ap, sym, ◌∙◌, subst, arith, append_assoc, inl, inr, suc}
 use Rattle.std.specs.Prelude.{Contains}
 use Rattle.std.proofs.lemmas.Bool.{cases_eq}
@@ -9,7 +9,7 @@ use Rattle.ds_layout.specs.declared.layout.Layout.{Layout}
 use Rattle.ds_layout.specs.declared.place.Place.{Place}
 use Rattle.ds_layout.specs.declared.place.Place.TheVariants.{Version, Mark, Value, Kind, Announce}
 use Rattle.ds_layout.specs.Mark.{IsClean}
-use Rattle.ds_state.specs.Works.{PlainReportCall}
+use Rattle.ds_state.specs.Works.{PlainShowCall}
 use Rattle.ds_state.specs.World.{PlainEdit, PlainWorld}
 use Rattle.ds_state.specs.Rely.{Grows, Rely, Keeps}
 use Rattle.ds_state.specs.Events.{Evicts}
@@ -18,15 +18,15 @@ use Rattle.ds_state.specs.Fresh.{IsNew}
 use Rattle.ds_state.specs.Lasts.{Lasts}
 use Rattle.ds_state.specs.Sound.{IsSound}
 use Rattle.ds_state.specs.Middles.{Middle, Middles, but_for}
-use Rattle.ds_state.specs.KnownReport.{moment_of}
-use Rattle.ds_state.specs.declared.situation.Situation.TheVariants.{Idle, Stopped, Reporting}
+use Rattle.ds_state.specs.KnownShow.{moment_of}
+use Rattle.ds_state.specs.declared.situation.Situation.TheVariants.{Idle, Stopped, Showing}
 use Rattle.ds_state.proofs.Lasting.{at_most}
 use Rattle.ds_state.proofs.Accesses.{evict_sound}
 use Rattle.ds_state.proofs.Buffers.{buffered}
-use Rattle.ds_state.proofs.StableReport.{show_goes}
+use Rattle.ds_state.proofs.StableShow.{show_goes}
 use Rattle.ds_state.proofs.Stopping.{stop_keeps}
 
--- what some process may count on lasts
+-- what some process may rely on lasts
 pub lasts_of : (q : ℕ) (but : Place) (old new : PlainWorld) → Grows q but old new → Lasts old new
 lasts_of q but old new g = record {
   layout = g.layout;
@@ -70,7 +70,7 @@ lasts_on old mid new a b = record {
   counted = b.counted ∙ ap (λ (es : List PlainEdit). es ++ b.added) a.counted ∙ append_assoc old.counted a.added b.added;
 }
 
--- an edit that counts counts for good
+-- a linearized edit stays linearized
 pub lasts_counts : (old new : PlainWorld) → Lasts old new → (d : PlainEdit) → Contains old.counted d → Contains new.counted d
 lasts_counts old new l d h = subst (λ (es : List PlainEdit). Contains es d) (sym l.counted) (Contains-append_left old.counted l.added d h)
 
@@ -101,10 +101,10 @@ but_there worlds p q w ne = elim (eqb_tells q p) [
   | inr differs ↦ rw differs.0 refl
 ]
 
--- ---- the middle of one report
+-- ---- the middle of one show
 
--- while its process may count on all that it may
-pub middle_goes : (p : ℕ) (first old new : PlainWorld) (e : PlainReportCall) (mid : PlainWorld) → Rely p old new → Middle first old p e mid → Middle first new p e mid
+-- while its process may rely on all that it may
+pub middle_goes : (p : ℕ) (first old new : PlainWorld) (e : PlainShowCall) (mid : PlainWorld) → Rely p old new → Middle first old p e mid → Middle first new p e mid
 middle_goes p first old new e mid r h =
     let g : Grows p Version old new = r.grows Version in
     let mine : (d : PlainEdit) → d.process ≡ p → Contains new.counted d → Contains old.counted d =
@@ -123,37 +123,37 @@ middle_goes p first old new e mid r h =
 -- ---- the middles of all
 
 module _ (firsts mids : ℕ → PlainWorld) (old new : PlainWorld) (h : Middles firsts mids old) where
-  pub others_go : (q : ℕ) → Rely q old new → q < new.layout.processes → (e : PlainReportCall) → new.situation q ≡ Reporting e → Middle (firsts q) new q e (mids q)
+  pub others_go : (q : ℕ) → Rely q old new → q < new.layout.processes → (e : PlainShowCall) → new.situation q ≡ Showing e → Middle (firsts q) new q e (mids q)
   others_go q r low e is =
       let l : new.layout ≡ old.layout = (r.grows Version).layout in
       middle_goes q (firsts q) old new e (mids q) r (h q (let same = ap (λ (x : Layout). x.processes) l in omega arith) e (sym r.situation ∙ is))
 
-  -- a process that does not report does what it may
-  pub middles_kept : (p : ℕ) → Keeps p old new → ((e : PlainReportCall) → new.situation p ≡ Reporting e → ⊥) → Middles firsts mids new
+  -- a process that does not show the sheet does what it may
+  pub middles_kept : (p : ℕ) → Keeps p old new → ((e : PlainShowCall) → new.situation p ≡ Showing e → ⊥) → Middles firsts mids new
   middles_kept p k none q low e is = elim (cases_eq q p) [
     | inl eq ↦ absurd (none e (ap new.situation (sym eq) ∙ is))
     | inr ne ↦ others_go q (k.others q ne) low e is
   ]
 
   pub middles_stopped : (p : ℕ) → IsSound old → p < old.layout.processes → StopsIn p old new → Middles firsts mids new
-  middles_stopped p sound low stop = middles_kept p (stop_keeps p old new sound low stop) (λ e is. let both : Reporting e ≡ Stopped = sym is ∙ stop.situation in cc)
+  middles_stopped p sound low stop = middles_kept p (stop_keeps p old new sound low stop) (λ e is. let both : Showing e ≡ Stopped = sym is ∙ stop.situation in cc)
 
   pub middles_evicted : (place : Place) → IsSound old → Evicts place old new → Middles firsts mids new
   middles_evicted place sound v q low e is =
       others_go q ((evict_sound place old new sound (buffered old sound) v).1 q (let same = ap (λ (x : Layout). x.processes) v.layout in omega arith)) low e is
 
--- where no report is under way
-middles_none : (firsts mids : ℕ → PlainWorld) (w : PlainWorld) → ((p : ℕ) → p < w.layout.processes → (e : PlainReportCall) → w.situation p ≡ Reporting e → ⊥) → Middles firsts mids w
+-- where no show is under way
+middles_none : (firsts mids : ℕ → PlainWorld) (w : PlainWorld) → ((p : ℕ) → p < w.layout.processes → (e : PlainShowCall) → w.situation p ≡ Showing e → ⊥) → Middles firsts mids w
 middles_none firsts mids w none p low e is = absurd (none p low e is)
 
--- in a new world no report needs a middle
+-- in a new world no show needs a middle
 pub middles_new : (firsts mids : ℕ → PlainWorld) (w : PlainWorld) → IsNew w → Middles firsts mids w
-middles_new firsts mids w new = middles_none firsts mids w (λ p low e is. let both : Idle (record { number = 0; edition = new.edition }) ≡ Reporting e = sym (new.situation p low) ∙ is in cc)
+middles_new firsts mids w new = middles_none firsts mids w (λ p low e is. let both : Idle (record { number = 0; edition = new.edition }) ≡ Showing e = sym (new.situation p low) ∙ is in cc)
 
--- where every process is stopped no report needs a middle
+-- where every process is stopped no show needs a middle
 pub middles_at_rest : (firsts mids : ℕ → PlainWorld) (w : PlainWorld) → ((p : ℕ) → p < w.layout.processes → w.situation p ≡ Stopped) → Middles firsts mids w
-middles_at_rest firsts mids w rest = middles_none firsts mids w (λ p low e is. let both : Stopped ≡ Reporting e = sym (rest p low) ∙ is in cc)
+middles_at_rest firsts mids w rest = middles_none firsts mids w (λ p low e is. let both : Stopped ≡ Showing e = sym (rest p low) ∙ is in cc)
 
--- after a crash no report needs a middle
+-- after a crash no show needs a middle
 pub middles_crashed : (firsts mids : ℕ → PlainWorld) (old new : PlainWorld) → CrashesTo old new → Middles firsts mids new
 middles_crashed firsts mids old new crash = middles_at_rest firsts mids new (λ p low. crash.situation p (let same = ap (λ (x : Layout). x.processes) crash.layout in omega arith))

@@ -39,15 +39,15 @@ of_sheet_middle w h cell before by after parts =
     let there : IsOfSheet w (get_or (before ++ by ∷ after) (length before) by) = all (length before) by (omega (arith, length-append before (by ∷ after))) in
     subst (λ (e : PlainEdit). IsOfSheet w e) (get_or-append_seam before by after by) there
 
--- the edits of the cell now, and when so many counted
+-- the edits of the cell now, and when n edits were linearized
 pub when_now : (w : PlainWorld) (cell : ℕ) → of_cell_when w cell (length w.counted) ≡ of_cell cell w.counted
 when_now w cell = ap (λ es. of_cell cell es) (take-length w.counted)
 
--- the edits of a cell are those of when so many counted, and then those that came since
+-- the edits of a cell are those of when n edits were linearized, and then those that came since
 pub when_rest : (w : PlainWorld) (cell count : ℕ) → of_cell cell w.counted ≡ of_cell_when w cell count ++ of_cell cell (drop count w.counted)
 when_rest w cell count = ap (λ es. of_cell cell es) (sym (take-append-drop count w.counted)) ∙ of_cell-append cell (take count w.counted) (drop count w.counted)
 
--- the head that an edit noted is one that a counted edit gave its cell, now, too
+-- the head that an edit noted is one that a linearized edit gave its cell, now, too
 pub noted_by : (w : PlainWorld) (e : PlainEdit) (since : ℕ) (head : Head) → (h : IsNoted w e since head) → IsHeadBy (of_cell e.cell w.counted) (head_word head) h.by
 noted_by w e since head h = subst (λ (es : List PlainEdit). IsHeadBy es (head_word head) h.by) (sym (when_rest w e.cell h.count))
     (by_append (of_cell_when w e.cell h.count) (of_cell e.cell (drop h.count w.counted)) (head_word head) h.by
@@ -59,7 +59,7 @@ pub when_most : (xs ys : List PlainEdit) → Small (xs ++ ys) → head_after_all
 when_most xs [] s = rw (append-nil xs) (omega arith)
 when_most xs (y ∷ ys) s = let g = head_grows xs y ys s in omega arith
 
--- where the head is the same with edits behind, there are none behind
+-- where the head is the same with edits after it, there are none after it
 pub when_same : (xs ys : List PlainEdit) → Small (xs ++ ys) → head_after_all xs ≡ head_after_all (xs ++ ys) → xs ++ ys ≡ xs
 when_same xs [] s same = append-nil xs
 when_same xs (y ∷ ys) s same = let g = head_grows xs y ys s in absurd (omega arith)

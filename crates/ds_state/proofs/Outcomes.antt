@@ -1,4 +1,4 @@
--- How an edit ended, by the list of those that count.
+-- How an edit ended, by the list of the linearized ones.
 use Rattle.std.proofs.Common.{ℕ, ◌≡◌, ◌≢◌, ◌<◌, ◌==◌, List, [], ◌∷◌, ◌++◌, refl, ap, sym, ◌∙◌, arith, inl, inr, true, false}
 use Rattle.std.specs.Prelude.{All, filter}
 use Rattle.std.proofs.lemmas.Bool.Decides.{eqb_tells}

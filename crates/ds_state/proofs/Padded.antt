@@ -1,4 +1,4 @@
--- Texts with zeros behind them.
+-- Texts with zeros after them.
 use Rattle.std.proofs.Common.{ℕ, ◌≡◌, ◌<◌, ◌≤◌, ◌-◌, ◌++◌, List, length, length-append, take, drop, replicate, get_or, set, refl, ap, ◌∙◌, ◌+◌, sym, subst, arith}
 use Rattle.std.specs.Prelude.{All}
 use Rattle.std.proofs.Math.Seq.{drop-append_seam}
@@ -20,7 +20,7 @@ padded bytes small short =
       rest = drop-append_seam bytes (padding (length bytes));
     }
 
--- bytes copied over the first ones of so many zeros
+-- bytes copied over the first ones of n zeros
 pub padded_new : (bytes copied : List ℕ) → copied ≡ bytes → ((k : ℕ) → get_or bytes k 0 < 256) → length bytes ≤ TEXT_MOST → IsPadded (copied ++ drop (length bytes) (replicate TEXT_MOST 0)) (length bytes)
 padded_new bytes copied same small short =
     subst (λ (xs : List ℕ). IsPadded (copied ++ xs) (length bytes)) (sym (drop-replicate (length bytes) TEXT_MOST 0))
@@ -42,7 +42,7 @@ padded_empty = record {
   rest = refl;
 }
 
--- one more byte behind them
+-- one more byte after them
 pub padded_push : (bytes : List ℕ) (len b : ℕ) → IsPadded bytes len → len < TEXT_MOST → b < 256 → IsPadded (set bytes len b) (len + 1)
 unfolding zeros
 padded_push bytes len b h room small =

@@ -15,7 +15,7 @@ use Rattle.ds_state.specs.CallsFit.{CallFits}
 use Rattle.ds_state.specs.Sound.{IsSound}
 use Rattle.ds_state.specs.Calm.{IsCalm, IsLocalAt}
 use Rattle.ds_state.specs.declared.situation.Situation.{Situation}
-use Rattle.ds_state.specs.declared.situation.Situation.TheVariants.{Idle, Stopped, Editing, Working, Recovering, Reporting, Migrating}
+use Rattle.ds_state.specs.declared.situation.Situation.TheVariants.{Idle, Stopped, Editing, Working, Recovering, Showing, Migrating}
 use Rattle.ds_state.proofs.Frames.{clean_free}
 use Rattle.ds_state.proofs.Shows.{local_back}
 
@@ -29,7 +29,7 @@ no_excuse w p Stopped c x none h o = none_some (w.open_edits p) o.issue none o.i
 no_excuse w p (Editing e) c x none h o = none_some (w.open_edits p) (record { edit = edit_of e; since = h.since }) none h.open_edits
 no_excuse w p (Working e) c x none h o = o
 no_excuse w p (Recovering e) c x none h o = none_some (w.open_edits p) o.0.issue none o.0.issued
-no_excuse w p (Reporting e) c x none h o = o
+no_excuse w p (Showing e) c x none h o = o
 no_excuse w p (Migrating e) c x none h o = none_some (w.open_edits p) o.issue none o.issued
 
 -- in a sound, calm world each cell shows what its content gives of what the others show

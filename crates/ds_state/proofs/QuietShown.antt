@@ -1,4 +1,4 @@
--- A quiet world shows the values of the edits that count, from scratch.
+-- A quiescent world shows the values of the linearized edits, from scratch.
 use Rattle.std.proofs.Common.{ℕ, ◌≡◌, ◌<◌, ◌≤◌, ◌+◌, ◌⊎◌, List, [], ◌∷◌, refl, ap, sym, ◌∙◌, subst, arith, inl, inr, zero, suc, true, false, map, Some, None}
 use Rattle.std.specs.Prelude.{Bool, Option, if◌then◌else◌}
 use Rattle.std.specs.List.{range_with_len}
@@ -13,9 +13,9 @@ use Rattle.ds_layout.proofs.Packed.{announcement_of-announcement_word}
 use Rattle.ds_state.specs.World.{PlainEdit, PlainIssue, edit_of, PlainWorld, phase_among, is_edit_of, last_announcement, announcement}
 use Rattle.ds_state.specs.Shown.{IsQuiet, values_shown}
 use Rattle.ds_state.specs.CallsFit.{CallFits, DoubtFits}
-use Rattle.ds_state.specs.KnownReport.{pends, is_clean, IsPendingWord, moment_of, AreScratch, IsRight, IsStill}
+use Rattle.ds_state.specs.KnownShow.{pends, is_clean, IsPendingWord, moment_of, AreScratch, IsRight, IsStill}
 use Rattle.ds_state.specs.declared.situation.Situation.{Situation}
-use Rattle.ds_state.specs.declared.situation.Situation.TheVariants.{Idle, Stopped, Editing, Working, Recovering, Reporting, Migrating}
+use Rattle.ds_state.specs.declared.situation.Situation.TheVariants.{Idle, Stopped, Editing, Working, Recovering, Showing, Migrating}
 use Rattle.ds_state.specs.Sound.{IsSound}
 use Rattle.ds_state.proofs.CleanRead.{clean_read}
 use Rattle.ds_state.proofs.StillRight.{still_right}
@@ -44,10 +44,10 @@ says w p Stopped none h = let t = subst (λ (o : Option PlainIssue). DoubtFits w
 says w p (Editing e) none h = absurd (let e : None ≡ Some (record { edit = edit_of e; since = h.since }) = sym none ∙ h.open_edits in cc)
 says w p (Working e) none h = (e.next, h.rest.number, subst (λ (q : ℕ). w.memory.cached (Announce q) ≡ last_announcement w.counted q e.next) h.mine h.rest.cached)
 says w p (Recovering e) none h = let t = subst (λ (o : Option PlainIssue). DoubtFits w p o) none h.doubt in (t.next, t.rest.number, t.rest.cached)
-says w p (Reporting e) none h = (e.next, h.1.rest.number, subst (λ (q : ℕ). w.memory.cached (Announce q) ≡ last_announcement w.counted q e.next) h.1.mine h.1.rest.cached)
+says w p (Showing e) none h = (e.next, h.1.rest.number, subst (λ (q : ℕ). w.memory.cached (Announce q) ≡ last_announcement w.counted q e.next) h.1.mine h.1.rest.cached)
 says w p (Migrating e) none h = let t = subst (λ (o : Option PlainIssue). DoubtFits w p o) none h.doubt in (t.next, t.rest.number, t.rest.cached)
 
--- the moment that a sound, quiet world is, is still
+-- the moment that a sound, quiescent world is, is still
 pub quiet_still : (w : PlainWorld) → IsSound w → IsQuiet w → IsStill w.layout (moment_of w)
 quiet_still w sound quiet = record {
   clean = λ c l. clean_read w c (w.memory.cached (Mark c)) (sound.words (Mark c)).holder (ap is_clean (quiet.clean c l));
@@ -59,7 +59,7 @@ pub same_map : (f g : ℕ → values.Value) (a n : ℕ) → ((i : ℕ) → a ≤
 same_map f g a zero h = refl
 same_map f g a (suc n) h = ap (λ (x : values.Value). x ∷ map f (range_with_len (a + 1) n)) (h a (omega arith) (omega arith)) ∙ ap (λ (xs : List values.Value). g a ∷ xs) (same_map f g (a + 1) n (λ i l k. h i (omega arith) (omega arith)))
 
--- a sound, quiet world shows the values of the edits that count, from scratch
+-- a sound, quiescent world shows the values of the linearized edits, from scratch
 pub quiet_shows : (w : PlainWorld) → IsSound w → IsQuiet w → AreScratch w.layout.shape w.counted (values_shown w)
 quiet_shows w sound quiet =
     let right : IsRight w.layout.shape (moment_of w) = still_right w sound (quiet_still w sound quiet) in

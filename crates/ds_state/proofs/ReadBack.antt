@@ -27,7 +27,7 @@ small_bytes text h i = elim (cases_lt i (length text)) [
   | inr past ↦ rw (get_or_past text i 0 past) (omega arith)
 ]
 
--- so many bytes of a text, and the first of its next part
+-- n bytes of a text, and the first of its next part
 pub next_part : (text bytes : List ℕ) (part count word : ℕ) → IsText text → word ≡ part_word text part → 8 * part < length text → count ≡ min (length text - 8 * part) 8
     → bytes ≡ take (8 * part) text → bytes ++ take count (bytes_of word) ≡ take (8 * (part + 1)) text
 next_part text bytes part count word h is within c before =
@@ -46,7 +46,7 @@ parts_more m edition process number count part =
     let same : part + 1 ≡ suc part = omega arith in
     ap (λ (k : ℕ). parts_at m edition process number count k) same
 
--- the bytes of the next part, behind those read so far: one part more of the record's text
+-- the bytes of the next part, after those read so far: one part more of the record's text
 pub next_read : (m : Memory Place) (edition : Edition) (process number count part rest word : ℕ) (before bytes after : List ℕ) → before ≡ parts_at m edition process number count part → rest ≡ min (count - 8 * part) 8
     → word ≡ m.cached (place.Text edition process number part) → bytes ≡ bytes_of word → after ≡ before ++ take rest bytes → after ≡ parts_at m edition process number count (part + 1)
 next_read m edition process number count part rest word before bytes after prior few is read added =

@@ -12,7 +12,7 @@ use Rattle.ds_state.specs.Headers.{SaysCell, HasCell}
 use Rattle.ds_state.specs.Known.{IsRecorded}
 use Rattle.ds_state.specs.World.{PlainEdit, PlainWorld, record_word, announcement, phase_among, last_announcement}
 
--- the number behind the one that a word announces is read off it, in any phase
+-- the number after the one that a word announces is read off it, in any phase
 pub announced_number : (n : ℕ) (f : Phase) → number_after (announcement n f) ≡ n + 1
 announced_number n phase.Pending = omega arith
 announced_number n phase.Done = omega arith

@@ -1,4 +1,4 @@
--- Numbers that are spent stay so, and edits that come to count have others.
+-- Numbers that are spent stay so, and edits that are linearized have others.
 use Rattle.std.proofs.Common.{ℕ, ◌≡◌, ◌<◌, ◌≤◌, sym, subst, arith, suc, inl, inr, length}
 use Rattle.ds_layout.specs.declared.place.Place.{Place}
 use Rattle.ds_layout.specs.declared.place.Place.TheVariants.{Version, Announce}
@@ -48,7 +48,7 @@ module _ (w : PlainWorld) (e : PlainEditCall) (sound : IsSound w) (low : e.proce
   knows : (s : Stage) → e.stage ≡ s → Knowing w e.edition (edit_of e) e.refs fits.since (known_at (text_parts e.text) (length e.refs) s)
   knows s is = subst (λ (x : Stage). Knowing w e.edition (edit_of e) e.refs fits.since (known_at (text_parts e.text) (length e.refs) x)) is fits.knows
 
-  -- an edit that may count next has announced that it is pending, on both sides
+  -- an edit that may be linearized next has announced that it is pending, on both sides
   pub swap_unspent : (head n : ℕ) → e.stage ≡ Swap head → IsSpent w e.process n → n < e.number
   swap_unspent head n is spent = let k = knows (Swap head) is in elim k.announced.persisted [ inl p ↦ omega (arith, p, spent) | inr p ↦ omega (arith, p, spent) ]
 

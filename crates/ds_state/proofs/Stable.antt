@@ -12,12 +12,12 @@ use Rattle.ds_state.specs.CallsFit.{Held, empty, record_words, announcing_word, 
 use Rattle.ds_state.specs.KnownWork.{IsAtRest}
 use Rattle.ds_state.specs.Rely.{Grows, Rely}
 use Rattle.ds_state.specs.declared.situation.Situation.{Situation}
-use Rattle.ds_state.specs.declared.situation.Situation.TheVariants.{Idle, Stopped, Editing, Working, Recovering, Reporting, Migrating}
+use Rattle.ds_state.specs.declared.situation.Situation.TheVariants.{Idle, Stopped, Editing, Working, Recovering, Showing, Migrating}
 use Rattle.ds_state.proofs.Lasting.{at_most, record_owned, below_stable, by_stable, last_stable, when_stable, longer, safe_stable, done_stable}
 use Rattle.ds_state.specs.KnownRecovery.{freed_at, resolved_at, recovery_held}
 use Rattle.ds_state.proofs.StableRecovery.{freed_stable, resolved_stable, held_stable, own_words}
 use Rattle.ds_state.proofs.StableWork.{work_stable}
-use Rattle.ds_state.proofs.StableReport.{show_stable}
+use Rattle.ds_state.proofs.StableShow.{show_stable}
 use Rattle.ds_layout.specs.declared.place.Edition.{Edition}
 use Rattle.ds_layout.specs.declared.place.Edition.TheVariants.{First}
 use Rattle.ds_state.specs.Editions.{seen_edition}
@@ -289,7 +289,7 @@ call_stable old new q (Recovering e) r l h =
           (own_words old e.process e.mark e.cell e.stage h.freed) h.buffer;
       is = h.is;
     }
-call_stable old new q (Reporting e) r l h = show_stable old new q e r h
+call_stable old new q (Showing e) r l h = show_stable old new q e r h
 call_stable old new q (Migrating e) r l h = record {
   mine = h.mine;
   is = h.is;

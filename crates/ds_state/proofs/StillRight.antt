@@ -1,4 +1,5 @@
--- Where every mark of the sheet is clean and no announcement is pending, the values are those of the counted edits, from scratch.
+-- Where every mark of the sheet is clean and no announcement is pending, the values are those of the linearized edits,
+-- from scratch.
 use Rattle.std.proofs.Common.{ℕ, ◌≡◌, ◌<◌, ◌≤◌, ◌+◌, ◌⊎◌, List, [], ◌∷◌, ◌++◌, refl, ap, sym, ◌∙◌, subst, arith, append_assoc, inl, inr, Some, None, length, map}
 use Rattle.std.specs.Prelude.{Option}
 use Rattle.std.specs.List.{range_with_len}
@@ -27,12 +28,12 @@ use Rattle.ds_state.specs.World.{PlainEdit, PlainIssue, edit_of, PlainWorld, of_
 use Rattle.ds_state.specs.Owing.{IsPending, IsExcused}
 use Rattle.ds_state.specs.Standing.{cached_side, entry_on, shown_entry, value_for, HasContent}
 use Rattle.ds_state.specs.CallsFit.{CallFits, DoubtFits}
-use Rattle.ds_state.specs.KnownReport.{IsPendingWord, moment_of, values_of, IsRight, IsStill}
+use Rattle.ds_state.specs.KnownShow.{IsPendingWord, moment_of, values_of, IsRight, IsStill}
 use Rattle.ds_state.specs.Shown.{last_text}
 use Rattle.ds_formula.proofs.Whole.{blank_read}
 use Rattle.ds_state.specs.Sound.{IsSound}
 use Rattle.ds_state.specs.declared.situation.Situation.{Situation}
-use Rattle.ds_state.specs.declared.situation.Situation.TheVariants.{Idle, Stopped, Editing, Working, Recovering, Reporting, Migrating}
+use Rattle.ds_state.specs.declared.situation.Situation.TheVariants.{Idle, Stopped, Editing, Working, Recovering, Showing, Migrating}
 use Rattle.ds_state.proofs.Frames.{clean_free}
 use Rattle.ds_state.proofs.Heads.{Small, small_counted, small_of_cell, head_low, head_push, head_grows}
 use Rattle.ds_state.proofs.Crashing.{pends_while}
@@ -46,7 +47,7 @@ issue_number w p Stopped i is h = (subst (λ (o : Option PlainIssue). DoubtFits 
 issue_number w p (Editing e) i is h = let same : record { edit = edit_of e; since = h.since } ≡ i = (let both : Some (record { edit = edit_of e; since = h.since }) ≡ Some i = sym h.open_edits ∙ is in cc) in subst (λ (x : PlainIssue). x.edit.number < RECORDS) same h.is.number
 issue_number w p (Working e) i is h = absurd (let e : None ≡ Some i = sym h.rest.open_edits ∙ ap w.open_edits h.mine ∙ is in cc)
 issue_number w p (Recovering e) i is h = (subst (λ (o : Option PlainIssue). DoubtFits w p o) is h.doubt).number
-issue_number w p (Reporting e) i is h = absurd (let e : None ≡ Some i = sym h.1.rest.open_edits ∙ ap w.open_edits h.1.mine ∙ is in cc)
+issue_number w p (Showing e) i is h = absurd (let e : None ≡ Some i = sym h.1.rest.open_edits ∙ ap w.open_edits h.1.mine ∙ is in cc)
 issue_number w p (Migrating e) i is h = (subst (λ (o : Option PlainIssue). DoubtFits w p o) is h.doubt).number
 
 -- an announcement of a record's number, as it reads

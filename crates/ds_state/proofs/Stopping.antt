@@ -1,4 +1,4 @@
--- A stop keeps a world sound, and what the others count on.
+-- A stop keeps a world sound, and what the others rely on.
 use Rattle.std.proofs.Common.{ℕ, ◌≡◌, ◌<◌, ◌≤◌, List, [], refl, ap, sym, ◌∙◌, subst, arith, inl, inr, Some, None, length}
 use Rattle.std.specs.Prelude.{Contains, Option}
 use Rattle.std.proofs.lemmas.Bool.{cases_eq}
@@ -15,7 +15,7 @@ use Rattle.ds_state.specs.Crashes.{StopsIn}
 use Rattle.ds_state.specs.Rely.{Grows, Keeps}
 use Rattle.ds_state.specs.Sound.{IsSound}
 use Rattle.ds_state.specs.declared.situation.Situation.{Situation}
-use Rattle.ds_state.specs.declared.situation.Situation.TheVariants.{Idle, Stopped, Editing, Working, Recovering, Reporting, Migrating}
+use Rattle.ds_state.specs.declared.situation.Situation.TheVariants.{Idle, Stopped, Editing, Working, Recovering, Showing, Migrating}
 use Rattle.ds_state.proofs.Lasting.{below_stable, last_stable}
 use Rattle.ds_state.proofs.Stable.{standing_stable, word_stable, recorded_stable, record_no_version, written_stable}
 use Rattle.ds_state.proofs.Frames.{Moves, stops, version_word, KeepsOwing, KeepsApart, grows_own, moves_sound}
@@ -182,7 +182,7 @@ module _ (p : ℕ) (old new : PlainWorld) (sound : IsSound old) (real : p < old.
   left (Working e) at lay h = through e.next (subst (λ (q : ℕ). IsAtRest old q e.next) h.mine h.rest)
   left (Recovering e) at lay h = recovering (old.open_edits p) refl h.doubt
   left (Migrating e) at lay h = recovering (old.open_edits p) refl h.doubt
-  left (Reporting e) at lay h = through e.next (subst (λ (q : ℕ). IsAtRest old q e.next) h.1.mine h.1.rest)
+  left (Showing e) at lay h = through e.next (subst (λ (q : ℕ). IsAtRest old q e.next) h.1.mine h.1.rest)
 
   pub stop_keeps : Keeps p old new
   stop_keeps = moves_sound p Version old new moves stop.counted sound (bears p Version old new moves sound mine)

@@ -21,7 +21,7 @@ use Rattle.ds_state.proofs.Bearing.{Buffered, durable_most, durable_least}
 use Rattle.ds_state.proofs.Dirty.{or_dirty}
 use Rattle.ds_state.proofs.Frames.{Moves, each_moved}
 
--- the first cell that is told
+-- the first cell that is marked
 abbrev pub ToldFits : List ℕ → ℕ → ℕ → Option ℕ → Type 0
 ToldFits row n d (Some k) = (d ≤ k) × (k < d + n) × ((c : ℕ) → d ≤ c → StandsIn row c → k ≤ c)
 ToldFits row n d None = (c : ℕ) → d ≤ c → c < d + n → StandsIn row c → ⊥
@@ -45,7 +45,7 @@ told_stands row (suc n) d k is = go (bit_at (slice_index_or row (d / 64) 0) (d %
     go true hit is again = subst (λ (y : ℕ). StandsIn row y) (let same : d ≡ k = cc in same) (eqb-true (bit_at (slice_index_or row (d / 64) 0) (d % 64)) 1 hit)
     go false miss is again = again is
 
--- the first cell of the sheet from this one on whose bit the row has is told next
+-- the first cell of the sheet from this one on whose bit the row has is marked next
 pub told_is : (row : List ℕ) (cells d : ℕ) (o : Option ℕ) → IfSome o (λ k. (k < cells) × IsFirstBit row d k) → IfNone o (HaveNoBit row d cells) → o ≡ told_from row (cells - d) d
 told_is row cells d o some none = go (told_from row (cells - d) d) refl (first_told row (cells - d) d) o some none
   where

@@ -22,7 +22,7 @@ use Rattle.ds_state.specs.Known.{Standing, outside, inside, safe, Announced, las
 use Rattle.ds_state.specs.Owing.{entry, IsMark, HoldsNone}
 use Rattle.ds_state.specs.declared.stage.Outcome.TheVariants.{Done, Overtaken}
 use Rattle.ds_state.specs.KnownWork.{IsAtRest, WorkFits}
-use Rattle.ds_state.specs.KnownReport.{ReportFits}
+use Rattle.ds_state.specs.KnownShow.{ShowFits}
 use Rattle.ds_state.specs.Works.{PlainRecoverCall, PlainMigrateCall, IsMigration, new_text}
 use Rattle.ds_state.specs.declared.migration.MigrateStage.{MigrateStage}
 use Rattle.ds_state.specs.declared.migration.MigrateStage.TheVariants.{BackNew, BackVersion}
@@ -31,12 +31,12 @@ use Rattle.ds_state.specs.KnownRecovery.{FreedFits, freed_at, ResolvedFits, reso
 use Rattle.ds_state.specs.declared.stage.Stage.{Stage}
 use Rattle.ds_state.specs.declared.stage.Stage.TheVariants.{FlushText, BackRecord, BackPending, BackIndex, BackNoted, BackDone, BackOwn, BackMark, BackOutcome}
 use Rattle.ds_state.specs.declared.situation.Situation.{Situation}
-use Rattle.ds_state.specs.declared.situation.Situation.TheVariants.{Idle, Stopped, Editing, Working, Recovering, Reporting, Migrating}
+use Rattle.ds_state.specs.declared.situation.Situation.TheVariants.{Idle, Stopped, Editing, Working, Recovering, Showing, Migrating}
 use Rattle.ds_layout.specs.declared.place.Edition.{Edition}
 use Rattle.ds_layout.specs.declared.place.Edition.TheVariants.{First}
 use Rattle.ds_state.specs.declared.situation.Rest.{Rest}
 
--- what an edit's buffer holds: nothing; so many words of its record from this one on; its announcement; bits of the
+-- what an edit's buffer holds: nothing; n words of its record from this one on; its announcement; bits of the
 -- row of a reference, its cell's among them; done bits, this edit's among them; a head of its cell, this one or a
 -- later one; its cell's mark
 pub data Held : Type 0 where
@@ -48,7 +48,7 @@ pub data Held : Type 0 where
   head_from : ℕ → Held
   mark : Held
 
--- what the buffer of an edit holds at a stage: with so many parts of its text and these references
+-- what the buffer of an edit holds at a stage: with that number of parts of its text and these references
 abbrev pub held_at : ℕ → List ℕ → Stage → Held
 held_at parts refs (FlushText part) = record_words 0 (suc part)
 held_at parts refs (BackRecord left) = record_words (parts - left) (suc left)
@@ -76,7 +76,7 @@ pub record IsBits (w : PlainWorld) (r : Place) (number value : ℕ) : Type 0 whe
   pub has : HasBit value number
   pub subset : IsSubset value (w.memory.cached r)
 
--- the value is a head that a counted edit gave the cell: no older than `least`
+-- the value is a head that a linearized edit gave the cell: no older than `least`
 pub record IsHeadFrom (w : PlainWorld) (cell least value : ℕ) : Type 0 where
   pub enough : least ≤ value
   pub by : PlainEdit
@@ -126,7 +126,7 @@ pub record IdleFits (w : PlainWorld) (p : ℕ) (next : Rest) : Type 0 where
   pub cached : w.memory.cached (place.Announce p) ≡ last_announcement w.counted p next.number
   pub persisted : w.memory.persisted (place.Announce p) ≡ last_announcement w.counted p next.number
 
--- what an edit in doubt may announce, on either side: how the one before it ended, where it does not count; that it
+-- what an edit in doubt may announce, on either side: how the one before it ended, where it is not linearized; that it
 -- is pending; how it ended, where that is settled
 abbrev pub MaySay : Standing → Announced → Type 0
 MaySay outside last = Unit {0}
@@ -212,5 +212,5 @@ CallFits w p Stopped = StoppedFits w p
 CallFits w p (Editing e) = EditFits w p e
 CallFits w p (Working e) = WorkFits w p e
 CallFits w p (Recovering e) = RecoveryFits w p e
-CallFits w p (Reporting e) = ReportFits w p e
+CallFits w p (Showing e) = ShowFits w p e
 CallFits w p (Migrating e) = MigrationFits w p e

@@ -7,7 +7,7 @@ abbrev pub AreDistinct : List PlainEdit → Type 0
 AreDistinct [] = Unit {0}
 AreDistinct (e ∷ es) = (Contains es e → ⊥) × AreDistinct es
 
--- among the counted edits stand so many different ones that are no longer open
+-- among the linearized edits stand n different ones that are no longer open
 pub record HasAnswered (counted : List PlainEdit) (pending : ℕ → Option PlainIssue) (done : ℕ) : Type 0 where
   pub closed : List PlainEdit
   pub as_many : length closed ≡ done

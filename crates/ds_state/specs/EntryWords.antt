@@ -20,7 +20,7 @@ shown kind.Circular number = value.Circular
 abbrev pub shown_of : Stored → Value
 shown_of stored = shown stored.kind stored.value
 
--- the entry that a value word and a kind word show, in a sheet with so many cells
+-- the entry that a value word and a kind word show, in a sheet with that number of cells
 abbrev pub shown_entry : ℕ → ℕ → ℕ → entries.Entry
 shown_entry cells v k = record { value = shown_of (stored_of cells v k); height = (stored_of cells v k).height }
 

@@ -14,7 +14,7 @@ use Rattle.ds_state.specs.declared.stage.Stage.{Stage}
 use Rattle.ds_state.specs.declared.stage.Stage.TheVariants.{StoreHeader, StoreText, FlushHeader, FlushText, BackRecord, StorePending, FlushPending, BackPending, OrIndex, FlushIndex, BackIndex, LoadHead, FlushNoted, BackNoted, OrDone, FlushDone, BackDone, Swap, FlushOwn, BackOwn, OrMark, FlushMark, BackMark, StoreOutcome, FlushOutcome, BackOutcome, Answer}
 use Rattle.ds_layout.specs.declared.place.Edition.{Edition}
 
--- whether the edit counts: it does not; it does, and this is its head; it does, and no crash takes it
+-- whether the edit is linearized: it is not; it is, and this is its head; it is, and no crash takes it
 pub data Standing : Type 0 where
   outside : Standing
   inside : ℕ → Standing
@@ -36,8 +36,8 @@ pub data Noted : Type 0 where
   bit_back : ℕ → Noted
   came_late : ℕ → ℕ → Noted
 
--- what an edit knows: so many words of its record are stored, and so many are persisted; on its announcement's cached
--- side stands `now`, on the persisted side that or `before`; its cell stands in the index rows of so many of its
+-- what an edit knows: n words of its record are stored, and m are persisted; on its announcement's cached
+-- side stands `now`, on the persisted side that or `before`; its cell stands in the index rows of n of its
 -- references, and on the cached side in that of one more
 pub record Known : Type 0 where
   pub standing : Standing
@@ -49,15 +49,15 @@ pub record Known : Type 0 where
   pub ored : Option ℕ
   pub head : Noted
 
--- what an edit knows while it writes its record: so many words are stored, and so many are persisted
+-- what an edit knows while it writes its record: n words are stored, and m are persisted
 abbrev pub writing : ℕ → ℕ → Known
 writing stored back = record { standing = outside; stored = stored; back = back; before = last; now = last; indexed = 0; ored = None; head = nothing }
 
--- what an edit with so many parts knows while it announces itself: its record is written
+-- what an edit with that number of parts knows while it announces itself: its record is written
 abbrev pub announcing : ℕ → Known
 announcing parts = record { standing = outside; stored = suc parts; back = suc parts; before = last; now = pending; indexed = 0; ored = None; head = nothing }
 
--- what an edit knows while it is indexed: it is announced, and its cell stands in the rows of so many references
+-- what an edit knows while it is indexed: it is announced, and its cell stands in the rows of that number of references
 abbrev pub indexing : ℕ → ℕ → Option ℕ → Known
 indexing parts i ored = record { standing = outside; stored = suc parts; back = suc parts; before = pending; now = pending; indexed = i; ored = ored; head = nothing }
 
@@ -79,7 +79,7 @@ noted_after (Overtaken noted seen) = came_late noted seen
 abbrev pub ending : ℕ → ℕ → Outcome → Announced → Announced → Known
 ending parts refs how before now = record { standing = standing_after how; stored = suc parts; back = suc parts; before = before; now = now; indexed = refs; ored = None; head = noted_after how }
 
--- what is known at a stage of an edit with so many parts of its text and so many references
+-- what is known at a stage of an edit with n parts of its text and m references
 abbrev pub known_at : ℕ → ℕ → Stage → Known
 known_at parts refs StoreHeader = writing 0 0
 known_at parts refs (StoreText part) = writing (suc part) 0
@@ -109,11 +109,11 @@ known_at parts refs (FlushOutcome how) = ending parts refs how pending (ended ho
 known_at parts refs (BackOutcome how) = ending parts refs how pending (ended how)
 known_at parts refs (Answer how) = ending parts refs how (ended how) (ended how)
 
--- the process's counted edits have lower numbers than this
+-- the process's linearized edits have lower numbers than this
 abbrev pub AreBelow : PlainWorld → ℕ → ℕ → Type 0
 AreBelow w process number = All (λ f. f.process ≡ process → f.number < number) w.counted
 
--- the edit counts, and this is its head
+-- the edit is linearized, and this is its head
 pub record IsIn (w : PlainWorld) (e : PlainEdit) (own : ℕ) : Type 0 where
   pub below : AreBelow w e.process (e.number + 1)
   pub head : IsHeadBy (of_cell e.cell w.counted) own e
@@ -124,18 +124,18 @@ pub record IsSafe (w : PlainWorld) (e : PlainEdit) : Type 0 where
   pub head : IsHeadBy (of_cell e.cell w.counted) own e
   pub persisted : own ≤ w.memory.persisted (place.Head e.cell)
 
--- no crash takes the edit, and it is its process's last one that counts
+-- no crash takes the edit, and it is its process's last linearized one
 pub record IsSafelyIn (w : PlainWorld) (e : PlainEdit) : Type 0 where
   pub below : AreBelow w e.process (e.number + 1)
   pub safe : IsSafe w e
 
--- whether the edit counts, and whether a crash can take it, is as `Standing` says
+-- whether the edit is linearized, and whether a crash can take it, is as `Standing` says
 abbrev pub StandsAs : PlainWorld → PlainEdit → Standing → Type 0
 StandsAs w e outside = AreBelow w e.process e.number
 StandsAs w e (inside own) = IsIn w e own
 StandsAs w e safe = IsSafelyIn w e
 
--- of the edit's record, in this layout, the first so many words are stored, and the first so many are persisted
+-- of the edit's record, in this layout, the first n words are stored, and the first m are persisted
 pub record IsRecorded (w : PlainWorld) (edition : Edition) (e : PlainEdit) (stored back : ℕ) : Type 0 where
   pub cached : (k : ℕ) → k < stored → w.memory.cached (record_place edition e.process e.number k) ≡ record_word e k
   pub persisted : (k : ℕ) → k < back → w.memory.persisted (record_place edition e.process e.number k) ≡ record_word e k
@@ -161,7 +161,7 @@ pub record IsAnnounced (w : PlainWorld) (e : PlainEdit) (before now : Announced)
 abbrev pub row_of : PlainEdit → List ℕ → ℕ → Place
 row_of e refs i = index_place (slice_index_or refs i 0) e.cell
 
--- the edit's cell stands in the rows of its first so many references, on both sides
+-- the edit's cell stands in the rows of its first n references, on both sides
 pub record IsIndexedTo (w : PlainWorld) (e : PlainEdit) (refs : List ℕ) (count : ℕ) : Type 0 where
   pub cached : (i : ℕ) → i < count → HasBit (w.memory.cached (row_of e refs i)) e.cell
   pub persisted : (i : ℕ) → i < count → HasBit (w.memory.persisted (row_of e refs i)) e.cell
@@ -175,7 +175,7 @@ IsOred w e refs (Some i) = HasBit (w.memory.cached (row_of e refs i)) e.cell
 abbrev pub IsDone : PlainWorld → ℕ → ℕ → Type 0
 IsDone w process number = HasBit (w.memory.persisted (done_place process number)) number
 
--- so many edits counted when the edit noted its cell's head, no fewer than at its issue
+-- n edits were linearized when the edit noted its cell's head, no fewer than at its issue
 pub record IsWhen (w : PlainWorld) (since count : ℕ) : Type 0 where
   pub late : since ≤ count
   pub there : count ≤ length w.counted

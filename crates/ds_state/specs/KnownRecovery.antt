@@ -19,7 +19,7 @@ use Rattle.ds_state.specs.KnownWork.{HasMark}
 use Rattle.ds_state.specs.declared.recovery.RecoverStage.{RecoverStage}
 use Rattle.ds_state.specs.declared.recovery.RecoverStage.TheVariants.{LoadVersion, FlushVersion, BackVersion, LoadMark, FlushValue, FlushKind, BackValue, BackKind, Telling, Give, GiveDirty, FlushGiven, BackGiven, LoadHeader, LoadHead, FlushHead, BackHead, LoadDone, OrMark, FlushMark, BackMark, StoreOutcome, FlushOutcome, BackOutcome, Answer}
 
--- how far a recovery has given its cells back: so many are looked at; this one is held; its value is persisted; its
+-- how far a recovery has given its cells back: n are looked at; this one is held; its value is persisted; its
 -- kind, too; also it was marked since it was looked at; all are free
 pub data Freed : Type 0 where
   before : ℕ → Freed
@@ -75,7 +75,7 @@ FreedFits w p mark (outrun cell) = Holding w p mark cell × ValueAgrees w cell �
 FreedFits w p mark all_free = HoldsNone w p
 
 -- what a recovery knows of its edit in doubt: nothing; the announcement; that it is pending, and of this cell; that
--- it counts; that it does not, or is superseded; its outcome; that this is announced on the cached side; on both
+-- it is linearized; that it is not, or is superseded; its outcome; that this is announced on the cached side; on both
 -- sides, or that there never was an announcement
 pub data Resolved : Type 0 where
   unknown : Resolved
@@ -114,12 +114,12 @@ pub record Tells (word : ℕ) (how : Bool) : Type 0 where
   pub few : number < RECORDS
   pub is : word ≡ announcement number (phase_for how)
 
--- the edit's outcome is settled: it counts and no crash takes it, or it does not count
+-- the edit's outcome is settled: it is linearized and no crash takes it, or it is not linearized
 abbrev pub SettledAs : PlainWorld → PlainEdit → Bool → Type 0
 SettledAs w e true = IsSafelyIn w e
 SettledAs w e false = AreBelow w e.process e.number
 
--- the edit counts, and is not its cell's last
+-- the edit is linearized, and is not its cell's last
 pub record IsPassed (w : PlainWorld) (e : PlainEdit) : Type 0 where
   pub before : List PlainEdit
   pub next : PlainEdit
@@ -169,7 +169,7 @@ pub data RecoveryHeld : Type 0 where
   the_outcome : RecoveryHeld
   the_version : RecoveryHeld
 
--- what a recovery's buffer holds while it tells: at a write-back, the mark of the cell that is told
+-- what a recovery's buffer holds while it marks cells: at a write-back, the mark of the cell that is marked
 abbrev pub spread_held : Spread → RecoveryHeld
 spread_held (BackTold d) = a_mark d
 spread_held _ = empty

@@ -32,8 +32,8 @@ pub data Hold : Type 0 where
   -- it holds the cell on both sides, and has seen that the mark came to be dirty
   outrun : Hold
 
--- what a work has loaded: nothing; the head; so many parts of the text; all of it; the content; the entries of the
--- first so many references, and the value of one more
+-- what a work has loaded: nothing; the head; that number of parts of the text; all of it; the content; the entries of
+-- the first n references, and the value of one more
 pub data Loaded : Type 0 where
   nothing : Loaded
   the_head : Loaded
@@ -68,11 +68,11 @@ before hold = record { hold = hold; loaded = nothing; own = unseen; evaluated = 
 abbrev pub loading : Loaded → Own → WorkKnown
 loading loaded own = record { hold = held; loaded = loaded; own = own; evaluated = false }
 
--- what a work knows once it is evaluated: its cell is held, and the entries of so many references are loaded
+-- what a work knows once it is evaluated: its cell is held, and the entries of n references are loaded
 abbrev pub storing : ℕ → Own → WorkKnown
 storing refs own = record { hold = held; loaded = some_inputs refs; own = own; evaluated = true }
 
--- what a work with so many references knows at a stage
+-- what a work with that number of references knows at a stage
 abbrev pub work_known : ℕ → WorkStage → WorkKnown
 work_known refs LoadMark = before free
 work_known refs Claim = before seen
@@ -142,14 +142,14 @@ WhileEven w e P = WhileMarked w e.cell e.mark P
 abbrev pub HeadStands : PlainWorld → PlainWorkCall → Type 0
 HeadStands w e = WhileEven w e ((w.memory.cached (place.Head e.cell) ≡ e.head) ⊎ IsExcused w e.cell e.mark)
 
--- the head is an edit's that counts, and its text begins as noted
+-- the head is that of a linearized edit, and its text begins as noted
 pub record ReadsPart (w : PlainWorld) (cell head count : ℕ) (noted : List ℕ) (parts : ℕ) : Type 0 where
   pub by : PlainEdit
   pub gave : IsHeadBy (of_cell cell w.counted) head by
   pub size : count ≡ length by.text
   pub start : noted ≡ take (start_of parts) by.text
 
--- the noted head was given to the work's cell by a counted edit, and so many parts of its text are noted
+-- the noted head was given to the work's cell by a linearized edit, and that number of parts of its text are noted
 abbrev pub HasRead : PlainWorld → PlainWorkCall → ℕ → Type 0
 HasRead w e parts = ReadsPart w e.cell e.head e.length e.text parts
 
@@ -159,11 +159,11 @@ pub record ReadsWhole (w : PlainWorld) (cell head : ℕ) (noted : List ℕ) : Ty
   pub gave : IsHeadBy (of_cell cell w.counted) head by
   pub text : noted ≡ by.text
 
--- the noted head was given to the work's cell by a counted edit, and its whole text is noted
+-- the noted head was given to the work's cell by a linearized edit, and its whole text is noted
 abbrev pub HasWhole : PlainWorld → PlainWorkCall → Type 0
 HasWhole w e = ReadsWhole w e.cell e.head e.text
 
--- the noted head was given to the work's cell by an edit that counts
+-- the noted head was given to the work's cell by a linearized edit
 abbrev pub IsHeadOf : PlainWorld → PlainWorkCall → Type 0
 IsHeadOf w e = (by : PlainEdit) × IsHeadBy (of_cell e.cell w.counted) e.head by
 
@@ -193,7 +193,7 @@ pub record WordStands (w : PlainWorld) (cell mark : ℕ) (inputs : List Input) (
 abbrev pub ValueStands : PlainWorld → PlainWorkCall → ℕ → ℕ → Type 0
 ValueStands w e j value = WordStands w e.cell e.mark e.inputs j value
 
--- the content is the cell's by the noted head, its references are among the inputs, and the first so many stand
+-- the content is the cell's by the noted head, its references are among the inputs, and the first n stand
 pub record Gathers (w : PlainWorld) (cell mark top : ℕ) (holds : PlainContent) (inputs : List Input) (count : ℕ) : Type 0 where
   pub head : WhileMarked w cell mark ((w.memory.cached (place.Head cell) ≡ top) ⊎ IsExcused w cell mark)
   pub content : HasContent w cell top holds
@@ -202,7 +202,7 @@ pub record Gathers (w : PlainWorld) (cell mark top : ℕ) (holds : PlainContent)
   pub rows : (j : ℕ) → j < length inputs → IsIndexed w (row_of w inputs j) cell
   pub each : (j : ℕ) → j < count → EntryStands w cell mark inputs j
 
--- the work has its content, and the first so many of its inputs stand
+-- the work has its content, and the first n of its inputs stand
 abbrev pub HasInputs : PlainWorld → PlainWorkCall → ℕ → Type 0
 HasInputs w e count = Gathers w e.cell e.mark e.head e.content e.inputs count
 

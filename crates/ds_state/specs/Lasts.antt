@@ -5,7 +5,7 @@ use Rattle.ds_layout.specs.Mark.{IsClean}
 use Rattle.ds_state.specs.World.{PlainEdit, PlainWorld}
 
 -- the sheet stays; marks and announcements only grow; a cell whose mark is clean keeps its value and its kind for as
--- long as it has that mark; the edits that count stay, in their order, and others come behind
+-- long as it has that mark; the linearized edits stay, in their order, and others come after them
 pub record Lasts (old new : PlainWorld) : Type 0 where
   pub layout : new.layout ≡ old.layout
   pub marks : (cell : ℕ) → old.memory.cached (Mark cell) ≤ new.memory.cached (Mark cell)

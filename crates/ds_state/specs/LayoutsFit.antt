@@ -1,4 +1,4 @@
--- Which layout each process counts on, and how far a migration has come.
+-- Which layout each process relies on, and how far a migration has come.
 use Rattle.std.specs.Prelude.{ℕ, ◌≡◌, ◌≢◌, ◌<◌, [], ◌∷◌}
 use Rattle.ds_words.specs.Memory.{Memory}
 use Rattle.ds_layout.specs.declared.place.Edition.TheVariants.{First, Second}
@@ -14,9 +14,9 @@ use Rattle.ds_state.specs.declared.recovery.RecoverStage.TheVariants.{LoadVersio
 use Rattle.ds_state.specs.declared.migration.MigrateStage.{MigrateStage}
 use Rattle.ds_state.specs.declared.migration.MigrateStage.TheVariants as stages
 use Rattle.ds_state.specs.declared.situation.Situation.{Situation}
-use Rattle.ds_state.specs.declared.situation.Situation.TheVariants.{Idle, Stopped, Editing, Working, Recovering, Reporting, Migrating}
+use Rattle.ds_state.specs.declared.situation.Situation.TheVariants.{Idle, Stopped, Editing, Working, Recovering, Showing, Migrating}
 
--- a recovery has noted the layout that processes see; behind its write-back of the version's word both sides say it
+-- a recovery has noted the layout that processes see; after its write-back of the version's word both sides say it
 abbrev pub WakesAt : PlainWorld → ℕ → PlainRecoverCall → RecoverStage → Type 0
 WakesAt w p e LoadVersion = Unit {0}
 WakesAt w p e FlushVersion = seen_edition w.memory ≡ e.edition
@@ -28,11 +28,11 @@ pub record Copies (m : Memory Place) (at : ℕ) : Type 0 where
   pub cached : m.cached (new_text at) ≡ m.cached (first_text at)
   pub persisted : m.persisted (new_text at) ≡ m.cached (first_text at)
 
--- the first so many words are copied
+-- the first n words are copied
 abbrev pub AreCopied : Memory Place → ℕ → Type 0
 AreCopied m count = (at : ℕ) → at < count → Copies m at
 
--- while it copies: both sides say the first layout, and so many words are copied
+-- while it copies: both sides say the first layout, and n words are copied
 pub record Copying (m : Memory Place) (count : ℕ) : Type 0 where
   pub agrees : Agrees m First
   pub copied : AreCopied m count
@@ -66,7 +66,7 @@ LayoutFits w p Stopped = Unit {0}
 LayoutFits w p (Editing e) = Agrees w.memory e.edition
 LayoutFits w p (Working e) = Agrees w.memory e.edition
 LayoutFits w p (Recovering e) = WakesAt w p e e.stage
-LayoutFits w p (Reporting e) = Agrees w.memory e.edition
+LayoutFits w p (Showing e) = Agrees w.memory e.edition
 LayoutFits w p (Migrating e) = MovesFit w p e
 
 -- a process that migrates the sheet
@@ -76,7 +76,7 @@ IsMoving Stopped = ⊥
 IsMoving (Editing e) = ⊥
 IsMoving (Working e) = ⊥
 IsMoving (Recovering e) = ⊥
-IsMoving (Reporting e) = ⊥
+IsMoving (Showing e) = ⊥
 IsMoving (Migrating e) = Unit {0}
 
 -- no other process migrates

@@ -8,8 +8,8 @@ use Rattle.ds_state.specs.Lasts.{Lasts}
 use Rattle.ds_state.specs.Middles.{HaveMiddles}
 
 -- the process leaves the world sound, with what lasts; each other process's situation and buffer stay, and persisted
--- announcements grow, so that spent numbers stay so; an edit that came to count is one of the process, with a number that was not spent; and where each report
--- under way had a middle, each has one
+-- announcements grow, so that spent numbers stay so; an edit that was linearized is one of the process, with a number
+-- that was not spent; and where each show under way had a middle, each has one
 pub record Leaves (p : ℕ) (old new : PlainWorld) : Type 0 where
   pub sound : IsSound new
   pub lasts : Lasts old new

@@ -1,10 +1,10 @@
-pub mod Stages
+pub mod Points
 pub mod EditEndings
 pub mod Editions
 pub mod Edits
 pub mod EntryWords
 pub mod Works
-pub mod ReportStages
+pub mod ShowStages
 pub mod RecoverStages
 pub mod Underway
 pub mod World
@@ -12,7 +12,7 @@ pub mod Owing
 pub mod Standing
 pub mod Known
 pub mod KnownWork
-pub mod KnownReport
+pub mod KnownShow
 pub mod KnownRecovery
 pub mod CallsFit
 pub mod WordsFit

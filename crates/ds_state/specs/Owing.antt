@@ -20,7 +20,7 @@ use Rattle.ds_state.specs.declared.work.WorkStage.TheVariants as works
 use Rattle.ds_state.specs.declared.recovery.RecoverStage.{RecoverStage}
 use Rattle.ds_state.specs.declared.recovery.RecoverStage.TheVariants as recoveries
 use Rattle.ds_state.specs.declared.situation.Situation.{Situation}
-use Rattle.ds_state.specs.declared.situation.Situation.TheVariants.{Idle, Stopped, Editing, Working, Recovering, Reporting, Migrating}
+use Rattle.ds_state.specs.declared.situation.Situation.TheVariants.{Idle, Stopped, Editing, Working, Recovering, Showing, Migrating}
 
 -- a buffer's entry of the word at a place, with its class
 abbrev pub entry : Place → ℕ → BufferEntry Place
@@ -41,14 +41,14 @@ pub record IsBelowBuffered (m : Memory Place) (p c x : ℕ) : Type 0 where
   pub alone : m.buffer p ≡ entry (place.Mark c) value ∷ []
   pub below : x < value
 
--- a process that tells, at this place of the row, still owes c a mark above x
+-- a process that marks cells, at this place of the row, still owes c a mark above x
 abbrev pub SpreadOwes : Memory Place → ℕ → List ℕ → Spread → ℕ → ℕ → Type 0
 SpreadOwes m p row (LoadRow part) c x = (part ≤ part_with c) ⊎ StandsIn row c
 SpreadOwes m p row (OrTold d) c x = StandsIn row c × (d ≤ c)
 SpreadOwes m p row (FlushTold d) c x = StandsIn row c × ((d < c) ⊎ ((d ≡ c) × (x < m.cached (place.Mark c))))
 SpreadOwes m p row (BackTold d) c x = StandsIn row c × ((d < c) ⊎ ((d ≡ c) × IsBelowBuffered m p c x))
 
--- a work at this stage owes c a mark above x: from its first store until it has told c
+-- a work at this stage owes c a mark above x: from its first store until it has marked c
 abbrev pub WorkOwes : Memory Place → ℕ → List ℕ → WorkStage → ℕ → ℕ → Type 0
 WorkOwes m p row works.StoreKind c x = Unit {0}
 WorkOwes m p row works.FlushValue c x = Unit {0}
@@ -82,7 +82,7 @@ Owes m p Stopped r c x = Unit {0}
 Owes m p (Editing e) r c x = ⊥
 Owes m p (Working e) r c x = (e.cell ≡ r) × WorkOwes m p e.row e.stage c x
 Owes m p (Recovering e) r c x = RecoveryOwes m p e.row e.stage r c x
-Owes m p (Reporting e) r c x = ⊥
+Owes m p (Showing e) r c x = ⊥
 Owes m p (Migrating e) r c x = Unit {0}
 
 -- a work at this stage may have the two sides of its cell's value, or kind, differ
@@ -118,7 +118,7 @@ Parts Stopped r = Unit {0}
 Parts (Editing e) r = ⊥
 Parts (Working e) r = (e.cell ≡ r) × WorkParts e.stage
 Parts (Recovering e) r = RecoveryParts e.stage r
-Parts (Reporting e) r = ⊥
+Parts (Showing e) r = ⊥
 Parts (Migrating e) r = Unit {0}
 
 -- some process holds r on both sides and owes c a mark above x
@@ -186,7 +186,7 @@ Excuses w p Stopped c x = IsPending w p c
 Excuses w p (Editing e) c x = (e.cell ≡ c) × EditOwes w.memory p c e.stage x
 Excuses w p (Working e) c x = ⊥
 Excuses w p (Recovering e) c x = IsPending w p c × RecoveryExcuses w.memory p c e.stage x
-Excuses w p (Reporting e) c x = ⊥
+Excuses w p (Showing e) c x = ⊥
 Excuses w p (Migrating e) c x = IsPending w p c
 
 -- some process of the sheet owes the cell c its edit's mark, above x
@@ -237,7 +237,7 @@ Splits w p Stopped c head = IsPending w p c
 Splits w p (Editing e) c head = (e.cell ≡ c) × SplitsAt e.stage head
 Splits w p (Working e) c head = ⊥
 Splits w p (Recovering e) c head = IsPending w p c × RecoverySplits e.stage
-Splits w p (Reporting e) c head = ⊥
+Splits w p (Showing e) c head = ⊥
 Splits w p (Migrating e) c head = IsPending w p c
 
 -- r and c are cells of the sheet, and the index row of r has the bit of c on the cached side

@@ -16,7 +16,7 @@ use Rattle.ds_state.specs.declared.recovery.RecoverStage.TheVariants.{LoadVersio
 abbrev pub IsFreeing : ℕ → ℕ → ℕ → Type 0
 IsFreeing cells mark cell = (cell < cells) × (generation_of mark ≤ HELD_MOST)
 
--- the row is loaded part by part; then all of it is there, and cells of the sheet are told
+-- the row is loaded part by part; then all of it is there, and cells of the sheet are marked
 abbrev pub IsSpread : ℕ → List ℕ → Spread → Type 0
 IsSpread cells row (LoadRow part) = (part < parts_for cells) × (length row ≡ part)
 IsSpread cells row (OrTold d) = (d < cells) × (length row ≡ parts_for cells)

@@ -8,9 +8,9 @@ use Rattle.ds_state.specs.declared.refusal.Refusal.TheVariants.{Text, NoMemory}
 use Rattle.ds_state.specs.declared.refusal.Refusal.TheVariants as refusal
 use Rattle.ds_state.specs.declared.situation.Rest.{Rest}
 use Rattle.ds_state.specs.declared.situation.Situation.{Situation}
-use Rattle.ds_state.specs.declared.situation.Situation.TheVariants.{Idle, Stopped, Editing, Working, Recovering, Reporting, Migrating}
+use Rattle.ds_state.specs.declared.situation.Situation.TheVariants.{Idle, Stopped, Editing, Working, Recovering, Showing, Migrating}
 
--- the refusal that a text's fault of this kind is: want of memory is a refusal of its own
+-- the refusal that a text's fault of this kind is: out of memory is a refusal of its own
 abbrev pub refusal_by : FaultKind → TextFault → Refusal
 refusal_by kinds.NoMemory fault = NoMemory
 refusal_by kind fault = Text fault
@@ -19,7 +19,7 @@ refusal_by kind fault = Text fault
 abbrev pub refusal_of : TextFault → Refusal
 refusal_of fault = refusal_by fault.kind fault
 
--- what a process in this situation knows of its next edit and of the layout, if it may begin an edit, work or a report;
+-- what a process in this situation knows of its next edit and of the layout, if it may begin an edit, work or a show;
 -- else why it may not
 abbrev pub next_edit : Situation → Result Rest Refusal
 next_edit (Idle next) = Ok next
@@ -27,5 +27,5 @@ next_edit Stopped = Err refusal.Stopped
 next_edit (Editing e) = Err refusal.Busy
 next_edit (Working e) = Err refusal.Busy
 next_edit (Recovering e) = Err refusal.Busy
-next_edit (Reporting e) = Err refusal.Busy
+next_edit (Showing e) = Err refusal.Busy
 next_edit (Migrating e) = Err refusal.Busy

@@ -1,4 +1,4 @@
--- What a process may count on while another one steps.
+-- What a process may rely on while another one steps.
 use Rattle.std.specs.Prelude.{ℕ, ◌≡◌, ◌≢◌, ◌≤◌, ◌⊎◌, ◌++◌, List, All}
 use Rattle.ds_words.specs.Memory.{Memory}
 use Rattle.ds_layout.specs.declared.place.Place.{Place}
@@ -28,8 +28,9 @@ pub record KeepsHold (q c v c' v' : ℕ) : Type 0 where
   pub persisted : IsHeldBy q c → tenure v ≡ tenure c → tenure v' ≡ tenure c
   pub came : IsHeldBy q c' → IsHeldBy q c
 
--- what q may count on, but for one word: its own words keep their cached side, and their persisted side at most
--- catches up; stamped words only grow, bits only come, and the edits that come to count are others' and come behind
+-- what q may rely on, but for one word: its own words keep their cached side, and their persisted side at most
+-- catches up; stamped words only grow, bits only come, and the edits that are linearized are others' and come after
+-- them
 pub record Grows (q : ℕ) (but : Place) (old new : PlainWorld) : Type 0 where
   pub layout : new.layout ≡ old.layout
   pub owned_cached : (r : Place) → IsOwnedBy old.memory q r → r ≢ but → new.memory.cached r ≡ old.memory.cached r
@@ -58,7 +59,7 @@ pub record Bears (old new : PlainWorld) : Type 0 where
   pub kinds : (r : ℕ) → (new.memory.cached (Kind r) ≡ old.memory.cached (Kind r)) ⊎ ((c x : ℕ) → CellOwes new r c x)
   pub heads : (c : ℕ) → (new.memory.cached (Head c) ≡ old.memory.cached (Head c)) ⊎ ((x : ℕ) → IsExcused new c x)
 
--- what q may count on while another process steps: its situation, its issue and its buffer stay, words only change as
+-- what q may rely on while another process steps: its situation, its issue and its buffer stay, words only change as
 -- `Grows` says, and what was owed is owed
 pub record Rely (q : ℕ) (old new : PlainWorld) : Type 0 where
   pub situation : new.situation q ≡ old.situation q
@@ -67,7 +68,7 @@ pub record Rely (q : ℕ) (old new : PlainWorld) : Type 0 where
   pub grows : (but : Place) → Grows q but old new
   pub bears : Bears old new
 
--- the process leaves the world sound, and what each other process may count on is kept
+-- the process leaves the world sound, and what each other process may rely on is kept
 pub record Keeps (p : ℕ) (old new : PlainWorld) : Type 0 where
   pub sound : IsSound new
   pub others : (q : ℕ) → q ≢ p → Rely q old new

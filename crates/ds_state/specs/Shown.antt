@@ -20,12 +20,10 @@ use Rattle.ds_layout.specs.Header.{header_word, header_of}
 use Rattle.ds_layout.specs.TextWords.{part_word, bytes_of, length_in, parts_for}
 use Rattle.ds_state.specs.Edits.{text_parts}
 use Rattle.ds_state.specs.EntryWords.{shown_of}
-use Rattle.ds_state.specs.Stages.{point_at}
 use Rattle.ds_state.specs.Text.{IsText}
 use Rattle.ds_state.specs.World.{PlainEdit, PlainWorld}
-use Rattle.ds_state.specs.declared.stage.Point.{Point}
 use Rattle.ds_state.specs.declared.situation.Situation.{Situation}
-use Rattle.ds_state.specs.declared.situation.Situation.TheVariants.{Idle, Stopped, Editing, Working, Recovering, Reporting, Migrating}
+use Rattle.ds_state.specs.declared.situation.Situation.TheVariants.{Idle, Stopped, Editing, Working, Recovering, Showing, Migrating}
 use Rattle.ds_layout.specs.declared.place.Edition.{Edition}
 use Rattle.ds_state.specs.Editions.{seen_edition, most_in}
 
@@ -45,7 +43,7 @@ MayHold cell Stopped = Unit {0}
 MayHold cell (Editing e) = ⊥
 MayHold cell (Working e) = e.cell ≡ cell
 MayHold cell (Recovering e) = Unit {0}
-MayHold cell (Reporting e) = ⊥
+MayHold cell (Showing e) = ⊥
 MayHold cell (Migrating e) = Unit {0}
 
 -- the value of the cell with this number, as processes see it
@@ -60,21 +58,11 @@ value_in w cell = value_at w.layout w.memory (index_of w.layout.shape cell)
 abbrev pub values_shown : PlainWorld → List Value
 values_shown w = map (λ c. value_at w.layout w.memory c) (range_with_len 0 (cells_of w.layout))
 
--- the last point that a process's edit has behind it, where it is in one and has passed one
-abbrev pub point_of : Situation → Option Point
-point_of (Idle next) = None
-point_of Stopped = None
-point_of (Editing e) = point_at e.stage
-point_of (Working e) = None
-point_of (Recovering e) = None
-point_of (Reporting e) = None
-point_of (Migrating e) = None
-
 -- no cell's mark is dirty or held
 abbrev pub AllClean : Layout → Memory Place → Type 0
 AllClean layout memory = (cell : ℕ) → cell < cells_of layout → state_of (mark_at layout memory cell) ≡ Clean
 
--- a quiet world: each edit is answered, and no cell's mark is dirty or held
+-- a quiescent world: each edit is answered, and no cell's mark is dirty or held
 pub record IsQuiet (w : PlainWorld) : Type 0 where
   pub answered : (p : ℕ) → p < w.layout.processes → w.open_edits p ≡ None
   pub clean : AllClean w.layout w.memory
@@ -85,7 +73,7 @@ last_text [] = []
 last_text (e ∷ []) = e.text
 last_text (e ∷ f ∷ es) = last_text (f ∷ es)
 
--- the first so many parts of a record's text of so many bytes, in a layout, as processes see them
+-- the first parts of a record's text, this number of them, of that number of bytes, in a layout, as processes see them
 abbrev pub parts_at : Memory Place → Edition → ℕ → ℕ → ℕ → ℕ → List ℕ
 parts_at memory edition process number count zero = []
 parts_at memory edition process number count (suc part) =

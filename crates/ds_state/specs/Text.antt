@@ -13,7 +13,7 @@ pub record IsText (text : List ℕ) : Type 0 where
 abbrev pub padding : ℕ → List ℕ
 padding len = replicate (TEXT_MOST - len) 0
 
--- bytes: a text of this length lies at the front, and zeros behind it
+-- bytes: a text of this length lies at the front, and zeros after it
 pub record IsPadded (bytes : List ℕ) (len : ℕ) : Type 0 where
   pub each : All (λ b. b < 256) bytes
   pub size : length bytes ≡ TEXT_MOST

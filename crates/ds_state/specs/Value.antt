@@ -8,7 +8,7 @@ use Rattle.ds_state.specs.Reports.{PlainReports}
 use Rattle.ds_state.specs.World.{PlainEdit, PlainIssue, PlainWorld}
 use Rattle.ds_state.specs.Sound.{IsSound}
 use Rattle.ds_state.specs.Dones.{HasAnswered}
-use Rattle.ds_state.specs.Underway.{reports_under_way}
+use Rattle.ds_state.specs.Underway.{shows_under_way}
 use Rattle.ds_state.specs.declared.reports.TheConstants.{SETTLED_MOST}
 use Rattle.ds_state.specs.declared.situation.Situation.{Situation}
 use Rattle.ds_state.specs.declared.situation.Situation.TheVariants.{Idle}
@@ -16,8 +16,8 @@ use Rattle.ds_layout.specs.declared.place.Edition.{Edition}
 use Rattle.ds_layout.specs.declared.place.Edition.TheVariants.{First}
 use Rattle.ds_state.specs.declared.situation.Rest.{Rest}
 
--- a sheet and its words, what each process does, the edits that count, the edit of each process that is not answered,
--- how many edits were answered Done and how many reports Settled, and each process's last settled report
+-- a sheet and its words, what each process does, the linearized edits, the edit of each process that is not answered,
+-- how many edits were answered Done and how many shows Settled, and each process's last settled show
 pub record WorldValue : Type 0 where
   pub sheet : SheetValue
   pub situations : List Situation
@@ -45,17 +45,17 @@ world_of v = record {
   open_edits = λ p. slice_index_or v.open_edits p None;
 }
 
--- one report for each process, of as many cells as the sheet has
+-- one snapshot for each process, of as many cells as the sheet has
 pub record AreReportsOf (layout : Layout) (r : PlainReports) : Type 0 where
   pub cells : r.cells ≡ cells_of layout
   pub processes : length r.values ≡ layout.processes
 
--- the reports that are under way can be counted, too, when they are settled
+-- the shows that are under way can be counted, too, when they are settled
 abbrev pub HasCountsLeft : List Situation → ℕ → Type 0
-HasCountsLeft situations settled = settled + reports_under_way situations ≤ SETTLED_MOST
+HasCountsLeft situations settled = settled + shows_under_way situations ≤ SETTLED_MOST
 
--- a good value: its world is sound, each process has a situation, a place for its edit and one for its report, as
--- many edits that count are answered as were answered Done, and each report under way can be counted
+-- a good value: its world is sound, each process has a situation, a place for its edit and one for its show, as
+-- many linearized edits are answered as were answered Done, and each show under way can be counted
 pub record IsGood (v : WorldValue) : Type 0 where
   pub sound : IsSound (world_of v)
   pub situations : length v.situations ≡ v.sheet.layout.processes
@@ -69,7 +69,7 @@ pub record IsReserved (v : WorldValue) (room : ℕ) : Type 0 where
   pub good : IsGood v
   pub reserved : v.sheet.layout.processes * RECORDS ≤ room
 
--- the count of settled reports and the values kept of them are the same in both worlds
+-- the count of settled shows and the values kept of them are the same in both worlds
 pub record SameReports (old new : WorldValue) : Type 0 where
   pub settled : new.settled ≡ old.settled
   pub reports : new.reports ≡ old.reports

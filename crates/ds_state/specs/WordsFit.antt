@@ -1,4 +1,4 @@
--- What the two sides of each word have to do with the edits that count.
+-- What the two sides of each word have to do with the linearized edits.
 use Rattle.std.specs.Prelude.{ℕ, ◌≡◌, ◌<◌, ◌≤◌, ◌⊎◌, List, [], ◌∷◌, ◌++◌, Some, Contains, zero, suc}
 use Rattle.ds_formula.specs.Cells.{index_of}
 use Rattle.ds_formula.specs.declared.cells.Cell.{Cell}
@@ -42,7 +42,7 @@ pub record RefersTo (shape : Shape) (text : List ℕ) (row : ℕ) : Type 0 where
   pub refers : Refers content cell
   pub is : index_of shape cell ≡ row
 
--- each counted edit that refers to the cell has its own cell's bit in the row
+-- each linearized edit that refers to the cell has its own cell's bit in the row
 pub record IndexFits (w : PlainWorld) (row part cached persisted : ℕ) : Type 0 where
   pub sides : IsSubset persisted cached
   pub counted : (e : PlainEdit) → Contains w.counted e → part_with e.cell ≡ part → RefersTo w.layout.shape e.text row
@@ -61,12 +61,12 @@ pub record AnnounceFits (w : PlainWorld) (process cached persisted : ℕ) : Type
   pub on_cached : (n : ℕ) → n < RECORDS → cached ≡ announcement n phase.Done → IsKept w process n
   pub on_persisted : (n : ℕ) → n < RECORDS → persisted ≡ announcement n phase.Done → IsKept w process n
 
--- each word of a counted edit's record stands on both sides
+-- each word of a linearized edit's record stands on both sides
 abbrev pub RecordFits : PlainWorld → ℕ → ℕ → ℕ → ℕ → ℕ → Type 0
 RecordFits w process number k cached persisted = (e : PlainEdit) → Contains w.counted e → e.process ≡ process → e.number ≡ number → k < record_size e
     → (cached ≡ record_word e k) × (persisted ≡ record_word e k)
 
--- the edit of this process and number counts, and is not its cell's last
+-- the edit of this process and number is linearized, and is not its cell's last
 pub record IsSuperseded (w : PlainWorld) (process number : ℕ) : Type 0 where
   pub edit : PlainEdit
   pub process_is : edit.process ≡ process
@@ -76,7 +76,7 @@ pub record IsSuperseded (w : PlainWorld) (process number : ℕ) : Type 0 where
   pub after : List PlainEdit
   pub parts : of_cell edit.cell w.counted ≡ before ++ edit ∷ next ∷ after
 
--- a superseded edit has its done bit persisted, and a done bit tells that its edit is kept
+-- a superseded edit has its done bit persisted, and a done bit says that its edit is kept
 pub record DoneFits (w : PlainWorld) (process part cached persisted : ℕ) : Type 0 where
   pub sides : IsSubset persisted cached
   pub superseded : (n : ℕ) → part_with n ≡ part → IsSuperseded w process n → HasBit persisted n
@@ -94,7 +94,7 @@ pub record VersionFits (cached persisted : ℕ) : Type 0 where
   pub behind : persisted ≤ cached
   pub most : cached ≤ 1
 
--- the two sides of the word at a place fit the edits that count
+-- the two sides of the word at a place fit the linearized edits
 abbrev pub WordFits : PlainWorld → Place → ℕ → ℕ → Type 0
 WordFits w Version cached persisted = VersionFits cached persisted
 WordFits w (Head cell) cached persisted = HeadFits w cell cached persisted

@@ -1,4 +1,4 @@
--- Work, a recovery and a report under way, without where they lie in memory.
+-- Work, a recovery and a show under way, without where they lie in memory.
 use Rattle.std.specs.Prelude.{ℕ, ◌+◌, ◌*◌, ◌/◌, ◌%◌, ◌^◌, ◌≡◌, ◌<◌, ◌≤◌, List, length, slice_index_or, true, false}
 use Rattle.ds_layout.specs.Bits.{HasBit, part_with, parts_for}
 use Rattle.ds_state.specs.EntryWords.{value_for, word_for}
@@ -14,7 +14,7 @@ use Rattle.ds_eval.specs.declared.inputs.Entry.{Entry}
 use Rattle.ds_eval.specs.declared.inputs.Input.{Input}
 use Rattle.ds_state.specs.declared.work.WorkStage.{WorkStage}
 use Rattle.ds_state.specs.declared.recovery.RecoverStage.{RecoverStage}
-use Rattle.ds_state.specs.declared.report.ReportStage.{ReportStage}
+use Rattle.ds_state.specs.declared.show.ShowStage.{ShowStage}
 use Rattle.ds_layout.specs.declared.place.Edition.{Edition}
 use Rattle.ds_layout.specs.declared.place.Edition.TheVariants.{Second}
 use Rattle.ds_layout.specs.declared.place.Place.{Place}
@@ -47,7 +47,7 @@ pub record PlainWorkCall : Type 0 where
   pub stage : WorkStage
 
 -- the part of a text that is looked at is one of the text, the reference one of the references, the part of the row
--- is one of the row, and so many are loaded, and the cell that is told is one of the sheet
+-- is one of the row, n are loaded, and the cell that is marked is one of the sheet
 abbrev pub StageFits : PlainWorkCall → WorkStage → Type 0
 StageFits e (LoadText part) = start_of part < e.length
 StageFits e (LoadValue i) = i < length e.inputs
@@ -83,7 +83,7 @@ IsSame e = (e.value ≡ value_for e.entry) × (e.kind ≡ word_for e.entry)
 abbrev pub Differs : PlainWorkCall → Type 0
 Differs e = IsSame e → ⊥
 
--- a work stores where its cell's words are not those of its entry, and tells only cells whose bit the loaded row has;
+-- a work stores where its cell's words are not those of its entry, and marks only cells whose bit the loaded row has;
 -- where it lets its cell go, it knows which of both it was
 abbrev pub TellsFits : PlainWorkCall → WorkStage → Type 0
 TellsFits e StoreValue = Differs e
@@ -134,8 +134,8 @@ pub record PlainRecoverCall : Type 0 where
   pub cell : ℕ
   pub stage : RecoverStage
 
--- a report under way: its process, the number of the process's next edit; what it noted so far
-pub record PlainReportCall : Type 0 where
+-- a show under way: its process, the number of the process's next edit; what it noted so far
+pub record PlainShowCall : Type 0 where
   pub process : ℕ
   pub edition : Edition
   pub next : ℕ
@@ -145,7 +145,7 @@ pub record PlainReportCall : Type 0 where
   pub marks : List ℕ
   pub values : List ℕ
   pub kinds : List ℕ
-  pub stage : ReportStage
+  pub stage : ShowStage
 
 -- a migration under way: its process, how many there are, and the word that it loaded
 pub record PlainMigrateCall : Type 0 where
@@ -154,7 +154,7 @@ pub record PlainMigrateCall : Type 0 where
   pub word : ℕ
   pub stage : MigrateStage
 
--- how many words the texts of the first layout have, of so many processes
+-- how many words the texts of the first layout have, of that number of processes
 abbrev pub old_words : ℕ → ℕ
 old_words processes = processes * RECORDS * FIRST_PARTS
 

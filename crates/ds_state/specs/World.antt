@@ -26,12 +26,12 @@ pub record PlainEdit : Type 0 where
 abbrev pub edit_of : PlainEditCall → PlainEdit
 edit_of e = record { process = e.process; number = e.number; cell = e.cell; text = e.text }
 
--- an edit that is not answered, and how many edits counted when it was issued
+-- an edit that is not answered, and how many edits were linearized when it was issued
 pub record PlainIssue : Type 0 where
   pub edit : PlainEdit
   pub since : ℕ
 
--- the words by their places, what each process does, the edits that count in their order, and the edit of each
+-- the words by their places, what each process does, the linearized edits in their order, and the edit of each
 -- process that is not answered
 pub record PlainWorld : Type 0 where
   pub layout : Layout
@@ -70,7 +70,7 @@ of_cell cell edits = filter (λ e. e.cell == cell) edits
 abbrev pub head_by : ℕ → PlainEdit → ℕ
 head_by stamp e = head_word (record { stamp = stamp; process = e.process; number = e.number })
 
--- the head after these edits, where so many came before and left this one
+-- the head after these edits, where n came before and left this one
 abbrev pub head_from : ℕ → ℕ → List PlainEdit → ℕ
 head_from stamp head [] = head
 head_from stamp head (e ∷ es) = head_from (stamp + 1) (head_by (stamp + 1) e) es
@@ -79,7 +79,7 @@ head_from stamp head (e ∷ es) = head_from (stamp + 1) (head_by (stamp + 1) e) 
 unfoldable pub head_after_all : List PlainEdit → ℕ
 head_after_all es = head_from 0 0 es
 
--- the edits of the cell when so many edits counted
+-- the edits of the cell when n edits were linearized
 abbrev pub of_cell_when : PlainWorld → ℕ → ℕ → List PlainEdit
 of_cell_when w cell count = of_cell cell (take count w.counted)
 

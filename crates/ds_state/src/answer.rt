@@ -6,7 +6,7 @@ ghost use Rattle.ds_state.specs.EditEndings.{other_of, end_of};
 
 use crate::migration::MigrateEnd;
 use crate::recovery::RecoveryEnd;
-use crate::report::ReportEnd;
+use crate::show::ShowEnd;
 use crate::stage::Outcome;
 use crate::work::WorkEnd;
 use ds_layout::head::Head;
@@ -23,7 +23,7 @@ pub struct Other {
 /// How an edit ended. Its number says which of its process's edits it is, from 0.
 #[derive(Clone, Copy, Debug, PartialEq, Eq)]
 pub enum EditEnd {
-    /// The edit of this number counts.
+    /// The edit of this number is linearized.
     Done(usize),
     /// The edit of this number does not: the other edit stood in its place when it tried to take it. The number is spent.
     Overtaken(usize, Other),
@@ -36,8 +36,8 @@ pub enum Answer {
     Edit(EditEnd),
     /// Work on a cell.
     Work(WorkEnd),
-    /// A report.
-    Report(ReportEnd),
+    /// A show.
+    Show(ShowEnd),
     /// A recovery.
     Recovery(RecoveryEnd),
     /// A migration.

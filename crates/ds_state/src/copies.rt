@@ -5,13 +5,13 @@ ghost use Rattle.std.specs.Prelude.{◌≡◌, ◌≤◌, IfOk, vec_capacity};
 use crate::edit::EditCall;
 use crate::migration::MigrateCall;
 use crate::recovery::RecoverCall;
-use crate::report::ReportCall;
+use crate::show::ShowCall;
 use crate::situation::Situation;
 use crate::work::WorkCall;
 use crate::world::World;
 use std::alloc::{AllocError, Global};
 
-// Equal items, in memory of their own, with room for at least so many.
+// Equal items, in memory of their own, with room for at least that number.
 pub(crate) fn with_room<T: Copy>(
     alloc: Global,
     items: &[T],
@@ -26,7 +26,7 @@ pub(crate) fn with_room<T: Copy>(
 }
 
 impl EditCall {
-    /// An equal call, in memory of its own. An error is a want of memory.
+    /// An equal call, in memory of its own. An error means that an allocation failed.
     pub fn copy(&self, alloc: Global) -> Result<EditCall, AllocError>
         ensures { IfOk result (λ call. call ≡ self.now) }
     {
@@ -45,7 +45,7 @@ impl EditCall {
 }
 
 impl WorkCall {
-    /// An equal call, in memory of its own. An error is a want of memory.
+    /// An equal call, in memory of its own. An error means that an allocation failed.
     pub fn copy(&self, alloc: Global) -> Result<WorkCall, AllocError>
         ensures { IfOk result (λ call. call ≡ self.now) }
     {
@@ -106,16 +106,16 @@ impl MigrateCall {
     }
 }
 
-impl ReportCall {
-    /// An equal call, in memory of its own. An error is a want of memory.
-    pub fn copy(&self, alloc: Global) -> Result<ReportCall, AllocError>
+impl ShowCall {
+    /// An equal call, in memory of its own. An error means that an allocation failed.
+    pub fn copy(&self, alloc: Global) -> Result<ShowCall, AllocError>
         ensures { IfOk result (λ call. call ≡ self.now) }
     {
         let announcements = with_room(alloc, &self.announcements, self.processes)?;
         let marks = with_room(alloc, &self.marks, self.cells)?;
         let values = with_room(alloc, &self.values, self.cells)?;
         let kinds = with_room(alloc, &self.kinds, self.cells)?;
-        Ok(ReportCall {
+        Ok(ShowCall {
             process: self.process,
             edition: self.edition,
             next: self.next,
@@ -131,7 +131,7 @@ impl ReportCall {
 }
 
 impl Situation {
-    /// An equal situation, in memory of its own. An error is a want of memory.
+    /// An equal situation, in memory of its own. An error means that an allocation failed.
     pub fn copy(&self, alloc: Global) -> Result<Situation, AllocError>
         ensures { IfOk result (λ situation. situation ≡ self.now) }
     {
@@ -141,7 +141,7 @@ impl Situation {
             Situation::Editing(call) => Ok(Situation::Editing(call.copy(alloc)?)),
             Situation::Working(call) => Ok(Situation::Working(call.copy(alloc)?)),
             Situation::Recovering(call) => Ok(Situation::Recovering(call.copy())),
-            Situation::Reporting(call) => Ok(Situation::Reporting(call.copy(alloc)?)),
+            Situation::Showing(call) => Ok(Situation::Showing(call.copy(alloc)?)),
             Situation::Migrating(call) => Ok(Situation::Migrating(call.copy())),
         }
     }
@@ -160,7 +160,7 @@ fn all_copied(alloc: Global, situations: &Vec<Situation>) -> Result<Vec<Situatio
 
 impl World {
     /// An equal world, in memory of its own, with the room that the edits to come need. What happens to the one
-    /// leaves the other as it is. An error is a want of memory.
+    /// leaves the other as it is. An error means that an allocation failed.
     pub fn copy(&self, alloc: Global) -> Result<World, AllocError>
         ensures { IfOk result (λ world. world ≡ self.now) }
     {

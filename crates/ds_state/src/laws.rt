@@ -8,7 +8,7 @@ ghost use Rattle.ds_layout.specs.declared.place.Place.TheVariants.{Mark};
 ghost use Rattle.ds_layout.specs.declared.place.TheConstants.{RECORDS};
 ghost use Rattle.ds_state.specs.World.{PlainEdit, PlainWorld, of_cell};
 ghost use Rattle.ds_state.specs.Shown.{last_text, mark_at, text_at, IsQuiet, MayHold, values_shown};
-ghost use Rattle.ds_state.specs.KnownReport.{AreScratch};
+ghost use Rattle.ds_state.specs.KnownShow.{AreScratch};
 ghost use Rattle.ds_state.specs.Value.{WorldValue, IsGood};
 ghost use Rattle.ds_state.specs.Fresh.{IsNew};
 ghost use Rattle.ds_state.specs.Events.{Evicts};
@@ -17,13 +17,13 @@ ghost use Rattle.ds_state.specs.Rely.{Rely, Keeps};
 ghost use Rattle.ds_state.specs.Lasts.{Lasts};
 ghost use Rattle.ds_state.specs.Middles.{Middle, Middles};
 ghost use Rattle.ds_state.specs.Leaves.{Leaves};
-ghost use Rattle.ds_state.specs.Works.{PlainReportCall};
+ghost use Rattle.ds_state.specs.Works.{PlainShowCall};
 ghost use Rattle.ds_state.specs.Spent.{IsSpent};
 ghost use Rattle.ds_state.specs.Headers.{IsSaid, HasCell};
 ghost use Rattle.ds_state.specs.Edits.{PlainEditCall};
 ghost use Rattle.ds_state.specs.declared.stage.Outcome.{Outcome};
 ghost use Rattle.ds_state.specs.declared.stage.Stage.TheVariants.{Swap, Answer};
-ghost use Rattle.ds_state.specs.declared.situation.Situation.TheVariants.{Stopped, Editing, Reporting};
+ghost use Rattle.ds_state.specs.declared.situation.Situation.TheVariants.{Stopped, Editing, Showing};
 ghost use Rattle.ds_state.specs.Crashes.{CrashesTo, StopsIn};
 ghost use Rattle.ds_state.specs.CallsFit.{CallFits};
 ghost use Rattle.ds_state.specs.LayoutsFit.{LayoutFits};
@@ -35,34 +35,34 @@ pub fn new_is_sound()
     ensures { (w : PlainWorld) → IsNew w → IsSound w }
 {}
 
-/// An eviction leaves a sound sheet sound, and leaves each process what it may count on.
+/// An eviction leaves a sound sheet sound, and leaves each process what it may rely on.
 pub fn evictions_keep_soundness()
     ensures { (place : Place) (old new : PlainWorld) → IsSound old → Evicts place old new
         → IsSound new × ((q : ℕ) → q < old.layout.processes → Rely q old new) }
 {}
 
-/// What a call knows stays as long as all that it may count on stays.
+/// What a call knows stays as long as all that it may rely on stays.
 #[tactic(auto, using(crate::proofs::Stable::call_stable))]
 pub fn calls_are_stable()
     ensures { (old new : PlainWorld) (q : ℕ) (s : Situation) → Rely q old new
         → LayoutFits old q s → CallFits old q s → CallFits new q s }
 {}
 
-/// No more edits count than there are records: 256 for each process.
+/// No more edits are linearized than there are records: 256 for each process.
 #[tactic(auto, using(crate::proofs::Few::counted_few))]
 pub fn few_edits_count()
     ensures { (w : PlainWorld) → IsSound w → length w.counted ≤ RECORDS * w.layout.processes }
 {}
 
-/// The text of a cell, as processes see it, is that of the last of its edits that count, and empty
-/// where none counts.
+/// The text of a cell, as processes see it, is that of the last of its linearized edits, and empty
+/// where none is linearized.
 #[tactic(auto, using(crate::proofs::LastText::text_right))]
 pub fn texts_are_of_last_edits()
     ensures { (w : PlainWorld) (cell : ℕ) → IsSound w
         → text_at w.layout w.memory cell ≡ last_text (of_cell cell w.counted) }
 {}
 
-/// A cell's mark is told with all that its word says. Who holds it, where anyone does, is a process
+/// A cell's mark is shown with all that its word says. Who holds it, where anyone does, is a process
 /// of the sheet, and either works on just this cell, or is stopped or recovers and has not given it
 /// back.
 #[tactic(auto, using(crate::proofs::MarkLaws::mark_whole, crate::proofs::MarkLaws::mark_names))]
@@ -74,7 +74,7 @@ pub fn marks_are_of_their_holders()
         → (q < w.layout.processes) × MayHold cell (w.situation q) }
 {}
 
-/// No more edits were answered Done than count.
+/// No more edits were answered Done than are linearized.
 #[tactic(auto, using(crate::proofs::Dones::few_dones))]
 pub fn few_edits_are_done()
     ensures { (v : WorldValue) → IsGood v → v.done ≤ length v.counted }
@@ -85,7 +85,7 @@ pub fn crashes_keep_soundness()
     ensures { (old new : PlainWorld) → IsSound old → CrashesTo old new → IsSound new }
 {}
 
-/// A stop leaves a sound sheet sound, and leaves each other process what it may count on.
+/// A stop leaves a sound sheet sound, and leaves each other process what it may rely on.
 pub fn stops_keep_soundness()
     ensures { (p : ℕ) (old new : PlainWorld) → IsSound old → p < old.layout.processes → StopsIn p old new → Keeps p old new }
 {}
@@ -102,12 +102,12 @@ pub fn spent_numbers_stay()
 {}
 
 /// Where a side of a process's announcement says a number, in any phase, both sides of the header of
-/// that record say one and the same cell of the sheet, also where that edit does not count.
+/// that record say one and the same cell of the sheet, also where that edit is not linearized.
 pub fn announced_edits_have_their_cell()
     ensures { (w : PlainWorld) (p number : ℕ) → IsSound w → IsSaid w.memory p number → HasCell w p number }
 {}
 
-/// An edit that may come to count with its next step has no spent number, and one that is answered
+/// An edit that may be linearized with its next step has no spent number, and one that is answered
 /// with its next step has.
 pub fn spent_numbers_do_not_count()
     ensures swap { (w : PlainWorld) (e : PlainEditCall) (head n : ℕ) → IsSound w
@@ -124,7 +124,7 @@ pub fn calm_sheets_are_right()
     ensures { (w : PlainWorld) → IsSound w → IsCalm w → (cell : ℕ) → IsLocalAt w cell }
 {}
 
-/// A quiet sheet shows the values of the edits that count, from scratch.
+/// A quiescent sheet shows the values of the linearized edits, from scratch.
 #[tactic(auto, using(crate::proofs::QuietShown::quiet_shows))]
 pub fn quiet_sheets_are_right()
     ensures { (w : PlainWorld) → IsSound w → IsQuiet w
@@ -132,7 +132,7 @@ pub fn quiet_sheets_are_right()
 {}
 
 /// Whatever a process does, and at each eviction, what lasts does: marks and announcements grow, a
-/// cell with a clean mark keeps its value and kind while it has that mark, and the edits that count
+/// cell with a clean mark keeps its value and kind while it has that mark, and the linearized edits
 /// stay, in their order. It lasts from any moment to any later one.
 pub fn sheets_last()
     ensures kept { (p : ℕ) (old new : PlainWorld) → Keeps p old new → Lasts old new }
@@ -142,15 +142,15 @@ pub fn sheets_last()
     ensures counts { (old new : PlainWorld) → Lasts old new → (d : PlainEdit) → Contains old.counted d → Contains new.counted d }
 {}
 
-/// The middle of a report stays that report's while all stays that its process may count on. So the
-/// middles of all reports under way stay while a process steps, begins or answers that does not
-/// report then, while one stops, and at each eviction. A new
-/// sheet, one in which every process is stopped, and one after a crash, has no report under way.
+/// The middle of a show stays that show's while all stays that its process may rely on. So the
+/// middles of all shows under way stay while a process steps, begins or answers that shows
+/// nothing then, while one stops, and at each eviction. A new
+/// sheet, one in which every process is stopped, and one after a crash, has no show under way.
 pub fn middles_stay()
-    ensures one { (p : ℕ) (first old new : PlainWorld) (e : PlainReportCall) (mid : PlainWorld) → Rely p old new
+    ensures one { (p : ℕ) (first old new : PlainWorld) (e : PlainShowCall) (mid : PlainWorld) → Rely p old new
         → Middle first old p e mid → Middle first new p e mid }
     ensures others { (firsts mids : ℕ → PlainWorld) (old new : PlainWorld) → Middles firsts mids old
-        → (p : ℕ) → Keeps p old new → ((e : PlainReportCall) → new.situation p ≡ Reporting e → ⊥) → Middles firsts mids new }
+        → (p : ℕ) → Keeps p old new → ((e : PlainShowCall) → new.situation p ≡ Showing e → ⊥) → Middles firsts mids new }
     ensures stopped { (firsts mids : ℕ → PlainWorld) (old new : PlainWorld) → Middles firsts mids old
         → (p : ℕ) → IsSound old → p < old.layout.processes → StopsIn p old new → Middles firsts mids new }
     ensures evicted { (firsts mids : ℕ → PlainWorld) (old new : PlainWorld) → Middles firsts mids old
@@ -167,7 +167,7 @@ pub fn doings_leave_others()
     ensures on { (p : ℕ) (old mid new : PlainWorld) → Leaves p old mid → Leaves p mid new → Leaves p old new }
 {}
 
-/// As many reports can be counted as a word has numbers, less one.
+/// As many shows can be counted as a word has numbers, less one.
 pub fn constants_are_limits()
     ensures { constants.SETTLED_MOST ≡ 2 ^ 64 - 1 }
 {}

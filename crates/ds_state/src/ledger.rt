@@ -1,4 +1,4 @@
-//! The edits of a sheet, those that count and those that are not answered.
+//! The edits of a sheet, those that are linearized and those that are not answered.
 
 ghost use Rattle.std.specs.Prelude.{◌≡◌};
 
@@ -53,7 +53,7 @@ impl Edit {
 pub struct Issue {
     /// The edit.
     pub edit: Edit,
-    /// How many edits counted when it was issued.
+    /// How many edits were linearized when it was issued.
     pub since: usize,
 }
 

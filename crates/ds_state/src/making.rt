@@ -71,8 +71,8 @@ fn made(alloc: Global, words: SheetWords, edition: Edition) -> Result<World, All
 }
 
 impl World {
-    /// A new sheet of this shape, for 1 to 8 processes, in the second layout: texts of up to 240 bytes. An error is a
-    /// want of memory.
+    /// A new sheet of this shape, for 1 to 8 processes, in the second layout: texts of up to 240 bytes. An error means
+    /// that an allocation failed.
     pub fn new(alloc: Global, shape: Shape, processes: usize) -> Result<World, AllocError>
         requires some { 1 ≤ processes }
         requires limited { processes ≤ PROCESS_LIMIT }
@@ -90,7 +90,7 @@ impl World {
     }
 
     /// A new sheet of this shape, for 1 to 8 processes, in the first layout: texts of up to 120 bytes, with the room
-    /// that a migration to the second layout needs. An error is a want of memory.
+    /// that a migration to the second layout needs. An error means that an allocation failed.
     pub fn first(alloc: Global, shape: Shape, processes: usize) -> Result<World, AllocError>
         requires some { 1 ≤ processes }
         requires limited { processes ≤ PROCESS_LIMIT }

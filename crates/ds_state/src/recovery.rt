@@ -2,19 +2,19 @@
 
 ghost use Rattle.std.specs.Prelude.{◌≡◌};
 
-use crate::row::Row;
+use crate::row::IndexRow;
 use crate::spread::Spread;
 use ds_layout::place::Edition;
 use std::marker::Model;
 
-/// What a recovery tells of an edit of its process.
+/// What a recovery reports of an edit of its process.
 #[derive(Clone, Copy, Debug, PartialEq, Eq)]
-pub struct Told {
+pub struct LastEdit {
     /// Which edit of the process it is, from 0.
     pub number: usize,
-    /// Its cell, by its number.
+    /// The cell of the edit, by its number.
     pub cell: usize,
-    /// Whether it counts.
+    /// Whether it is linearized.
     pub counts: bool,
 }
 
@@ -24,7 +24,7 @@ pub enum RecoveryEnd {
     /// The process has announced no edit.
     Nothing,
     /// The process's last edit that it announced ended so.
-    Last(Told),
+    Last(LastEdit),
 }
 
 /// What a recovery does next.
@@ -46,11 +46,11 @@ pub enum RecoverStage {
     BackValue(usize),
     /// Write the kind back.
     BackKind(usize),
-    /// Tell the cells that refer to it.
+    /// Mark the cells that refer to it.
     Telling(usize, Spread),
     /// Give it back, dirty.
     Give(usize),
-    /// The same, since it was marked meanwhile.
+    /// Give it back, dirty, since it was marked meanwhile.
     GiveDirty(usize),
     /// Flush the mark.
     FlushGiven(usize),
@@ -98,7 +98,7 @@ pub struct RecoverCall {
     /// The mark that it saw.
     pub mark: u64,
     /// The index row so far, in place.
-    pub row: Row,
+    pub row: IndexRow,
     /// The announcement that it saw.
     pub announcement: u64,
     /// The cell of the edit in doubt.

@@ -8,7 +8,7 @@ use ds_formula::fault::{FaultKind, TextFault};
 use std::alloc::{AllocError, AllocFailed};
 
 /// Why a call is refused. After a refusal the sheet and its processes are as they were. Each cause
-/// has a code, the number that a script prints behind `refused`.
+/// has a code, the number that a script prints after `refused`.
 #[derive(Clone, Copy, Debug, PartialEq, Eq)]
 pub enum Refusal {
     /// The text has no content, but this fault. The code that scripts print is 1.
@@ -17,7 +17,7 @@ pub enum Refusal {
     Busy,
     /// The process is stopped. The code that scripts print is 3.
     Stopped,
-    /// The process has spent its 256 records; of a report: so many were answered Settled that no more
+    /// The process has spent its 256 records; of a show: too many were answered Settled, so that no more
     /// can be counted. The code that scripts print is 4.
     RecordsFull,
     /// An allocation failed. The code that scripts print is 5.

@@ -1,7 +1,7 @@
-//! The last settled report of each process.
+//! The last settled show of each process.
 
 ghost use Rattle.std.specs.Prelude.{◌≡◌, ◌<◌, ◌≤◌, IfOk, All, [], length, replicate, slice_index_or, vec_capacity};
-ghost use Rattle.ds_state.specs.KnownReport.{values_of, noted};
+ghost use Rattle.ds_state.specs.KnownShow.{values_of, noted};
 
 use crate::copies::with_room;
 use crate::shown;
@@ -10,11 +10,11 @@ use ds_layout::stored::Stored;
 use std::alloc::{AllocError, Global};
 use std::marker::Model;
 
-/// How many reports can be counted as answered Settled: as many as a count of 64 bits holds.
+/// How many shows can be counted as answered Settled: as many as a count of 64 bits holds.
 pub const SETTLED_MOST: u64 = u64::MAX;
 
-/// The values of each process's last report that was answered Settled: none at first. Each has room
-/// for the values of all cells, so that a report takes no memory when it is answered.
+/// The values of each process's last show that was answered Settled: none at first. Each has room
+/// for the values of all cells, so that a show takes no memory when it is answered.
 #[derive(Drop)]
 pub struct Reports {
     cells: usize,
@@ -32,8 +32,9 @@ impl Model for Reports {
     ghost invariant = { λ r. HaveRoom r.cells (map (λ v. vec_capacity v) r.values.items) };
 }
 
-// The values that these words of cells show, one pair of words for each, in room that is reserved.
-fn fill(report: &mut Vec<Value>, cells: usize, values: &[u64], kinds: &[u64])
+/// The values that these words of cells show, a pair of words for each cell, in a list that has room for them: what it
+/// held before goes.
+pub fn fill(report: &mut Vec<Value>, cells: usize, values: &[u64], kinds: &[u64])
     requires room { cells ≤ vec_capacity report.old }
     requires values { length values.now ≡ cells }
     requires kinds { length kinds.now ≡ cells }
@@ -50,8 +51,8 @@ fn fill(report: &mut Vec<Value>, cells: usize, values: &[u64], kinds: &[u64])
 impl Reports {
     ghost use Rattle.ds_state.specs.Reports.{no_reports, with_report};
 
-    /// No report of any of so many processes, with room for so many cells each. An error is a want
-    /// of memory.
+    /// No show of any of n processes, with room for m cells each. An error means that an
+    /// allocation failed.
     pub fn new(alloc: Global, processes: usize, cells: usize) -> Result<Reports, AllocError>
         ensures { IfOk result (λ r. r ≡ no_reports processes cells) }
     {
@@ -62,7 +63,7 @@ impl Reports {
         Ok(Reports { cells, values })
     }
 
-    /// Equal reports, in memory of their own, with the same room. An error is a want of memory.
+    /// Equal snapshots, in memory of their own, with the same room. An error means that an allocation failed.
     pub fn copy(&self, alloc: Global) -> Result<Reports, AllocError>
         ensures { IfOk result (λ r. r ≡ self.now) }
     {
@@ -75,7 +76,7 @@ impl Reports {
     }
 
     /// Keeps the values that these words show, cell by cell, as those of a process's last settled
-    /// report, in place of the one before. No memory is taken.
+    /// snapshot, in place of the one before. No memory is taken.
     pub fn keep(&mut self, process: usize, values: &[u64], kinds: &[u64])
         requires process { process < length self.old.values }
         requires values { length values.now ≡ self.old.cells }
@@ -85,7 +86,7 @@ impl Reports {
         fill(&mut self.values[process], self.cells, values, kinds);
     }
 
-    /// The values of a process's last settled report, row by row from the left; none where it has
+    /// The values of a process's last settled show, row by row from the left; none where it has
     /// had none.
     pub fn of(&self, process: usize) -> &[Value]
         requires { process < length self.now.values }

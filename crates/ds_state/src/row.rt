@@ -9,11 +9,11 @@ use std::marker::Model;
 
 /// The words of an index row that were loaded, in place: it takes no memory.
 #[derive(Drop)]
-pub struct Row {
+pub struct IndexRow {
     words: ArrayVec<u64, ROW_PARTS>,
 }
 
-impl Model for Row {
+impl Model for IndexRow {
     ghost use Rattle.std.specs.Prelude.{List, ℕ};
 
     ghost Value = { List ℕ };
@@ -21,12 +21,12 @@ impl Model for Row {
     ghost view = { λ r. r.words.items };
 }
 
-impl Row {
+impl IndexRow {
     /// No word.
-    pub fn new() -> Row
+    pub fn new() -> IndexRow
         ensures { result ≡ [] }
     {
-        Row {
+        IndexRow {
             words: ArrayVec::new(),
         }
     }
@@ -40,7 +40,7 @@ impl Row {
         self.words.push(word);
     }
 
-    /// Its words become none.
+    /// The row has no words then.
     pub fn clear(&mut self)
         ensures { self.new ≡ [] }
     {
@@ -48,15 +48,15 @@ impl Row {
     }
 
     /// An equal row.
-    pub fn copy(&self) -> Row
+    pub fn copy(&self) -> IndexRow
         ensures { result ≡ self.now }
     {
         let mut words = ArrayVec::new();
         let _fits = words.try_extend_from_slice(self.words.as_slice());
-        Row { words }
+        IndexRow { words }
     }
 
-    /// Its words.
+    /// The words of the row.
     #[inline(always)]
     pub fn as_slice(&self) -> &[u64]
         ensures { result.now ≡ self.now }
@@ -65,7 +65,7 @@ impl Row {
     }
 }
 
-impl fmt::Debug for Row {
+impl fmt::Debug for IndexRow {
     fn fmt<W: fmt::Write>(&self, f: &mut fmt::Formatter<W>) -> fmt::Result {
         fmt::Debug::fmt(&self.as_slice(), f)
     }

@@ -111,7 +111,7 @@ pub fn header_in(edition: Edition, header: Option<Header>) -> Option<Header>
     }
 }
 
-// The parts of a record's text, of so many bytes.
+// The parts of a record's text, of that number of bytes.
 fn parts<W: SheetReader>(
     words: &W,
     alloc: Global,
@@ -141,7 +141,7 @@ fn parts<W: SheetReader>(
 
 /// The text of the record that this process has at this number, in a layout: as many bytes as its
 /// header says. Where the header is none of the sheet's, or says more than the layout has, no part
-/// is read and the text is empty. An error is a want of memory.
+/// is read and the text is empty. An error means that an allocation failed.
 pub fn record_text<W: SheetReader>(
     words: &W,
     alloc: Global,
@@ -167,7 +167,7 @@ pub fn record_text<W: SheetReader>(
 }
 
 /// The text of the cell with this number: that of the record that its head names, and empty where
-/// its word is no head. An error is a want of memory.
+/// its word is no head. An error means that an allocation failed.
 pub fn text<W: SheetReader>(words: &W, alloc: Global, cell: usize) -> Result<Vec<u8>, AllocError>
     requires { cell < cells_of (W.sheet words.now) }
     ensures { IfOk result (λ v. v.items ≡ text_at (W.sheet words.now) (W.seen words.now) cell) }

@@ -7,7 +7,7 @@ use crate::edit::EditCall;
 use crate::migration::MigrateCall;
 use crate::recovery::RecoverCall;
 use crate::refusal::Refusal;
-use crate::report::ReportCall;
+use crate::show::ShowCall;
 use crate::work::WorkCall;
 use ds_layout::place::Edition;
 
@@ -33,8 +33,8 @@ pub enum Situation {
     Working(WorkCall),
     /// It recovers.
     Recovering(RecoverCall),
-    /// It reports.
-    Reporting(ReportCall),
+    /// It shows the sheet.
+    Showing(ShowCall),
     /// It migrates the sheet to the second layout.
     Migrating(MigrateCall),
 }
@@ -60,7 +60,7 @@ pub fn put(situations: &mut Vec<Situation>, process: usize, situation: Situation
     situations[process] = situation;
 }
 
-/// The number of the next edit of a process in this situation, from 0 to 256, and the layout that it noted, if it may begin an edit, work or a report.
+/// The number of the next edit of a process in this situation, from 0 to 256, and the layout that it noted, if it may begin an edit, work or a show.
 /// Else the refusal: `Busy` where it is in a call, `Stopped` where it is stopped.
 #[inline(always)]
 pub fn next_edit(situation: &Situation) -> Result<Rest, Refusal>
@@ -70,7 +70,7 @@ pub fn next_edit(situation: &Situation) -> Result<Rest, Refusal>
         Situation::Idle(next) => Ok(*next),
         Situation::Stopped => Err(Refusal::Stopped),
         Situation::Editing(_) | Situation::Working(_) => Err(Refusal::Busy),
-        Situation::Recovering(_) | Situation::Reporting(_) | Situation::Migrating(_) => {
+        Situation::Recovering(_) | Situation::Showing(_) | Situation::Migrating(_) => {
             Err(Refusal::Busy)
         }
     }

@@ -23,7 +23,7 @@ pub enum Spread {
 }
 
 impl Spread {
-    /// The access of this stage, where the cells that refer to the one with this number are told.
+    /// The access of this stage, where the cells that refer to the one with this number are marked.
     #[inline(always)]
     pub fn access(self, cell: usize) -> Access<Place>
         ensures { result ≡ spread_access cell self }
@@ -37,7 +37,7 @@ impl Spread {
     }
 }
 
-/// The first cell from this one on, of so many, whose bit stands in the row; None where none does.
+/// The first cell from this one on, of n, whose bit stands in the row; None where none does.
 #[inline(always)]
 pub fn told_from(row: &[u64], cells: usize, from: usize) -> Option<usize>
     ensures { result ≡ told_from row.now (cells - from) from }

@@ -1,8 +1,5 @@
 //! The stages of an edit.
 
-ghost use Rattle.std.specs.Prelude.{◌≡◌, ◌↔◌, ◌≤◌, IsTrue};
-ghost use Rattle.ds_state.specs.Stages.{point_at};
-
 use ds_layout::head::Head;
 
 /// How an edit ended.
@@ -31,7 +28,7 @@ pub enum Stage {
     FlushHeader,
     /// Flush a part of the text.
     FlushText(usize),
-    /// Write back an entry of its record, with so many behind it.
+    /// Write back an entry of its record; the number is of those that come after it.
     BackRecord(usize),
     /// Announce itself.
     StorePending,
@@ -78,52 +75,4 @@ pub enum Stage {
     BackOutcome(Outcome),
     /// Answer how it ended.
     Answer(Outcome),
-}
-
-/// What an edit has behind it, in this order.
-#[derive(Clone, Copy, Debug, PartialEq, Eq)]
-pub enum Point {
-    /// Its record stands on both sides.
-    Written,
-    /// It is announced on both sides.
-    Announced,
-    /// Its cell stands in the index row of each of its references on both sides.
-    Indexed,
-    /// The edit that it found is persisted as one that counts.
-    Helped,
-    /// It has taken the place of the head that it noted, or has found another one there.
-    Swung,
-    /// Its head, or a later one, is persisted.
-    Kept,
-    /// Its cell is marked on both sides.
-    Marked,
-    /// How it ended is announced on both sides.
-    Answered,
-}
-
-impl Stage {
-    ghost use Rattle.ds_state.specs.declared.stage.Stage.{Stage};
-
-    /// The last point that an edit at this stage has behind it: none while it writes its record.
-    pub fn point(self) -> Option<Point>
-        ensures { result ≡ point_at self }
-    {
-        match self {
-            Stage::StoreHeader | Stage::StoreText(_) => None,
-            Stage::FlushHeader | Stage::FlushText(_) | Stage::BackRecord(_) => None,
-            Stage::StorePending | Stage::FlushPending | Stage::BackPending => Some(Point::Written),
-            Stage::OrIndex(_) | Stage::FlushIndex(_) | Stage::BackIndex(_) => Some(
-                Point::Announced,
-            ),
-            Stage::LoadHead | Stage::FlushNoted(_) | Stage::BackNoted(_) => Some(Point::Indexed),
-            Stage::OrDone(_) | Stage::FlushDone(_) | Stage::BackDone(_) => Some(Point::Indexed),
-            Stage::Swap(_) => Some(Point::Helped),
-            Stage::FlushOwn(_) | Stage::BackOwn(_) => Some(Point::Swung),
-            Stage::OrMark(_) | Stage::FlushMark(_) | Stage::BackMark(_) => Some(Point::Kept),
-            Stage::StoreOutcome(_) | Stage::FlushOutcome(_) | Stage::BackOutcome(_) => {
-                Some(Point::Marked)
-            }
-            Stage::Answer(_) => Some(Point::Answered),
-        }
-    }
 }

@@ -67,6 +67,7 @@ impl Text {
     pub fn is_always_a_text(&self)
         ensures { IsText self.now }
     {
+        // For the proof: reading the field gives its invariant.
         let _bytes = &self.bytes;
     }
 

@@ -2,7 +2,7 @@
 
 ghost use Rattle.std.specs.Prelude.{◌≡◌};
 
-use crate::row::Row;
+use crate::row::IndexRow;
 use crate::spread::Spread;
 use crate::text::Text;
 use ds_eval::inputs::{Entry, Inputs};
@@ -73,15 +73,15 @@ pub enum WorkStage {
     BackValue,
     /// Write the kind back.
     BackKind,
-    /// Tell the cells that refer to this one.
+    /// Mark the cells that refer to this one.
     Telling(Spread),
     /// Let the cell go, clean; whether it changed.
     Clear(bool),
     /// Let it go, dirty, since it was marked meanwhile.
     ClearDirty,
-    /// Let it go, dirty, for want of memory.
+    /// An allocation failed: let it go, dirty.
     Give,
-    /// The same, since it was marked meanwhile.
+    /// Give it back, dirty, since it was marked meanwhile.
     GiveDirty,
     /// Flush the mark.
     FlushCleared(WorkEnd),
@@ -120,12 +120,12 @@ pub struct WorkCall {
     pub inputs: Inputs,
     /// The cell's own value.
     pub value: u64,
-    /// Its own kind.
+    /// The cell's own kind.
     pub kind: u64,
     /// What the inputs give.
     pub entry: Entry,
     /// The index row so far.
-    pub row: Row,
+    pub row: IndexRow,
     /// What it does next.
     pub stage: WorkStage,
 }

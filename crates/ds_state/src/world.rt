@@ -4,10 +4,10 @@ ghost use Rattle.std.specs.Prelude.{◌≡◌, ◌<◌, ◌↔◌, IsTrue, IfOk,
 ghost use Rattle.ds_formula.specs.Cells.{IsInside};
 
 use crate::ledger::{Edit, Issue};
+use crate::point::Point;
 use crate::reports::Reports;
 use crate::shown;
 use crate::situation::Situation;
-use crate::stage::Point;
 use ds_eval::inputs::Inputs;
 use ds_eval::value::Value;
 use ds_formula::cells::Cell;
@@ -76,7 +76,8 @@ fn all_answered(open_edits: &[Option<Issue>]) -> bool
 
 impl World {
     ghost use Rattle.ds_state.specs.Value.{world_of, IsGood};
-    ghost use Rattle.ds_state.specs.Shown.{mark_in, value_in, point_of, text_in, IsQuiet};
+    ghost use Rattle.ds_state.specs.Points.{point_of};
+    ghost use Rattle.ds_state.specs.Shown.{mark_in, value_in, text_in, IsQuiet};
 
     /// It is sound, as it is at each moment.
     pub fn is_always_good(&self)
@@ -109,8 +110,8 @@ impl World {
     }
 
     /// The text of a cell, as processes see it: `laws::texts_are_of_last_edits` says that it is as the
-    /// last of the cell's edits that count was handed in, and empty where none counts. An error is a
-    /// want of memory.
+    /// last of the cell's linearized edits was handed in, and empty where none is linearized. An error is
+    /// that an allocation failed.
     pub fn text_of(&self, alloc: Global, cell: Cell) -> Result<Vec<u8>, AllocError>
         requires { IsInside self.now.sheet.layout.shape cell }
         ensures { IfOk result (λ v. v.items ≡ text_in (world_of self.now) cell) }
@@ -118,17 +119,11 @@ impl World {
         shown::text(&self.words, alloc, self.words.layout().shape.index(cell))
     }
 
-    /// The last point that the edit of a process has behind it: none where it has no edit, or where
-    /// the edit still writes its record.
+    /// The last point that the call of a process has passed: none where it is in no call, in a show, or has passed none yet.
     pub fn point_of(&self, process: usize) -> Option<Point>
         requires { process < self.now.sheet.layout.processes }
         ensures { result ≡ point_of ((world_of self.now).situation process) }
     {
-        match &self.situations[process] {
-            Situation::Editing(call) => call.stage.point(),
-            Situation::Idle(_) | Situation::Stopped => None,
-            Situation::Working(_) | Situation::Recovering(_) | Situation::Reporting(_) => None,
-            Situation::Migrating(_) => None,
-        }
+        Point::of(&self.situations[process])
     }
 }

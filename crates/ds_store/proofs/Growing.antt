@@ -3,7 +3,7 @@ use Rattle.std.proofs.Common.{◌≡◌, ◌+◌, ◌++◌, ◌∷◌, ◌<◌, 
 use Rattle.std.proofs.lemmas.List.{map-append}
 use Rattle.std.proofs.lemmas.Bool.{cases_lt}
 use Rattle.ds_state.specs.Value.{WorldValue}
-use Rattle.ds_journal.specs.Journals.{Keeps}
+use Rattle.ds_store_journal.specs.Journals.{Keeps}
 use Rattle.ds_store.specs.declared.edit.ToldEdit.{ToldEdit}
 use Rattle.ds_store.specs.Stores.{KeepAll, asked_by}
 

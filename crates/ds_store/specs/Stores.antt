@@ -8,8 +8,8 @@ use Rattle.ds_core.specs.Requests.{PlainRequest}
 use Rattle.ds_core.specs.Takes.{Fits}
 use Rattle.ds_core.specs.declared.event.Event.TheVariants.{Crash}
 use Rattle.ds_core.specs.declared.reply.Reply.{Reply}
-use Rattle.ds_journal.specs.Journals.{Follows, Keeps}
-use Rattle.ds_lines.specs.Tables.{MayHold}
+use Rattle.ds_store_journal.specs.Journals.{Follows, Keeps}
+use Rattle.ds_store_table.specs.Tables.{MayHold}
 use Rattle.sqlite.specs.Tree.{Trees}
 use Rattle.ds_store.specs.declared.edit.ToldEdit.{ToldEdit}
 
@@ -17,8 +17,8 @@ use Rattle.ds_store.specs.declared.edit.ToldEdit.{ToldEdit}
 abbrev pub asked_by : ToldEdit → PlainRequest
 asked_by edit = record { process = edit.process; cell = edit.cell; text = edit.text.items }
 
--- the lines keep these edits, each its own, and lead from the one world to the other: each edit, made as a whole behind
--- those before it, is answered Done with the number that was told
+-- the lines keep these edits, each its own, and lead from the one world to the other: each edit, made as a whole after
+-- those before it, is answered Done with the number that was answered
 pub data KeepAll : WorldValue → List ToldEdit → List (List ℕ) → WorldValue → Type 0 where
   none : (world : WorldValue) → KeepAll world [] [] world
   one : (old mid new : WorldValue) (edits : List ToldEdit) (lines : List (List ℕ)) (edit : ToldEdit) (line : List ℕ)
@@ -31,14 +31,14 @@ pub record IsRestarted (lines : List (List ℕ)) (sheet : WorldValue) : Type 0 w
   pub follows : Follows lines world
   pub crashed : Fits world Crash reply sheet
 
--- the trees of a database that has these lines, and behind them some that keep these edits
+-- the trees of a database that has these lines, and after them some that keep these edits
 pub record MayKeep (world : WorldValue) (edits : List ToldEdit) (before : List (List ℕ)) (trees : Trees) : Type 0 where
   pub lines : List (List ℕ)
   pub new : WorldValue
   pub keep : KeepAll world edits lines new
   pub holds : MayHold (before ++ lines) trees
 
--- the sheet has so many columns, rows and processes
+-- the sheet has that number of columns, rows and processes
 pub record IsAsked (columns rows processes : ℕ) (world : WorldValue) : Type 0 where
   pub columns_are : world.sheet.layout.shape.columns ≡ columns
   pub rows_are : world.sheet.layout.shape.rows ≡ rows

@@ -7,15 +7,15 @@ ghost use Rattle.sqlite.specs.State.{HasCleanDisk};
 ghost use Rattle.ds_formula.specs.Cells.{IsInside};
 ghost use Rattle.ds_state.specs.Shown.{text_in};
 ghost use Rattle.ds_state.specs.Value.{world_of};
-ghost use Rattle.ds_journal.specs.Journals.{Follows};
-ghost use Rattle.ds_lines.specs.Tables.{Holds, IsBare};
+ghost use Rattle.ds_store_journal.specs.Journals.{Follows};
+ghost use Rattle.ds_store_table.specs.Tables.{Holds, IsBare};
 ghost use Rattle.ds_store.specs.Stores.{SameTexts};
 
 use crate::fault::StoreFault;
 use crate::store::Store;
 use ds_formula::cells::{Cell, Shape};
-use ds_journal::fault::JournalFault;
 use ds_state::world::World;
+use ds_store_journal::fault::JournalFault;
 use sqlite::{Alter, Connection};
 use std::alloc::{AllocError, Global};
 
@@ -96,9 +96,9 @@ fn same_texts(alloc: Global, one: &World, other: &World) -> Result<bool, AllocEr
     Ok(true)
 }
 
-/// Makes a store, in a database that has nothing, whose edits give each cell the text that it has in this sheet: one edit
-/// for each cell that has a text, by the processes in turn. The second line says of what it has the texts. Where the
-/// processes have too few edits for that, the error is of a line that can not be followed.
+/// Makes a store, in a database that has nothing, whose edits give each cell the text that it has in this sheet: one
+/// edit for each cell that has a text, by the processes in turn. The second line says of what it has the texts. Where
+/// the processes have too few edits for that, the error is of a line that cannot be followed.
 pub fn compact<S: Alter + Drop>(
     alloc: Global,
     world: &World,

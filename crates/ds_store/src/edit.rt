@@ -2,26 +2,26 @@
 
 ghost use Rattle.std.specs.Prelude.{◌≡◌, ◌∷◌, ◌++◌, [], ℕ, List, IfOk, map};
 ghost use Rattle.std.specs.String.{string_bytes};
-ghost use Rattle.ds_journal.specs.Journals.{Keeps};
+ghost use Rattle.ds_store_journal.specs.Journals.{Keeps};
 ghost use Rattle.ds_store.specs.Stores.{KeepAll, asked_by};
 
 use ds_formula::cells::Cell;
-use ds_journal::fault::JournalFault;
-use ds_journal::journal::{Told, keep};
 use ds_state::world::World;
+use ds_store_journal::fault::JournalFault;
+use ds_store_journal::journal::{KeptEdit, keep};
 use std::alloc::Global;
 use std::str;
 
 /// An edit that was answered Done, and that is to be kept.
 #[derive(Debug, Drop)]
 pub struct ToldEdit {
-    /// Its process, below those of the sheet.
+    /// The process of the edit, below those of the sheet.
     pub process: usize,
-    /// Its number among those of the process, 0 to 255.
+    /// The number of the edit among those of the process, 0 to 255.
     pub number: usize,
-    /// Its cell, one of the sheet.
+    /// The cell of the edit, one of the sheet.
     pub cell: Cell,
-    /// Its text, at most 240 bytes.
+    /// The text that the cell gets, at most 240 bytes.
     pub text: Vec<u8>,
 }
 
@@ -42,7 +42,7 @@ pub(crate) fn text_of(alloc: Global, line: &[u8]) -> Result<String, JournalFault
 fn kept(alloc: Global, world: &mut World, edit: &ToldEdit) -> Result<String, JournalFault>
     ensures { IfOk result (λ text. Keeps world.old (asked_by edit.now) edit.now.number (string_bytes text) world.new) }
 {
-    let told = Told {
+    let told = KeptEdit {
         process: edit.process,
         number: edit.number,
         cell: edit.cell,
@@ -53,7 +53,7 @@ fn kept(alloc: Global, world: &mut World, edit: &ToldEdit) -> Result<String, Jou
 }
 
 /// The lines that keep edits, in their order, in the journal of this world, which follows each. An error is that of the
-/// first edit that can not be kept; the world is of no use then.
+/// first edit that cannot be kept; the world is of no use then.
 pub(crate) fn kept_all(
     alloc: Global,
     world: &mut World,

@@ -1,15 +1,15 @@
 //! What is wrong with a store.
 
-use ds_journal::fault::JournalFault;
-use ds_lines::lines::LinesFault;
+use ds_store_journal::fault::JournalFault;
+use ds_store_table::lines::LinesFault;
 use sqlite::{Error, ErrorCode};
 use std::alloc::AllocError;
 use std::fmt;
 
-/// Why a store can not be opened, or has failed.
+/// Why a store cannot be opened, or has failed.
 #[derive(Clone, Copy, Debug, PartialEq, Eq)]
 pub enum StoreFault {
-    /// The database gives this error: the file can not be opened, read or written, or holds no database.
+    /// The database gives this error: the file cannot be opened, read or written, or holds no database.
     Database(Error),
     /// Another program has the file open.
     Busy,
@@ -17,22 +17,22 @@ pub enum StoreFault {
     Foreign,
     /// There is no line of this number, from 1.
     Missing(usize),
-    /// The line of this number, from 1, can not be followed.
+    /// The line of this number, from 1, cannot be followed.
     Line {
-        /// Its number.
+        /// The number of the line.
         number: usize,
-        /// Why it can not.
+        /// Why it cannot.
         fault: JournalFault,
     },
-    /// An edit that was told can not be kept.
+    /// An edit that was reported cannot be kept.
     Edit(JournalFault),
     /// The sheet of the store has another shape, or another number of processes, than the one that was asked for.
     OtherSheet {
-        /// Its columns.
+        /// The columns of the sheet that the store has.
         columns: usize,
-        /// Its rows.
+        /// The rows of that sheet.
         rows: usize,
-        /// Its processes.
+        /// The processes of that sheet.
         processes: usize,
     },
     /// An allocation failed.
@@ -76,7 +76,7 @@ impl From<AllocError> for StoreFault {
 }
 
 impl StoreFault {
-    /// That the line of this number, from 1, can not be followed for this fault.
+    /// That the line of this number, from 1, cannot be followed for this fault.
     pub fn at_line(number: usize, fault: JournalFault) -> StoreFault {
         match fault {
             JournalFault::NoMemory => StoreFault::NoMemory,

@@ -4,8 +4,8 @@ ghost use Rattle.std.specs.Prelude.{◌≡◌, ◌++◌, ◌∷◌, [], ℕ, Lis
 ghost use Rattle.std.specs.String.{string_bytes};
 ghost use Rattle.sqlite.specs.Held.{state};
 ghost use Rattle.sqlite.specs.State.{HasCleanDisk, Survives};
-ghost use Rattle.ds_journal.specs.Journals.{Follows, Opens};
-ghost use Rattle.ds_lines.specs.Tables.{Holds, IsBare};
+ghost use Rattle.ds_store_journal.specs.Journals.{Follows, Opens};
+ghost use Rattle.ds_store_table.specs.Tables.{Holds, IsBare};
 ghost use Rattle.ds_store.specs.Stores.{IsAsked, IsRestarted, KeepAll, MayKeep};
 
 use crate::edit::{ToldEdit, kept_all, text_of};
@@ -13,16 +13,16 @@ use crate::fault::StoreFault;
 use ds_core::event::Event;
 use ds_core::take::take;
 use ds_formula::cells::Shape;
-use ds_journal::journal::{self, begin, follow};
 use ds_layout::layout::Layout;
-use ds_lines::lines;
 use ds_state::world::World;
+use ds_store_journal::journal::{self, begin, follow};
+use ds_store_table::lines;
 use sqlite::{Alter, Connection};
 use std::alloc::Global;
 use std::slice;
 
 /// A journal in a database, and a sheet of its own, to which its lines lead: by that sheet it is seen, before a line is
-/// committed, that the line can be followed, and gives the number that was told.
+/// committed, that the line can be followed, and gives the number that was answered.
 ///
 /// After an error nothing more is to be kept in it; what was committed stands.
 #[derive(Drop)]
@@ -36,12 +36,12 @@ pub struct Store<S: Alter + Drop> {
 pub struct Opened<S: Alter + Drop> {
     /// The store.
     pub store: Store<S>,
-    /// The sheet that the lines lead to, behind a crash: all its processes have stopped, and a recovery tells each how
+    /// The sheet that the lines lead to, after a crash: all its processes have stopped, and a recovery reports each how
     /// its last edit ended.
     pub sheet: World,
 }
 
-// Follows the lines behind the first one, each in its turn.
+// Follows the lines after the first one, each in its turn.
 fn follow_rest(alloc: Global, world: &mut World, rest: &[String]) -> Result<(), StoreFault>
     ensures { OnOk result ((before : List (List ℕ)) → Follows before world.old → Follows (before ++ map string_bytes rest.now) world.new) }
 {
@@ -70,7 +70,7 @@ fn followed(alloc: Global, lines: &[String]) -> Result<World, StoreFault>
     Ok(world)
 }
 
-// The sheet that lines lead to, behind a crash.
+// The sheet that lines lead to, after a crash.
 fn restarted(alloc: Global, lines: &[String]) -> Result<World, StoreFault>
     ensures { IfOk result (IsRestarted (map string_bytes lines.now)) }
 {
@@ -83,7 +83,7 @@ fn restarted(alloc: Global, lines: &[String]) -> Result<World, StoreFault>
 fn begun(alloc: Global, shape: Shape, processes: usize) -> Result<(String, World), StoreFault>
     ensures { IfOk result (λ new. Opens shape.columns shape.rows processes (string_bytes new.0) new.1) }
 {
-    let journal::Opened { line, world } = match journal::open(alloc, shape, processes) {
+    let journal::OpenedJournal { line, world } = match journal::open(alloc, shape, processes) {
         Ok(opened) => opened,
         Err(fault) => return Err(StoreFault::at_line(1, fault)),
     };
@@ -105,8 +105,9 @@ fn with_lines<S: Alter + Drop>(
 }
 
 impl<S: Alter + Drop> Store<S> {
-    /// Makes the store of a new sheet of this shape with so many processes, 1 to 8, in a database that has nothing: its
-    /// first line is committed. Where the database has something, or there is no such sheet, it is an error.
+    /// Makes the store of a new sheet of this shape with that number of processes, 1 to 8, in a database that has
+    /// nothing: its first line is committed. Where the database has something, or there is no such sheet, it is an
+    /// error.
     pub fn make(
         alloc: Global,
         conn: Connection<S>,
@@ -126,8 +127,8 @@ impl<S: Alter + Drop> Store<S> {
         Ok(Opened { store, sheet })
     }
 
-    /// Opens the store in a database: all its lines are read, and followed, each in its turn. An error says which line is
-    /// missing, or can not be followed.
+    /// Opens the store in a database: all its lines are read, and followed, each in its turn. An error says which line
+    /// is missing, or cannot be followed.
     pub fn open(alloc: Global, conn: Connection<S>) -> Result<Opened<S>, StoreFault>
         ensures opens { IfOk result (λ opened. (lines : List (List ℕ)) × Follows lines opened.store.world × IsRestarted lines opened.sheet
             × (HasCleanDisk (state S.Store opened.store.conn) → (held : List (List ℕ)) → Holds held (state S.Store conn).now
@@ -141,8 +142,8 @@ impl<S: Alter + Drop> Store<S> {
         Ok(Opened { store, sheet })
     }
 
-    /// Makes the store of these lines, in a database that has nothing: they are followed first, each in its turn. An error
-    /// says which line can not be followed.
+    /// Makes the store of these lines, in a database that has nothing: they are followed first, each in its turn. An
+    /// error says which line cannot be followed.
     pub fn of_lines(
         alloc: Global,
         conn: Connection<S>,
@@ -157,8 +158,8 @@ impl<S: Alter + Drop> Store<S> {
         Ok(Store { conn, world })
     }
 
-    /// Keeps edits, in their order: their lines are committed together, all or none, when it returns. Each was seen to be
-    /// followed, and to be answered Done with the number that was told.
+    /// Keeps edits, in their order: their lines are committed together, all or none, when it returns. Each was seen to
+    /// be followed, and to be answered Done with the number that was answered.
     pub fn keep_all(&mut self, alloc: Global, edits: &[ToldEdit]) -> Result<(), StoreFault>
         ensures kept { OnOk result ((lines : List (List ℕ)) × KeepAll self.old.world edits.now lines self.new.world
             × (HasCleanDisk (state S.Store self.new.conn) → (before : List (List ℕ)) → Holds before (state S.Store self.old.conn).now
@@ -209,8 +210,8 @@ pub fn is_bare<S: Alter>(conn: &Connection<S>) -> bool {
     schema.tables.is_empty() && schema.indexes.is_empty() && schema.views.is_empty()
 }
 
-/// The store in a database: made, for a new sheet of this shape with so many processes, 1 to 8, where the database has
-/// nothing; else opened, and its sheet has to have that shape and so many processes.
+/// The store in a database: made, for a new sheet of this shape with that number of processes, 1 to 8, where the
+/// database has nothing; else opened, and its sheet has to have that shape and that number of processes.
 pub fn open_or_make<S: Alter + Drop>(
     alloc: Global,
     conn: Connection<S>,

@@ -6,8 +6,8 @@ use Rattle.ds_svg.specs.declared.tag.Tag.{Tag}
 use Rattle.ds_svg.specs.declared.tag.Tag.TheVariants as tags
 use Rattle.ds_svg.specs.declared.tag.Name.{Name}
 use Rattle.ds_svg.specs.declared.tag.Name.TheVariants as names
-use Rattle.ds_svg.specs.declared.tag.Value.{Value}
-use Rattle.ds_svg.specs.declared.tag.Value.TheVariants as values
+use Rattle.ds_svg.specs.declared.tag.AttributeValue.{AttributeValue}
+use Rattle.ds_svg.specs.declared.tag.AttributeValue.TheVariants as values
 use Rattle.ds_svg.specs.declared.tag.Attribute.{Attribute}
 
 -- ---- texts
@@ -74,15 +74,15 @@ name_of names.PatternTransform = codes "patternTransform"
 -- ---- attributes
 
 -- the value of an attribute
-abbrev pub value_text : Value → List ℕ
+abbrev pub value_text : AttributeValue → List ℕ
 value_text (values.Number n) = escaped (decimal n)
 value_text (values.Text bytes) = escaped bytes.now
 
--- an attribute, behind a space: NAME="VALUE"
+-- an attribute, after a space: NAME="VALUE"
 abbrev pub attribute_text : Attribute → List ℕ
 attribute_text a = codes " " ++ (name_of a.name ++ (codes "=\"" ++ (value_text a.value ++ codes "\"")))
 
--- attributes, one behind the other
+-- attributes, one after the other
 abbrev pub attributes_text : List Attribute → List ℕ
 attributes_text attributes = flat_map attribute_text attributes
 

@@ -12,7 +12,7 @@ fn is_plain(byte: u8) -> bool
     32 <= byte && byte <= 126 && byte != b'<' && byte != b'>' && byte != b'&' && byte != b'"'
 }
 
-// Puts what stands for a byte behind the text.
+// Appends what stands for a byte to the text.
 fn put(text: &mut Vec<u8>, byte: u8) -> Result<(), AllocError>
     ensures { OnOk result (text.new.items ≡ text.old.items ++ piece_of byte) }
 {
@@ -28,8 +28,9 @@ fn put(text: &mut Vec<u8>, byte: u8) -> Result<(), AllocError>
     }
 }
 
-/// Puts these bytes behind the text, so that no markup is among them: entities stand for `<`, `>`, `&` and `"`, a dot for
-/// each byte that is no printable one of ASCII. An error is a want of memory; some of the bytes may stand there then.
+/// Appends these bytes to the text, so that no markup is among them: entities stand for `<`, `>`, `&` and `"`, a dot
+/// for each byte that is no printable one of ASCII. An error means that an allocation failed; some of the bytes may
+/// stand there then.
 pub fn put_escaped(text: &mut Vec<u8>, bytes: &[u8]) -> Result<(), AllocError>
     ensures { OnOk result (text.new.items ≡ text.old.items ++ escaped bytes.now) }
 {

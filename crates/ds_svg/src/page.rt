@@ -59,7 +59,7 @@ impl Model for Page {
     }) };
 }
 
-// Puts a piece behind the text, where that stays within the limit.
+// Appends a piece to the text, where that stays within the limit.
 fn append(text: &mut Vec<u8>, limit: usize, piece: &[u8]) -> Result<(), NoPage>
     requires { length text.old.items ≤ limit }
     ensures items { text.new.items ≡ (if is_ok result then text.old.items ++ piece.now else text.old.items) }
@@ -105,8 +105,8 @@ fn closing(alloc: Global, name: &str) -> Result<Vec<u8>, AllocError>
 }
 
 impl Page {
-    /// A page with the element `svg` open, which has these attributes. An error is a limit that is too small, or a want of
-    /// memory.
+    /// A page with the element `svg` open, which has these attributes. An error is a limit that is too small, or a
+    /// failed allocation.
     pub fn new(alloc: Global, limit: usize, attributes: &[Attribute<'_>]) -> Result<Page, NoPage>
         ensures { IfOk result (λ p. p ≡ record { elements = []; text = open_text svg_name attributes.now; limit = limit }) }
     {
@@ -205,7 +205,7 @@ impl Page {
     }
 
     /// The whole document: all that is open is closed, and `svg` itself. An error is a document that is too long, or a
-    /// want of memory.
+    /// failed allocation.
     pub fn finish(self, alloc: Global) -> Result<Vec<u8>, NoPage>
         ensures document { IfOk result (λ text. IsDocument text.items) }
         ensures within { IfOk result (λ text. length text.items ≤ self.limit) }

@@ -85,7 +85,7 @@ pub enum Name {
 
 /// The value of an attribute.
 #[derive(Clone, Copy, Debug)]
-pub enum Value<'a> {
+pub enum AttributeValue<'a> {
     /// A number.
     Number(usize),
     /// A text, which is escaped.
@@ -95,10 +95,10 @@ pub enum Value<'a> {
 /// An attribute of an element.
 #[derive(Clone, Copy, Debug)]
 pub struct Attribute<'a> {
-    /// Its name.
+    /// The name of the attribute.
     pub name: Name,
-    /// Its value.
-    pub value: Value<'a>,
+    /// The value of the attribute.
+    pub value: AttributeValue<'a>,
 }
 
 impl Tag {
@@ -154,20 +154,20 @@ impl Name {
     }
 }
 
-// Puts a value behind the text.
-fn put_value(alloc: Global, text: &mut Vec<u8>, value: Value<'_>) -> Result<(), AllocError>
+// Appends a value to the text.
+fn put_value(alloc: Global, text: &mut Vec<u8>, value: AttributeValue<'_>) -> Result<(), AllocError>
     ensures { OnOk result (text.new.items ≡ text.old.items ++ value_text value.entry) }
 {
     match value {
-        Value::Number(number) => {
+        AttributeValue::Number(number) => {
             let digits = format!(in alloc; "{number}")?;
             put_escaped(text, digits.as_bytes())
         }
-        Value::Text(bytes) => put_escaped(text, bytes),
+        AttributeValue::Text(bytes) => put_escaped(text, bytes),
     }
 }
 
-// Puts an attribute behind the text.
+// Appends an attribute to the text.
 fn put_attribute(
     alloc: Global,
     text: &mut Vec<u8>,
@@ -182,7 +182,7 @@ fn put_attribute(
     text.extend_from_slice(b"\"")
 }
 
-/// Puts attributes behind the text. An error is a want of memory; some of them may stand there then.
+/// Appends attributes to the text. An error means that an allocation failed; some of them may stand there then.
 pub fn put_attributes(
     alloc: Global,
     text: &mut Vec<u8>,

@@ -8,15 +8,15 @@ use Rattle.ds_state.specs.Value.{WorldValue}
 use Rattle.ds_core.specs.declared.event.Event.{Event}
 use Rattle.ds_core.specs.declared.reply.Reply.{Reply}
 use Rattle.ds_trace.specs.Rows.{sides_of}
-use Rattle.ds_streams.specs.declared.ending.ScriptFault.{ScriptFault}
-use Rattle.ds_streams.specs.declared.ending.ScriptFault.TheVariants.{LineTooLong}
-use Rattle.ds_streams.specs.ScriptLines.{AtFront, NoLine, ALine, LongLine, next_of}
-use Rattle.ds_play.specs.declared.order.Begun.{Begun}
-use Rattle.ds_play.specs.declared.order.Begun.TheVariants as begun
-use Rattle.ds_play.specs.Orders.{Order, Make, Does, order_of}
-use Rattle.ds_play.specs.Running.{after}
-use Rattle.ds_play.specs.Script.{Progress, IsMade, begins_at, goes_on, Carried, begins, skips, makes, obeys, FaultAt}
-use Rattle.ds_trace.specs.declared.row.Row.{Row}
+use Rattle.ds_script_io.specs.declared.ending.ScriptFault.{ScriptFault}
+use Rattle.ds_script_io.specs.declared.ending.ScriptFault.TheVariants.{LineTooLong}
+use Rattle.ds_script_io.specs.ScriptLines.{AtFront, NoLine, ALine, LongLine, next_of}
+use Rattle.ds_script.specs.declared.order.Begun.{Begun}
+use Rattle.ds_script.specs.declared.order.Begun.TheVariants as begun
+use Rattle.ds_script.specs.Orders.{Order, Make, Does, order_of}
+use Rattle.ds_script.specs.Running.{after}
+use Rattle.ds_script.specs.Script.{Progress, IsMade, begins_at, goes_on, Carried, begins, skips, makes, obeys, FaultAt}
+use Rattle.ds_trace.specs.declared.row.TraceRow.{TraceRow}
 use Rattle.ds_trace.specs.declared.record.Hindrance.{Hindrance}
 use Rattle.ds_trace.specs.declared.record.Hindrance.TheVariants as hindrances
 use Rattle.ds_trace.specs.declared.turn.NoTrace.TheVariants.{TooManyEvents, NoMemory}
@@ -26,7 +26,7 @@ use Rattle.ds_trace.specs.Traces.{IsRecord, IsUntraced, PassesLine, StopsLine, w
 use Rattle.ds_trace.proofs.Trails.{rows_on}
 
 -- the lines led here, and these are the rows of their run
-pub record Led (places : List Place) (whole : Bool) (script : List ℕ) (lines : ℕ) (first : Begun) (w : WorldValue) (rows : List Row) (rest : List ℕ) : Type 0 where
+pub record Led (places : List Place) (whole : Bool) (script : List ℕ) (lines : ℕ) (first : Begun) (w : WorldValue) (rows : List TraceRow) (rest : List ℕ) : Type 0 where
   pub progress : Progress
   pub begun_is : progress.begun ≡ first
   pub world_is : progress.world ≡ w
@@ -35,28 +35,28 @@ pub record Led (places : List Place) (whole : Bool) (script : List ℕ) (lines :
   pub are : AreRows places progress.start progress.events progress.replies rows progress.world
 
 -- so, and these are the words of the new sheet at the places
-pub record LedFrom (places : List Place) (whole : Bool) (script : List ℕ) (lines : ℕ) (first : Begun) (w : WorldValue) (rows : List Row) (start : List Word) (rest : List ℕ) : Type 0 where
+pub record LedFrom (places : List Place) (whole : Bool) (script : List ℕ) (lines : ℕ) (first : Begun) (w : WorldValue) (rows : List TraceRow) (start : List Word) (rest : List ℕ) : Type 0 where
   pub led : Led places whole script lines first w rows rest
   pub starts : start ≡ map (sides_of led.progress.start) places
 
 -- no lines lead to the first world, and have no rows
-pub begins_led : (places : List Place) (whole : Bool) (script : List ℕ) (w : WorldValue) (rows : List Row) → IsMade 2 2 2 Second w → rows ≡ [] → Led places whole script 0 begun.Nothing w rows script
+pub begins_led : (places : List Place) (whole : Bool) (script : List ℕ) (w : WorldValue) (rows : List TraceRow) → IsMade 2 2 2 Second w → rows ≡ [] → Led places whole script 0 begun.Nothing w rows script
 begins_led places whole script w rows made none = record {
   progress = begins_at begun.Nothing w;
   begun_is = refl;
   world_is = refl;
   out = [];
   carried = begins w made;
-  are = subst (λ (l : List Row). AreRows places w [] [] l w) (sym none) refl;
+  are = subst (λ (l : List TraceRow). AreRows places w [] [] l w) (sym none) refl;
 }
 
 -- before the first line the run has begun in the first world
-pub begins_start : (places : List Place) (whole : Bool) (script : List ℕ) (w : WorldValue) (rows : List Row) (made : IsMade 2 2 2 Second w) (none : rows ≡ []) → (begins_led places whole script w rows made none).progress.start ≡ w
+pub begins_start : (places : List Place) (whole : Bool) (script : List ℕ) (w : WorldValue) (rows : List TraceRow) (made : IsMade 2 2 2 Second w) (none : rows ≡ []) → (begins_led places whole script w rows made none).progress.start ≡ w
 unfolding begins_led
 begins_start places whole script w rows made none = refl
 
 -- where no event has a row yet, the world is the new sheet
-no_events : (places : List Place) (old : WorldValue) (events : List Event) (replies : List Reply) (rows : List Row) (new : WorldValue) → AreRows places old events replies rows new → rows ≡ [] → new ≡ old
+no_events : (places : List Place) (old : WorldValue) (events : List Event) (replies : List Reply) (rows : List TraceRow) (new : WorldValue) → AreRows places old events replies rows new → rows ≡ [] → new ≡ old
 no_events places old [] [] [] new h none = h
 no_events places old (event ∷ events) (reply ∷ replies) (row ∷ rows) new h none = absurd (let bad : row ∷ rows ≡ [] = none in cc)
 no_events places old [] [] (row ∷ rows) new h none = absurd h
@@ -65,14 +65,14 @@ no_events places old (event ∷ events) [] rows new h none = absurd h
 no_events places old (event ∷ events) (reply ∷ replies) [] new h none = absurd h
 
 -- a run without rows has begun in the world where it stands
-pub starts_here : (places : List Place) (whole : Bool) (script : List ℕ) (lines : ℕ) (first : Begun) (w : WorldValue) (rows : List Row) (rest : List ℕ) (led : Led places whole script lines first w rows rest) → rows ≡ []
+pub starts_here : (places : List Place) (whole : Bool) (script : List ℕ) (lines : ℕ) (first : Begun) (w : WorldValue) (rows : List TraceRow) (rest : List ℕ) (led : Led places whole script lines first w rows rest) → rows ≡ []
     → led.progress.start ≡ w
 starts_here places whole script lines first w rows rest led none =
     sym (no_events places led.progress.start led.progress.events led.progress.replies rows led.progress.world led.are none) ∙ led.world_is
 
 -- ---- one line more
 
-carries_led : (places : List Place) (whole : Bool) (script : List ℕ) (lines : ℕ) (p : Progress) (out rest line behind : List ℕ) (order : Order) (now : Begun) (new : WorldValue) (rows rows' : List Row)
+carries_led : (places : List Place) (whole : Bool) (script : List ℕ) (lines : ℕ) (p : Progress) (out rest line behind : List ℕ) (order : Order) (now : Begun) (new : WorldValue) (rows rows' : List TraceRow)
     → Carried whole script lines p out rest → next_of whole rest ≡ ALine line behind → order_of p.begun p.world line ≡ Ok (Some order) → now ≡ after order
     → AreRows places p.start p.events p.replies rows p.world → ObeysBy places p.world order new rows rows' → Led places whole script (suc lines) now new rows' behind
 carries_led places whole script lines p out rest line behind (Make first columns rows processes edition) now new r s carried next asks begun_is are h = record {
@@ -81,7 +81,7 @@ carries_led places whole script lines p out rest line behind (Make first columns
   world_is = refl;
   out = out;
   carried = makes lines p out rest line behind first columns rows processes edition new carried next asks h.0;
-  are = subst (λ (l : List Row). AreRows places new [] [] l new) (sym h.1) refl;
+  are = subst (λ (l : List TraceRow). AreRows places new [] [] l new) (sym h.1) refl;
 }
 carries_led places whole script lines p out rest line behind (Does deed) now new r s carried next asks begun_is are h = record {
   progress = goes_on p h.events h.replies new;
@@ -89,11 +89,11 @@ carries_led places whole script lines p out rest line behind (Does deed) now new
   world_is = refl;
   out = out ++ h.text;
   carried = obeys lines p out rest line behind deed h.events h.replies h.text new carried next asks h.plays;
-  are = subst (λ (l : List Row). AreRows places p.start (p.events ++ h.events) (p.replies ++ h.replies) l new) (sym h.behind)
+  are = subst (λ (l : List TraceRow). AreRows places p.start (p.events ++ h.events) (p.replies ++ h.replies) l new) (sym h.behind)
       (rows_on places p.events p.replies r h.events h.replies h.rows p.start p.world new are h.are);
 }
 
-carries_still : (places : List Place) (whole : Bool) (script : List ℕ) (lines : ℕ) (p : Progress) (out rest line behind : List ℕ) (order : Order) (now : Begun) (new : WorldValue) (rows rows' : List Row)
+carries_still : (places : List Place) (whole : Bool) (script : List ℕ) (lines : ℕ) (p : Progress) (out rest line behind : List ℕ) (order : Order) (now : Begun) (new : WorldValue) (rows rows' : List TraceRow)
     → (carried : Carried whole script lines p out rest) (next : next_of whole rest ≡ ALine line behind) (asks : order_of p.begun p.world line ≡ Ok (Some order)) (begun_is : now ≡ after order)
     → (are : AreRows places p.start p.events p.replies rows p.world) (obeys_so : ObeysBy places p.world order new rows rows') → (rows' ≡ [] → ⊥)
     → (carries_led places whole script lines p out rest line behind order now new rows rows' carried next asks begun_is are obeys_so).progress.start ≡ p.start
@@ -101,26 +101,26 @@ unfolding carries_led
 carries_still places whole script lines p out rest line behind (Make first columns rows processes edition) now new r s carried next asks begun_is are h some = absurd (some h.1)
 carries_still places whole script lines p out rest line behind (Does deed) now new r s carried next asks begun_is are h some = refl
 
-module _ (places : List Place) (whole : Bool) (script : List ℕ) (lines : ℕ) (first : Begun) (w : WorldValue) (rows : List Row) (rest : List ℕ) (led : Led places whole script lines first w rows rest) where
+module _ (places : List Place) (whole : Bool) (script : List ℕ) (lines : ℕ) (first : Begun) (w : WorldValue) (rows : List TraceRow) (rest : List ℕ) (led : Led places whole script lines first w rows rest) where
   -- what a line asks for at the point that the lines led to
   asked : (line : List ℕ) (r : Result (Option Order) ScriptFault) → order_of first w line ≡ r → order_of led.progress.begun led.progress.world line ≡ r
   asked line r is = ap (λ (b : Begun). order_of b led.progress.world line) led.begun_is ∙ ap (λ (v : WorldValue). order_of first v line) led.world_is ∙ is
 
-  pub line_more : (line behind : List ℕ) → next_of whole rest ≡ ALine line behind → (now : Begun) (new : WorldValue) (rows' : List Row) → PassesLine places first w line now new rows rows' → Led places whole script (suc lines) now new rows' behind
+  pub line_more : (line behind : List ℕ) → next_of whole rest ≡ ALine line behind → (now : Begun) (new : WorldValue) (rows' : List TraceRow) → PassesLine places first w line now new rows rows' → Led places whole script (suc lines) now new rows' behind
   line_more line behind next now new rows' (inl s) = record {
     progress = led.progress;
     begun_is = led.begun_is ∙ sym s.still;
     world_is = led.world_is ∙ sym s.same;
     out = led.out;
     carried = skips lines led.progress led.out rest line behind led.carried next (asked line (Ok None) s.asks);
-    are = subst (λ (l : List Row). AreRows places led.progress.start led.progress.events led.progress.replies l led.progress.world) (sym s.no_row) led.are;
+    are = subst (λ (l : List TraceRow). AreRows places led.progress.start led.progress.events led.progress.replies l led.progress.world) (sym s.no_row) led.are;
   }
   line_more line behind next now new rows' (inr e) =
       carries_led places whole script lines led.progress led.out rest line behind e.order now new rows rows' led.carried next (asked line (Ok (Some e.order)) e.asks) e.begun_is led.are
       (subst (λ (v : WorldValue). ObeysBy places v e.order new rows rows') (sym led.world_is) e.obeys)
 
   -- a line that leaves rows has left the new sheet
-  pub still : (line behind : List ℕ) (next : next_of whole rest ≡ ALine line behind) (now : Begun) (new : WorldValue) (rows' : List Row) (passes : PassesLine places first w line now new rows rows') → (rows' ≡ [] → ⊥)
+  pub still : (line behind : List ℕ) (next : next_of whole rest ≡ ALine line behind) (now : Begun) (new : WorldValue) (rows' : List TraceRow) (passes : PassesLine places first w line now new rows rows') → (rows' ≡ [] → ⊥)
       → (line_more line behind next now new rows' passes).progress.start ≡ led.progress.start
   unfolding line_more
   still line behind next now new rows' (inl s) some = refl

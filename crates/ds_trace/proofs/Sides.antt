@@ -7,14 +7,14 @@ use Rattle.ds_layout.specs.Places.{IsPlace, cells_of, parts_of}
 use Rattle.ds_layout.specs.SheetMemory.{is_place, side_at, memory}
 use Rattle.ds_layout.proofs.Sheet.{IsPlaceOf-is_place_of}
 use Rattle.ds_state.specs.Value.{WorldValue}
-use Rattle.ds_play.specs.declared.order.Call.{Call}
-use Rattle.ds_play.specs.declared.order.Call.TheVariants as calls
-use Rattle.ds_play.specs.Orders.{beginning}
+use Rattle.ds_script.specs.declared.order.Call.{Call}
+use Rattle.ds_script.specs.declared.order.Call.TheVariants as calls
+use Rattle.ds_script.specs.Orders.{beginning}
 use Rattle.ds_trace.specs.declared.row.Happening.{Happening}
 use Rattle.ds_trace.specs.declared.row.Happening.TheVariants.{Begins}
 use Rattle.ds_core.specs.declared.event.Event.{Event}
 use Rattle.ds_core.specs.declared.reply.Reply.{Reply}
-use Rattle.ds_trace.specs.declared.row.Row.{Row}
+use Rattle.ds_trace.specs.declared.row.TraceRow.{TraceRow}
 use Rattle.ds_trace.specs.Rows.{Tells, IsRowOf, OneMore, what_of, text_by, begin_in, text_in, sides_of}
 
 -- a place that is none of the sheet reads as 0
@@ -40,8 +40,8 @@ not_there layout now place there is false_is same h =
 
 -- ---- rows
 
--- the row that tells of an event is its row
-pub told : (places : List Place) (old new : WorldValue) (event : Event) (reply : Reply) (what : Happening) (text : List ℕ) (r s : List Row)
+-- the row that reports an event is its row
+pub told : (places : List Place) (old new : WorldValue) (event : Event) (reply : Reply) (what : Happening) (text : List ℕ) (r s : List TraceRow)
     → what ≡ what_of old event → text ≡ text_by event → OneMore (Tells places new what reply text) r s → OneMore (IsRowOf places old event reply new) r s
 told places old new event reply what text r s is same h = (
   h.0,
@@ -53,7 +53,7 @@ told places old new event reply what text r s is same h = (
 pub begin_what : (old : WorldValue) (p : ℕ) (call : Call) → Begins p (begin_in call) ≡ what_of old (beginning p call)
 begin_what old p (calls.Edit cell text) = refl
 begin_what old p (calls.Work cell) = refl
-begin_what old p calls.Report = refl
+begin_what old p calls.Show = refl
 begin_what old p calls.Recovery = refl
 begin_what old p calls.Migration = refl
 
@@ -61,6 +61,6 @@ begin_what old p calls.Migration = refl
 pub begin_text : (p : ℕ) (call : Call) → text_in call ≡ text_by (beginning p call)
 begin_text p (calls.Edit cell text) = refl
 begin_text p (calls.Work cell) = refl
-begin_text p calls.Report = refl
+begin_text p calls.Show = refl
 begin_text p calls.Recovery = refl
 begin_text p calls.Migration = refl

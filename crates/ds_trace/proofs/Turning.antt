@@ -1,4 +1,4 @@
--- What is left of a command behind an event.
+-- What is left of a command after an event.
 use Rattle.std.proofs.Common.{ℕ, ◌≡◌, ◌<◌, List, [], Some, refl, sym, ap, subst}
 use Rattle.std.specs.Prelude.{Option, IfSome}
 use Rattle.ds_formula.specs.Cells.{cell_at}
@@ -15,16 +15,16 @@ use Rattle.ds_core.specs.declared.reply.Reply.{Reply}
 use Rattle.ds_core.specs.declared.reply.Reply.TheVariants.{Stepped, Answered}
 use Rattle.ds_core.proofs.Bound.{same_layout}
 use Rattle.ds_calls.proofs.Driving.{offer_event, offer_fits}
-use Rattle.ds_play.specs.declared.drive.Until.{Until}
-use Rattle.ds_play.specs.declared.drive.Until.TheVariants.{InRound}
-use Rattle.ds_play.specs.ScriptTexts.{reply_text}
-use Rattle.ds_play.specs.Doing.{Says, called, offered, driven}
-use Rattle.ds_play.specs.Plays.{WantsStep}
-use Rattle.ds_play.proofs.Driving.{offer_asked, if_some}
-use Rattle.ds_stops.specs.declared.turn.Left.{Left}
-use Rattle.ds_stops.specs.declared.turn.Left.TheVariants as left
-use Rattle.ds_stops.specs.ScriptTurns.{Remains, IsWithin}
-use Rattle.ds_trace.specs.declared.row.Row.{Row}
+use Rattle.ds_script.specs.declared.drive.Until.{Until}
+use Rattle.ds_script.specs.declared.drive.Until.TheVariants.{InRound}
+use Rattle.ds_script.specs.ScriptTexts.{reply_text}
+use Rattle.ds_script.specs.Doing.{Says, called, offered, driven}
+use Rattle.ds_script.specs.Plays.{WantsStep}
+use Rattle.ds_script.proofs.Driving.{offer_asked, if_some}
+use Rattle.ds_script_stops.specs.declared.turn.Left.{Left}
+use Rattle.ds_script_stops.specs.declared.turn.Left.TheVariants as left
+use Rattle.ds_script_stops.specs.ScriptTurns.{Remains, IsWithin}
+use Rattle.ds_trace.specs.declared.row.TraceRow.{TraceRow}
 use Rattle.ds_trace.specs.declared.row.Happening.TheVariants.{TakesEntry}
 use Rattle.ds_trace.specs.Rows.{Happens, OneMore, Tells}
 use Rattle.ds_trace.specs.Trails.{TakesTurn}
@@ -34,7 +34,7 @@ pub within_driven : (w : WorldValue) (p : ℕ) (until : Until) (next : Option Le
 within_driven w p until next within same = if_some next (λ l. l ≡ left.Drives p until) (IsWithin w) (λ l is. subst (λ (x : Left). IsWithin w x) (sym is) within) same
 
 -- a beginning of work
-pub begins : (places : List Place) (old new : WorldValue) (p rounds cell : ℕ) (reply : Reply) (next : Option Left) (r s : List Row)
+pub begins : (places : List Place) (old new : WorldValue) (p rounds cell : ℕ) (reply : Reply) (next : Option Left) (r s : List TraceRow)
     → cell < cells_of old.sheet.layout → Happens places old (BeginWork p (cell_at old.sheet.layout.shape cell)) reply new r s
     → Remains next (called new p (InRound rounds cell) reply) → IfSome next (λ l. l ≡ left.Drives p (InRound rounds cell))
     → TakesTurn places (left.Works p rounds cell) old next new r s
@@ -49,7 +49,7 @@ begins places old new p rounds cell reply next r s inside happens remains same =
 }
 
 -- an offer
-pub offers : (places : List Place) (old new : WorldValue) (p : ℕ) (until : Until) (next : Option Left) (r s : List Row) (given : (entry : Entry) × IsOffered (world_of old) p entry (world_of new))
+pub offers : (places : List Place) (old new : WorldValue) (p : ℕ) (until : Until) (next : Option Left) (r s : List TraceRow) (given : (entry : Entry) × IsOffered (world_of old) p entry (world_of new))
     → IsGood new → new.done ≡ old.done → new.settled ≡ old.settled → new.reports ≡ old.reports
     → OneMore (Tells places new (TakesEntry p) Stepped []) r s
     → Remains next (offered new p until) → IfSome next (IsWithin new) → TakesTurn places (left.Drives p until) old next new r s
@@ -66,7 +66,7 @@ offers places old new p until next r s given good done settled reports row remai
 }
 
 -- a step
-pub steps : (places : List Place) (old new : WorldValue) (p : ℕ) (until : Until) (reply : Reply) (next : Option Left) (r s : List Row) → WantsStep old p → Happens places old (Step p) reply new r s
+pub steps : (places : List Place) (old new : WorldValue) (p : ℕ) (until : Until) (reply : Reply) (next : Option Left) (r s : List TraceRow) → WantsStep old p → Happens places old (Step p) reply new r s
     → Remains next (driven new p until (Step p) reply) → IfSome next (IsWithin new) → TakesTurn places (left.Drives p until) old next new r s
 steps places old new p until reply next r s wants happens remains within = record {
   event = Step p;
@@ -77,7 +77,7 @@ steps places old new p until reply next r s wants happens remains within = recor
   within = within;
 }
 
--- a step that can not be taken
+-- a step that cannot be taken
 pub says : (w : WorldValue) (p : ℕ) (until : Until) (reply : Reply) → (reply ≡ Stepped → ⊥) → ((answer : Answer) → reply ≡ Answered answer → ⊥) → driven w p until (Step p) reply ≡ Says (reply_text w p reply)
 says w p until Stepped a b = absurd (a refl)
 says w p until (Answered answer) a b = absurd (b answer refl)

@@ -11,22 +11,22 @@ use Rattle.ds_state.specs.declared.situation.Situation.{Situation}
 use Rattle.ds_state.specs.declared.situation.Situation.TheVariants as situations
 use Rattle.ds_edit.specs.EditSteps as edits
 use Rattle.ds_work.specs.WorkSteps as works
-use Rattle.ds_report.specs.ReportSteps as shows
+use Rattle.ds_show.specs.ShowSteps as shows
 use Rattle.ds_recover.specs.RecoverySteps as recoveries
 use Rattle.ds_recover.specs.MigrationSteps as migrations
 use Rattle.ds_core.specs.Takes.{Fits}
 use Rattle.ds_core.specs.declared.event.Event.{Event}
 use Rattle.ds_core.specs.declared.event.Event.TheVariants as events
 use Rattle.ds_core.specs.declared.reply.Reply.{Reply}
-use Rattle.ds_play.specs.Points.{has_passed}
-use Rattle.ds_play.specs.ScriptTexts.{reply_text}
-use Rattle.ds_play.specs.declared.order.Call.{Call}
-use Rattle.ds_play.specs.declared.order.Call.TheVariants as calls
+use Rattle.ds_script.specs.Points.{has_passed}
+use Rattle.ds_script.specs.ScriptTexts.{reply_text}
+use Rattle.ds_script.specs.declared.order.Call.{Call}
+use Rattle.ds_script.specs.declared.order.Call.TheVariants as calls
 use Rattle.ds_trace.specs.declared.row.Begin.{Begin}
 use Rattle.ds_trace.specs.declared.row.Begin.TheVariants as begins
 use Rattle.ds_trace.specs.declared.row.Happening.{Happening}
 use Rattle.ds_trace.specs.declared.row.Happening.TheVariants.{Begins, Steps, TakesEntry, Evicts, Stops, Crashes}
-use Rattle.ds_trace.specs.declared.row.Row.{Row}
+use Rattle.ds_trace.specs.declared.row.TraceRow.{TraceRow}
 
 -- ---- what happened
 
@@ -37,7 +37,7 @@ access_in shape situations.Stopped = accesses.Nothing
 access_in shape (situations.Editing e) = edits.access_at e e.stage
 access_in shape (situations.Working e) = works.access_at shape e e.stage
 access_in shape (situations.Recovering e) = recoveries.access_at e e.stage
-access_in shape (situations.Reporting e) = shows.access_at e.stage
+access_in shape (situations.Showing e) = shows.access_at e.stage
 access_in shape (situations.Migrating e) = migrations.access_at e e.stage
 
 -- the access that the process makes by its next step in the world
@@ -48,7 +48,7 @@ access_of v p = access_in v.sheet.layout.shape ((world_of v).situation p)
 abbrev pub what_of : WorldValue → Event → Happening
 what_of old (events.BeginEdit r) = Begins r.process (begins.Edit r.cell)
 what_of old (events.BeginWork p cell) = Begins p (begins.Work cell)
-what_of old (events.BeginReport p) = Begins p begins.Report
+what_of old (events.BeginShow p) = Begins p begins.Show
 what_of old (events.BeginRecover p) = Begins p begins.Recovery
 what_of old (events.BeginMigrate p) = Begins p begins.Migration
 what_of old (events.Step p) = Steps p (access_of old p)
@@ -66,7 +66,7 @@ text_by event = []
 abbrev pub begin_in : Call → Begin
 begin_in (calls.Edit cell text) = begins.Edit cell
 begin_in (calls.Work cell) = begins.Work cell
-begin_in calls.Report = begins.Report
+begin_in calls.Show = begins.Show
 begin_in calls.Recovery = begins.Recovery
 begin_in calls.Migration = begins.Migration
 
@@ -74,7 +74,7 @@ begin_in calls.Migration = begins.Migration
 abbrev pub text_in : Call → List ℕ
 text_in (calls.Edit cell text) = text.now
 text_in (calls.Work cell) = []
-text_in calls.Report = []
+text_in calls.Show = []
 text_in calls.Recovery = []
 text_in calls.Migration = []
 
@@ -95,9 +95,9 @@ answered_by (Stops p) = p
 answered_by (Evicts place) = 0
 answered_by Crashes = 0
 
--- the row tells this, and of the world behind it: the reply as scripts write it, a point that the call of the process has
--- behind it, how many edits count, and both sides of the words at the places
-pub record Tells (places : List Place) (new : WorldValue) (what : Happening) (reply : Reply) (text : List ℕ) (row : Row) : Type 0 where
+-- the row says this, and of the world after it: the reply as scripts write it, a point that the call of the process
+-- has passed, how many edits are linearized, and both sides of the words at the places
+pub record Tells (places : List Place) (new : WorldValue) (what : Happening) (reply : Reply) (text : List ℕ) (row : TraceRow) : Type 0 where
   pub what_is : row.what ≡ what
   pub reply_is : row.reply ≡ reply
   pub text_is : row.text.items ≡ text
@@ -107,14 +107,14 @@ pub record Tells (places : List Place) (new : WorldValue) (what : Happening) (re
   pub words : row.words.items ≡ map (sides_of new) places
 
 -- the row is that of an event, which leads with this reply from the one world to the other
-abbrev pub IsRowOf : List Place → WorldValue → Event → Reply → WorldValue → Row → Type 0
+abbrev pub IsRowOf : List Place → WorldValue → Event → Reply → WorldValue → TraceRow → Type 0
 IsRowOf places old event reply new row = Tells places new (what_of old event) reply (text_by event) row
 
--- one row stands behind the others, for which this holds
-abbrev pub OneMore : (Row → Type 0) → List Row → List Row → Type 0
-OneMore P before after = (row : Row) × (after ≡ before ++ row ∷ []) × P row
+-- one row stands after the others, for which this holds
+abbrev pub OneMore : (TraceRow → Type 0) → List TraceRow → List TraceRow → Type 0
+OneMore P before after = (row : TraceRow) × (after ≡ before ++ row ∷ []) × P row
 
--- the event leads, with its reply, from the one world to the other, and its row stands behind the others
-pub record Happens (places : List Place) (old : WorldValue) (event : Event) (reply : Reply) (new : WorldValue) (before after : List Row) : Type 0 where
+-- the event leads, with its reply, from the one world to the other, and its row stands after the others
+pub record Happens (places : List Place) (old : WorldValue) (event : Event) (reply : Reply) (new : WorldValue) (before after : List TraceRow) : Type 0 where
   pub fits : Fits old event reply new
   pub row : OneMore (IsRowOf places old event reply new) before after

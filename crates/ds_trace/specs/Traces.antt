@@ -5,12 +5,12 @@ use Rattle.ds_words.specs.declared.access.Access.{Access}
 use Rattle.ds_words.specs.declared.access.Access.TheVariants as accesses
 use Rattle.ds_layout.specs.declared.place.Place.{Place}
 use Rattle.ds_state.specs.Value.{WorldValue}
-use Rattle.ds_streams.specs.ScriptLines.{NoLine, next_of}
-use Rattle.ds_play.specs.declared.order.Begun.{Begun}
-use Rattle.ds_play.specs.Orders.{Order, order_of}
-use Rattle.ds_play.specs.Running.{after}
-use Rattle.ds_play.specs.Script.{Progress, Carried, Breaks}
-use Rattle.ds_trace.specs.declared.row.Row.{Row}
+use Rattle.ds_script_io.specs.ScriptLines.{NoLine, next_of}
+use Rattle.ds_script.specs.declared.order.Begun.{Begun}
+use Rattle.ds_script.specs.Orders.{Order, order_of}
+use Rattle.ds_script.specs.Running.{after}
+use Rattle.ds_script.specs.Script.{Progress, Carried, Breaks}
+use Rattle.ds_trace.specs.declared.row.TraceRow.{TraceRow}
 use Rattle.ds_trace.specs.declared.row.Trace.{Trace}
 use Rattle.ds_trace.specs.declared.row.Happening.{Happening}
 use Rattle.ds_trace.specs.declared.row.Happening.TheVariants.{Begins, Steps, TakesEntry, Evicts, Stops, Crashes}
@@ -24,7 +24,7 @@ use Rattle.ds_trace.specs.Trails.{AreRows, ObeysBy}
 
 -- the lines of a script are carried out to the last one, which leads to this world; and the rows are those of the events,
 -- from the new sheet on that it begins with, with the words at these places, which the new sheet has so
-pub record IsRecord (whole : Bool) (script : List ℕ) (places : List Place) (start : List Word) (w : WorldValue) (rows : List Row) : Type 0 where
+pub record IsRecord (whole : Bool) (script : List ℕ) (places : List Place) (start : List Word) (w : WorldValue) (rows : List TraceRow) : Type 0 where
   pub lines : ℕ
   pub progress : Progress
   pub out : List ℕ
@@ -50,21 +50,21 @@ IsUntraced whole script untraced.NoMemory = Unit {0}
 -- ---- a line
 
 -- the line is skipped: all stays
-pub record SkipsLine (first : Begun) (old : WorldValue) (line : List ℕ) (now : Begun) (new : WorldValue) (before rows : List Row) : Type 0 where
+pub record SkipsLine (first : Begun) (old : WorldValue) (line : List ℕ) (now : Begun) (new : WorldValue) (before rows : List TraceRow) : Type 0 where
   pub asks : order_of first old line ≡ Ok None
   pub still : now ≡ first
   pub same : new ≡ old
   pub no_row : rows ≡ before
 
 -- the line is carried out
-pub record CarriesLine (places : List Place) (first : Begun) (old : WorldValue) (line : List ℕ) (now : Begun) (new : WorldValue) (before rows : List Row) : Type 0 where
+pub record CarriesLine (places : List Place) (first : Begun) (old : WorldValue) (line : List ℕ) (now : Begun) (new : WorldValue) (before rows : List TraceRow) : Type 0 where
   pub order : Order
   pub asks : order_of first old line ≡ Ok (Some order)
   pub obeys : ObeysBy places old order new before rows
   pub begun_is : now ≡ after order
 
 -- the line is skipped or carried out
-abbrev pub PassesLine : List Place → Begun → WorldValue → List ℕ → Begun → WorldValue → List Row → List Row → Type 0
+abbrev pub PassesLine : List Place → Begun → WorldValue → List ℕ → Begun → WorldValue → List TraceRow → List TraceRow → Type 0
 PassesLine places first old line now new before rows = SkipsLine first old line now new before rows ⊎ CarriesLine places first old line now new before rows
 
 -- why no further line is carried out: by its fault, or for want of room

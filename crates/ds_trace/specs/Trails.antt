@@ -5,35 +5,35 @@ use Rattle.ds_state.specs.Value.{WorldValue}
 use Rattle.ds_core.specs.Takes.{Fits}
 use Rattle.ds_core.specs.declared.event.Event.{Event}
 use Rattle.ds_core.specs.declared.reply.Reply.{Reply}
-use Rattle.ds_play.specs.Orders.{Order, Make, Does}
-use Rattle.ds_play.specs.Doing.{Doing, Says, asks, told, plan}
-use Rattle.ds_play.specs.Plays.{Plays}
-use Rattle.ds_play.specs.Script.{IsMade}
-use Rattle.ds_stops.specs.declared.turn.Left.{Left}
-use Rattle.ds_stops.specs.ScriptTurns.{Remains, IsWithin, doing_of}
-use Rattle.ds_trace.specs.declared.row.Row.{Row}
+use Rattle.ds_script.specs.Orders.{Order, Make, Does}
+use Rattle.ds_script.specs.Doing.{Doing, Says, asks, told, plan}
+use Rattle.ds_script.specs.Plays.{Plays}
+use Rattle.ds_script.specs.Script.{IsMade}
+use Rattle.ds_script_stops.specs.declared.turn.Left.{Left}
+use Rattle.ds_script_stops.specs.ScriptTurns.{Remains, IsWithin, doing_of}
+use Rattle.ds_trace.specs.declared.row.TraceRow.{TraceRow}
 use Rattle.ds_trace.specs.Rows.{IsRowOf, Happens}
 
 -- these are the rows of a run, with the words at these places: one for each event, in their order, from world to world
-abbrev pub AreRows : List Place → WorldValue → List Event → List Reply → List Row → WorldValue → Type 0
+abbrev pub AreRows : List Place → WorldValue → List Event → List Reply → List TraceRow → WorldValue → Type 0
 AreRows places old [] [] [] new = new ≡ old
 AreRows places old (event ∷ events) (reply ∷ replies) (row ∷ rows) new =
     (mid : WorldValue) × Fits old event reply mid × IsRowOf places old event reply mid row × AreRows places mid events replies rows new
 AreRows places old _ _ _ new = ⊥
 
 -- some events lead a command from where it stands to its end, from the one world to the other, and their rows stand
--- behind the others
-pub record Trail (places : List Place) (doing : Doing) (old new : WorldValue) (before after : List Row) : Type 0 where
+-- after the others
+pub record Trail (places : List Place) (doing : Doing) (old new : WorldValue) (before after : List TraceRow) : Type 0 where
   pub events : List Event
   pub replies : List Reply
   pub text : List ℕ
-  pub rows : List Row
+  pub rows : List TraceRow
   pub plays : Plays doing old events replies (Says text) new
   pub are : AreRows places old events replies rows new
   pub behind : after ≡ before ++ rows
 
--- the command takes the event that it wants, whose row stands behind the others, and this is left of it behind that
-pub record TakesTurn (places : List Place) (l : Left) (old : WorldValue) (next : Option Left) (new : WorldValue) (before after : List Row) : Type 0 where
+-- the command takes the event that it wants, whose row stands after the others, and this is left of it after that
+pub record TakesTurn (places : List Place) (l : Left) (old : WorldValue) (next : Option Left) (new : WorldValue) (before after : List TraceRow) : Type 0 where
   pub event : Event
   pub reply : Reply
   pub asked : asks (doing_of l) old ≡ Some event
@@ -42,7 +42,7 @@ pub record TakesTurn (places : List Place) (l : Left) (old : WorldValue) (next :
   pub within : IfSome next (IsWithin new)
 
 -- an order is carried out: a new sheet is made, without rows; or the deed is played to its end, and the rows of its
--- events stand behind the others
-abbrev pub ObeysBy : List Place → WorldValue → Order → WorldValue → List Row → List Row → Type 0
+-- events stand after the others
+abbrev pub ObeysBy : List Place → WorldValue → Order → WorldValue → List TraceRow → List TraceRow → Type 0
 ObeysBy places old (Make first columns rows processes edition) new before after = IsMade columns rows processes edition new × (after ≡ [])
 ObeysBy places old (Does deed) new before after = Trail places (plan old deed) old new before after

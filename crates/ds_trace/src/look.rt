@@ -1,13 +1,13 @@
-//! What a world shows before an event, and behind it.
+//! What a world shows before an event, and after it.
 
 ghost use Rattle.std.specs.Prelude.{◌≡◌, true, IfOk, IfSome, map};
 ghost use Rattle.ds_state.specs.Value.{world_of};
-ghost use Rattle.ds_play.specs.Points.{has_passed};
+ghost use Rattle.ds_script.specs.Points.{has_passed};
 ghost use Rattle.ds_trace.specs.Rows.{access_of, sides_of};
 
 use ds_layout::place::Place;
-use ds_play::drive::has_come;
-use ds_play::point::PointName;
+use ds_script::drive::has_come;
+use ds_script::point::PointName;
 use ds_state::situation::Situation;
 use ds_state::world::World;
 use ds_words::access::Access;
@@ -25,7 +25,7 @@ pub fn wanted(world: &World, process: usize) -> Access<Place>
         Situation::Editing(call) => ds_edit::machine::want(call),
         Situation::Working(call) => ds_work::machine::want(call, world.words.layout().shape),
         Situation::Recovering(call) => ds_recover::machine::want(call),
-        Situation::Reporting(call) => ds_report::machine::want(call),
+        Situation::Showing(call) => ds_show::machine::want(call),
         Situation::Migrating(call) => ds_recover::migrate::want(call),
         Situation::Idle(_) | Situation::Stopped => Access::Nothing,
     }
@@ -45,7 +45,7 @@ pub fn sides(world: &World, place: Place) -> Word
     }
 }
 
-/// Both sides of the words at these places, in their order. An error is a want of memory.
+/// Both sides of the words at these places, in their order. An error means that an allocation failed.
 pub fn words(alloc: Global, world: &World, places: &[Place]) -> Result<Vec<Word>, AllocError>
     ensures { IfOk result (λ words. words.items ≡ map (sides_of world.now) places.now) }
 {
@@ -76,7 +76,7 @@ const POINTS: [PointName; 16] = [
     PointName::Switched,
 ];
 
-/// The last point that the call of a process has behind it, if it has one.
+/// The last point that the call of a process has passed, if it has one.
 pub fn behind(world: &World, process: usize) -> Option<PointName>
     ensures { IfSome result (λ name. has_passed ((world_of world.now).situation process) name ≡ true) }
 {

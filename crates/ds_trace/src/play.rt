@@ -4,28 +4,30 @@ ghost use Rattle.std.specs.Prelude.{◌≡◌, ◌<◌, ◌≤◌, List, [], IfO
 ghost use Rattle.ds_layout.specs.Places.{cells_of};
 ghost use Rattle.ds_core.specs.declared.event.Event.TheVariants.{Step};
 ghost use Rattle.ds_core.specs.declared.reply.Reply.TheVariants.{Answered};
-ghost use Rattle.ds_play.specs.Orders.{CanDo, beginning, command_view};
-ghost use Rattle.ds_play.specs.Doing.{Doing, Calls, Once, driven, ended, offered, stepped, to_point, settle};
-ghost use Rattle.ds_play.specs.Plays.{WantsStep};
-ghost use Rattle.ds_play.specs.Script.{IsMade};
-ghost use Rattle.ds_play.specs.declared.drive.Until.TheVariants.{InRound};
+ghost use Rattle.ds_script.specs.Orders.{CanDo, beginning, command_view};
+ghost use Rattle.ds_script.specs.Doing.{Doing, Calls, Once, driven, ended, offered, stepped, to_point, settle};
+ghost use Rattle.ds_script.specs.Plays.{WantsStep};
+ghost use Rattle.ds_script.specs.Script.{IsMade};
+ghost use Rattle.ds_script.specs.declared.drive.Until.TheVariants.{InRound};
 ghost use Rattle.ds_state.specs.Value.{world_of};
-ghost use Rattle.ds_stops.specs.ScriptTurns.{IsWithin, Remains, doing_of};
+ghost use Rattle.ds_script_stops.specs.ScriptTurns.{IsWithin, Remains, doing_of};
 ghost use Rattle.ds_trace.specs.Trails.{ObeysBy, TakesTurn, Trail};
 ghost use Rattle.ds_trace.specs.declared.turn.TheConstants.{EVENT_LIMIT};
 
-use crate::row::{Happening, Row};
+use crate::row::{Happening, TraceRow};
 use crate::turn::{NoTrace, begin, crash, evict, note, step, stop};
 use ds_calls::settle;
 use ds_core::reply::Reply;
 use ds_layout::layout::Layout;
 use ds_layout::place::{Edition, Place};
-use ds_play::carry::new_world;
-use ds_play::drive::Until;
-use ds_play::order::{Call, Command};
-use ds_play::point::PointName;
+use ds_script::carry::new_world;
+use ds_script::drive::Until;
+use ds_script::order::{Call, Command};
+use ds_script::point::PointName;
+use ds_script_stops::turn::{
+    Left, after_answer, after_begin, after_offer, after_step, left_of, to_point,
+};
 use ds_state::world::World;
-use ds_stops::turn::{Left, after_answer, after_begin, after_offer, after_step, left_of, to_point};
 use ds_work::offer::offer_own;
 use std::alloc::Global;
 
@@ -50,7 +52,7 @@ fn begin_work(
     process: usize,
     rounds: usize,
     cell: usize,
-    rows: &mut Vec<Row>,
+    rows: &mut Vec<TraceRow>,
 ) -> Result<Option<Left>, NoTrace>
     requires { cell < cells_of world.old.sheet.layout }
     ensures turn { IfOk result (λ left. TakesTurn places.now (Left.Works process rounds cell) world.old left world.new rows.old.items rows.new.items) }
@@ -68,7 +70,7 @@ fn step_on(
     places: &[Place],
     process: usize,
     until: Until,
-    rows: &mut Vec<Row>,
+    rows: &mut Vec<TraceRow>,
 ) -> Result<Option<Left>, NoTrace>
     requires wants { WantsStep world.old process }
     requires within { IsWithin world.old (Left.Drives process until) }
@@ -86,7 +88,7 @@ fn go(
     places: &[Place],
     process: usize,
     until: Until,
-    rows: &mut Vec<Row>,
+    rows: &mut Vec<TraceRow>,
 ) -> Result<Option<Left>, NoTrace>
     requires { IsWithin world.old (Left.Drives process until) }
     ensures turn { IfOk result (λ left. TakesTurn places.now (Left.Drives process until) world.old left world.new rows.old.items rows.new.items) }
@@ -109,7 +111,7 @@ fn take_turn(
     world: &mut World,
     places: &[Place],
     left: Left,
-    rows: &mut Vec<Row>,
+    rows: &mut Vec<TraceRow>,
 ) -> Result<Option<Left>, NoTrace>
     requires { IsWithin world.old left }
     ensures turn { IfOk result (λ next. TakesTurn places.now left world.old next world.new rows.old.items rows.new.items) }
@@ -131,7 +133,7 @@ fn play(
     world: &mut World,
     places: &[Place],
     first: Left,
-    rows: &mut Vec<Row>,
+    rows: &mut Vec<TraceRow>,
 ) -> Result<(), NoTrace>
     requires { IsWithin world.old first }
     ensures { OnOk result (Trail places.now (doing_of first) world.old world.new rows.old.items rows.new.items) }
@@ -151,7 +153,7 @@ fn play_on(
     world: &mut World,
     places: &[Place],
     left: Option<Left>,
-    rows: &mut Vec<Row>,
+    rows: &mut Vec<TraceRow>,
 ) -> Result<(), NoTrace>
     requires { IfSome left (IsWithin world.old) }
     ensures { (doing : Doing) → Remains left doing → OnOk result (Trail places.now doing world.old world.new rows.old.items rows.new.items) }
@@ -169,7 +171,7 @@ fn whole(
     places: &[Place],
     process: usize,
     call: Call<'_>,
-    rows: &mut Vec<Row>,
+    rows: &mut Vec<TraceRow>,
 ) -> Result<(), NoTrace>
     ensures { OnOk result (Trail places.now (Calls process (beginning process call.entry)) world.old world.new rows.old.items rows.new.items) }
 {
@@ -184,7 +186,7 @@ fn settle(
     world: &mut World,
     places: &[Place],
     process: usize,
-    rows: &mut Vec<Row>,
+    rows: &mut Vec<TraceRow>,
 ) -> Result<(), NoTrace>
     ensures { OnOk result (Trail places.now (settle world.old process) world.old world.new rows.old.items rows.new.items) }
 {
@@ -199,7 +201,7 @@ fn run_to(
     places: &[Place],
     process: usize,
     name: PointName,
-    rows: &mut Vec<Row>,
+    rows: &mut Vec<TraceRow>,
 ) -> Result<(), NoTrace>
     ensures { OnOk result (Trail places.now (to_point process name ((world_of world.old).situation process)) world.old world.new rows.old.items rows.new.items) }
 {
@@ -214,7 +216,7 @@ fn begin_only(
     places: &[Place],
     process: usize,
     call: Call<'_>,
-    rows: &mut Vec<Row>,
+    rows: &mut Vec<TraceRow>,
 ) -> Result<(), NoTrace>
     ensures { OnOk result (Trail places.now (Once process (beginning process call.entry)) world.old world.new rows.old.items rows.new.items) }
 {
@@ -228,7 +230,7 @@ fn make(
     world: &mut World,
     layout: Layout,
     edition: Edition,
-    rows: &mut Vec<Row>,
+    rows: &mut Vec<TraceRow>,
 ) -> Result<(), NoTrace>
     ensures made { OnOk result (IsMade layout.shape.columns layout.shape.rows layout.processes edition world.new) }
     ensures no_row { OnOk result (rows.new.items ≡ []) }
@@ -238,14 +240,14 @@ fn make(
     Ok(())
 }
 
-/// Carries a command out, and puts its events behind the rows; a new sheet has no rows. An error is a row too many, or a
-/// want of memory.
+/// Carries a command out, and appends its events to the rows; a new sheet has no rows. An error is a row too many, or a
+/// failed allocation.
 pub fn carry_out(
     alloc: Global,
     world: &mut World,
     places: &[Place],
     command: Command<'_>,
-    rows: &mut Vec<Row>,
+    rows: &mut Vec<TraceRow>,
 ) -> Result<(), NoTrace>
     requires { CanDo world.old.sheet.layout command }
     ensures { OnOk result (ObeysBy places.now world.old (command_view command.entry) world.new rows.old.items rows.new.items) }

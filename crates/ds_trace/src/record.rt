@@ -2,24 +2,24 @@
 
 ghost use Rattle.std.specs.Prelude.{◌≡◌, ◌<◌, ◌↔◌, ◌^◌, [], IfErr, IfOk, IsTrue, OnOk, length};
 ghost use Rattle.ds_layout.specs.declared.place.Edition.TheVariants as editions;
-ghost use Rattle.ds_play.specs.Script.{IsMade};
+ghost use Rattle.ds_script.specs.Script.{IsMade};
 ghost use Rattle.ds_trace.specs.Traces.{IsRecord, IsTraceOf, IsUntraced, PassesLine, StopsLine, why_not};
 ghost use Rattle.ds_trace.specs.declared.record.Hindrance.TheVariants as hindrances;
 ghost use Rattle.ds_trace.specs.declared.record.Untraced.TheVariants as untraced;
 
 use crate::look::words;
 use crate::play::carry_out;
-use crate::row::{Row, Trace};
+use crate::row::{Trace, TraceRow};
 use crate::turn::NoTrace;
 use ds_formula::cells::Shape;
 use ds_layout::layout::Layout;
 use ds_layout::place::{Edition, Place};
-use ds_play::carry::new_world;
-use ds_play::order::{Begun, read_order};
-use ds_play::script::begun_by;
+use ds_script::carry::new_world;
+use ds_script::order::{Begun, read_order};
+use ds_script::script::begun_by;
+use ds_script_io::ending::ScriptFault;
+use ds_script_io::line::{NextLine, next_line};
 use ds_state::world::World;
-use ds_streams::ending::ScriptFault;
-use ds_streams::line::{NextLine, next_line};
 use ds_words::words::Word;
 use std::alloc::{AllocError, Global};
 
@@ -30,7 +30,7 @@ pub enum Untraced {
     Fault {
         /// The line.
         line: usize,
-        /// Its fault.
+        /// The fault of the line.
         kind: ScriptFault,
     },
     /// The run has more events than a recording has room for.
@@ -88,7 +88,7 @@ fn obey(
     line: &[u8],
     begun: Begun,
     world: &mut World,
-    rows: &mut Vec<Row>,
+    rows: &mut Vec<TraceRow>,
 ) -> Result<Begun, Hindrance>
     ensures passes { IfOk result (λ now. PassesLine places.now begun world.old line.now now world.new rows.old.items rows.new.items) }
     ensures stops { IfErr result (λ stop. StopsLine begun world.old line.now stop) }
@@ -117,21 +117,21 @@ fn fresh(alloc: Global) -> Result<World, AllocError>
 }
 
 // Whether no event has a row yet.
-fn has_none(rows: &Vec<Row>) -> bool
+fn has_none(rows: &Vec<TraceRow>) -> bool
     ensures { IsTrue result ↔ (rows.now.items ≡ []) }
 {
     rows.is_empty()
 }
 
-// Carries the lines of a script out, from a new world on, and puts the rows of their events behind each other. It answers
-// the words of the new sheet: those of the world that has no row yet.
+// Carries the lines of a script out, from a new world on, and puts the rows of their events one after the other. It
+// answers the words of the new sheet: those of the world that has no row yet.
 fn record_lines(
     alloc: Global,
     places: &[Place],
     script: &[u8],
     whole: bool,
     world: &mut World,
-    rows: &mut Vec<Row>,
+    rows: &mut Vec<TraceRow>,
 ) -> Result<Vec<Word>, Untraced>
     requires made { IsMade 2 2 2 editions.Second world.old }
     requires empty { rows.old.items ≡ [] }
@@ -174,7 +174,7 @@ fn layout_of(world: &World) -> Layout
 }
 
 /// The rows of a script, from a new sheet of two columns, two rows and two processes on, or from the one that it begins
-/// with: one for each event, with both sides of the words at these places. Where it is not `whole`, what comes behind
+/// with: one for each event, with both sides of the words at these places. Where it is not `whole`, what comes after
 /// its last line feed is left out.
 pub fn record(
     alloc: Global,

@@ -4,7 +4,7 @@ use ds_core::reply::Reply;
 use ds_formula::cells::Cell;
 use ds_layout::layout::Layout;
 use ds_layout::place::Place;
-use ds_play::point::PointName;
+use ds_script::point::PointName;
 use ds_words::access::Access;
 use ds_words::words::Word;
 
@@ -16,7 +16,7 @@ pub enum Begin {
     /// Work on the cell.
     Work(Cell),
     /// A report.
-    Report,
+    Show,
     /// A recovery.
     Recovery,
     /// A migration.
@@ -42,20 +42,20 @@ pub enum Happening {
 
 /// An event of a run.
 #[derive(Debug, Drop)]
-pub struct Row {
+pub struct TraceRow {
     /// What happened.
     pub what: Happening,
     /// What it was answered.
     pub reply: Reply,
-    /// The last point that the process's call has behind it then, if it has one.
+    /// The last point that the process's call has passed then, if it has one.
     pub behind: Option<PointName>,
-    /// How many edits count behind it.
+    /// How many edits are linearized after it.
     pub counted: usize,
     /// The text that an edit is to have which begins; else it is empty.
     pub text: Vec<u8>,
     /// The reply as scripts write it, in one or more lines.
     pub answer: Vec<u8>,
-    /// Both sides behind it of each word that the recording looks at, in their order.
+    /// Both sides after it of each word that the recording looks at, in their order.
     pub words: Vec<Word>,
 }
 
@@ -69,5 +69,5 @@ pub struct Trace {
     /// Both sides of each of them in the new sheet, before the first event.
     pub start: Vec<Word>,
     /// The events, in their order.
-    pub rows: Vec<Row>,
+    pub rows: Vec<TraceRow>,
 }

@@ -4,7 +4,7 @@ ghost use Rattle.std.specs.Prelude.{◌≡◌, ◌<◌, ◌^◌, All, IfErr, IfO
 ghost use Rattle.ds_trace.specs.Traces.{IsTraceOf, IsUntraced, NamesWithin, place_in, place_named};
 
 use crate::record::{Untraced, record};
-use crate::row::{Happening, Row, Trace};
+use crate::row::{Happening, Trace, TraceRow};
 use ds_layout::place::Place;
 use ds_words::access::Access;
 use std::alloc::{AllocError, Global};
@@ -37,7 +37,7 @@ pub fn place_named(what: Happening) -> Option<Place>
     }
 }
 
-// Puts the place that an event names behind the others, where it is none of them.
+// Appends the place that an event names to the others, where it is none of them.
 fn add(places: &mut Vec<Place>, what: Happening) -> Result<(), AllocError> {
     if let Some(place) = place_named(what) {
         if !places.contains(&place) {
@@ -48,7 +48,7 @@ fn add(places: &mut Vec<Place>, what: Happening) -> Result<(), AllocError> {
 }
 
 // The places that events name, in the order in which they do first.
-fn places_of(alloc: Global, rows: &[Row]) -> Result<Vec<Place>, AllocError> {
+fn places_of(alloc: Global, rows: &[TraceRow]) -> Result<Vec<Place>, AllocError> {
     let mut places = Vec::new(alloc);
     for row in rows {
         add(&mut places, row.what)?;
@@ -67,7 +67,7 @@ fn is_within(places: &[Place], what: Happening) -> bool
 }
 
 // Whether each event names one of the places, or none at all.
-fn are_within(places: &[Place], rows: &[Row]) -> bool
+fn are_within(places: &[Place], rows: &[TraceRow]) -> bool
     ensures { IsTrue result → All (λ row. NamesWithin places.now row.what) rows.now }
 {
     for row in rows {
@@ -80,7 +80,7 @@ fn are_within(places: &[Place], rows: &[Row]) -> bool
 
 /// The recording of a script, from a new sheet of two columns, two rows and two processes on, or from the one that it
 /// begins with: a row for each event, with both sides of each word that an event names. Where it is not `whole`, what
-/// comes behind its last line feed is left out. The script is run twice: once for the words that it names.
+/// comes after its last line feed is left out. The script is run twice: once for the words that it names.
 pub fn trace(alloc: Global, script: &[u8], whole: bool) -> Result<Trace, Untraced>
     requires { length script.now < 2 ^ 62 }
     ensures trace { IfOk result (λ trace. IsTraceOf whole script.now trace) }

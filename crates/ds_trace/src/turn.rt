@@ -3,20 +3,20 @@
 ghost use Rattle.std.specs.Prelude.{◌≡◌, ◌≤◌, IfOk, OnOk, length};
 ghost use Rattle.ds_core.specs.Takes.{Fits};
 ghost use Rattle.ds_core.specs.declared.event.Event.TheVariants as events;
-ghost use Rattle.ds_play.specs.Orders.{beginning};
+ghost use Rattle.ds_script.specs.Orders.{beginning};
 ghost use Rattle.ds_core.specs.declared.reply.Reply.{Reply};
 ghost use Rattle.ds_trace.specs.Rows.{Happens, OneMore, Tells, answered_by, begin_in, text_in};
 
 use crate::look::{behind, wanted, words};
-use crate::row::{Begin, Happening, Row};
+use crate::row::{Begin, Happening, TraceRow};
 use ds_calls::finish::step_once;
 use ds_core::event::Event;
 use ds_core::reply::Reply;
 use ds_core::take::take;
 use ds_layout::place::Place;
-use ds_play::carry::begins;
-use ds_play::order::Call;
-use ds_play::texts::reply_bytes;
+use ds_script::carry::begins;
+use ds_script::order::Call;
+use ds_script::texts::reply_bytes;
 use ds_state::world::World;
 use std::alloc::{AllocError, AllocFailed, Global};
 
@@ -55,7 +55,7 @@ fn answered_by(what: Happening) -> usize
     }
 }
 
-// The row of an event, in the world behind it.
+// The row of an event, in the world after it.
 fn row_of(
     alloc: Global,
     world: &World,
@@ -63,13 +63,13 @@ fn row_of(
     what: Happening,
     reply: Reply,
     text: &[u8],
-) -> Result<Row, AllocError>
+) -> Result<TraceRow, AllocError>
     ensures { IfOk result (λ row. Tells places.now world.now what reply text.now row) }
 {
     let answer = reply_bytes(alloc, world, answered_by(what), reply)?;
     let text = Vec::from_slice(alloc, text)?;
     let words = words(alloc, world, places)?;
-    Ok(Row {
+    Ok(TraceRow {
         what,
         reply,
         behind: behind(world, answered_by(what)),
@@ -80,8 +80,8 @@ fn row_of(
     })
 }
 
-/// Puts the row of an event behind the others, in the world behind it. An error is a row too many, or a want of memory;
-/// the rows stay as they are then.
+/// Appends the row of an event to the others, in the world after it. An error is a row too many, or a failed
+/// allocation; the rows stay as they are then.
 pub fn note(
     alloc: Global,
     world: &World,
@@ -89,7 +89,7 @@ pub fn note(
     what: Happening,
     reply: Reply,
     text: &[u8],
-    rows: &mut Vec<Row>,
+    rows: &mut Vec<TraceRow>,
 ) -> Result<(), NoTrace>
     ensures row { OnOk result (OneMore (Tells places.now world.now what reply text.now) rows.old.items rows.new.items) }
     ensures few { OnOk result (length rows.new.items ≤ EVENT_LIMIT) }
@@ -109,7 +109,7 @@ fn begin_of(call: Call<'_>) -> Begin
     match call {
         Call::Edit(cell, _) => Begin::Edit(cell),
         Call::Work(cell) => Begin::Work(cell),
-        Call::Report => Begin::Report,
+        Call::Show => Begin::Show,
         Call::Recovery => Begin::Recovery,
         Call::Migration => Begin::Migration,
     }
@@ -121,19 +121,19 @@ fn text_of<'a>(call: Call<'a>) -> &'a [u8]
 {
     match call {
         Call::Edit(_, text) => text,
-        Call::Work(_) | Call::Report | Call::Recovery | Call::Migration => &[],
+        Call::Work(_) | Call::Show | Call::Recovery | Call::Migration => &[],
     }
 }
 
 /// A call of a process begins, or is refused: the reply to the event that begins it. An error is a row too many, or a
-/// want of memory.
+/// failed allocation.
 pub fn begin(
     alloc: Global,
     world: &mut World,
     places: &[Place],
     process: usize,
     call: Call<'_>,
-    rows: &mut Vec<Row>,
+    rows: &mut Vec<TraceRow>,
 ) -> Result<Reply, NoTrace>
     ensures happens { IfOk result (λ reply. Happens places.now world.old (beginning process call.entry) reply world.new rows.old.items rows.new.items) }
     ensures few { OnOk result (length rows.new.items ≤ EVENT_LIMIT) }
@@ -145,13 +145,13 @@ pub fn begin(
     Ok(reply)
 }
 
-/// A process makes a step, if it can. An error is a row too many, or a want of memory.
+/// A process makes a step, if it can. An error is a row too many, or a failed allocation.
 pub fn step(
     alloc: Global,
     world: &mut World,
     places: &[Place],
     process: usize,
-    rows: &mut Vec<Row>,
+    rows: &mut Vec<TraceRow>,
 ) -> Result<Reply, NoTrace>
     ensures happens { IfOk result (λ reply. Happens places.now world.old (events.Step process) reply world.new rows.old.items rows.new.items) }
     ensures few { OnOk result (length rows.new.items ≤ EVENT_LIMIT) }
@@ -186,13 +186,13 @@ fn crashed(alloc: Global, world: &mut World) -> Reply
     happen(alloc, world, &Event::Crash)
 }
 
-/// A word is evicted. An error is a row too many, or a want of memory.
+/// A word is evicted. An error is a row too many, or a failed allocation.
 pub fn evict(
     alloc: Global,
     world: &mut World,
     places: &[Place],
     place: Place,
-    rows: &mut Vec<Row>,
+    rows: &mut Vec<TraceRow>,
 ) -> Result<(), NoTrace>
     ensures { OnOk result ((reply : Reply) × Happens places.now world.old (events.Evict place) reply world.new rows.old.items rows.new.items) }
 {
@@ -208,13 +208,13 @@ pub fn evict(
     )
 }
 
-/// A process stops, if it can. An error is a row too many, or a want of memory.
+/// A process stops, if it can. An error is a row too many, or a failed allocation.
 pub fn stop(
     alloc: Global,
     world: &mut World,
     places: &[Place],
     process: usize,
-    rows: &mut Vec<Row>,
+    rows: &mut Vec<TraceRow>,
 ) -> Result<(), NoTrace>
     ensures { OnOk result ((reply : Reply) × Happens places.now world.old (events.Stop process) reply world.new rows.old.items rows.new.items) }
 {
@@ -230,12 +230,13 @@ pub fn stop(
     )
 }
 
-/// Each word keeps its persisted side alone, and every process stops. An error is a row too many, or a want of memory.
+/// Each word keeps its persisted side alone, and every process stops. An error is a row too many, or a failed
+/// allocation.
 pub fn crash(
     alloc: Global,
     world: &mut World,
     places: &[Place],
-    rows: &mut Vec<Row>,
+    rows: &mut Vec<TraceRow>,
 ) -> Result<(), NoTrace>
     ensures { OnOk result ((reply : Reply) × Happens places.now world.old events.Crash reply world.new rows.old.items rows.new.items) }
 {

@@ -87,7 +87,7 @@ evicts-with v n h =
       buffer = buffer_of-with_word v n w;
     }
 
--- the word's cached side behind the last entry of the process: a flush
+-- the word's cached side after the last entry of the process: a flush
 pub flushes-with : (v : WordsValue) (p n : ℕ) → HasProcess v p
     → FlushesAt p n (class_at v n) (memory_of v) (memory_of (with_buffer v p (buffer_of v p ++ record { place = n; class = class_at v n; value = (word_at v n).cached } ∷ [])))
 flushes-with v p n h =
@@ -123,7 +123,7 @@ writes_back v p entry rest w h oldest there c d =
       others = λ q ne. buffer_of-with_word u entry.place w q ∙ buffer_of-with_other v p q rest ne;
     }
 
--- the buffers as they are kept, each behind f
+-- the buffers as they are kept, each under f
 pub nested_read : {X : Type 0} (f : X → List (BufferEntry ℕ)) (xs : List X) (p : ℕ) (x : X) (ys : List (List (BufferEntry ℕ))) → map f xs ≡ ys → p < length ys → x ≡ get_or xs p x → f x ≡ get_or ys p []
 nested_read f xs p x ys e lt is =
     let l : length ys ≡ length xs = ap length (sym e) ∙ length-map xs f in

@@ -47,7 +47,7 @@ SwapsAt place expected value seen old new =
     (seen ≡ old.cached place)
     × (((seen ≡ expected) × StoresAt place value old new) ⊎ ((seen ≢ expected) × SameMemory old new))
 
--- the cached side of a word of the class goes behind the last entry of the process
+-- the cached side of a word of the class goes after the last entry of the process
 pub record FlushesAt {P : Type 0} (p : ℕ) (place : P) (class : Class) (old new : Memory P) : Type 0 where
   pub cached : (r : P) → new.cached r ≡ old.cached r
   pub persisted : (r : P) → new.persisted r ≡ old.persisted r

@@ -108,8 +108,8 @@ fn all_copied(
 }
 
 impl Words {
-    /// A word for each class, zero on both sides, and an empty buffer for each process. An error is
-    /// a want of memory.
+    /// A word for each class, zero on both sides, and an empty buffer for each process. An error means
+    /// that an allocation failed.
     pub fn new(alloc: Global, classes: Vec<Class>, processes: usize) -> Result<Words, AllocError>
         ensures { IfOk result (λ w. w ≡ fresh_words classes.items processes) }
     {
@@ -129,8 +129,8 @@ impl Words {
         })
     }
 
-    /// Equal words, both sides of each, and equal buffers, in memory of their own. An error is a want
-    /// of memory.
+    /// Equal words, both sides of each, and equal buffers, in memory of their own. An error means that an
+    /// allocation failed.
     pub fn copy(&self, alloc: Global) -> Result<Words, AllocError>
         ensures { IfOk result (λ w. w ≡ self.now) }
     {
@@ -302,7 +302,7 @@ impl Words {
         seen
     }
 
-    /// Takes the cached side of a word into the buffer of a process, behind the entries that are
+    /// Takes the cached side of a word into the buffer of a process, after the entries that are
     /// there.
     #[inline(always)]
     pub fn flush(&mut self, process: usize, number: usize)

@@ -17,7 +17,7 @@ use Rattle.ds_state.proofs.Underway.{no_more}
 use Rattle.ds_state.specs.declared.refusal.Refusal.{Refusal}
 use Rattle.ds_state.specs.declared.refusal.Refusal.TheVariants as refusal
 use Rattle.ds_state.specs.declared.situation.Situation.{Situation}
-use Rattle.ds_state.specs.declared.situation.Situation.TheVariants.{Idle, Stopped, Editing, Working, Recovering, Reporting, Migrating}
+use Rattle.ds_state.specs.declared.situation.Situation.TheVariants.{Idle, Stopped, Editing, Working, Recovering, Showing, Migrating}
 use Rattle.ds_state.specs.declared.work.WorkStage.TheVariants.{LoadMark, Read, Wait, Answer}
 use Rattle.ds_eval.specs.declared.inputs.Entry as entries
 use Rattle.ds_eval.specs.Inputs.{entry_in}
@@ -36,7 +36,7 @@ use Rattle.ds_work.proofs.WorkNamed.{can_perform}
 use Rattle.ds_state.specs.Value.{first_rest}
 use Rattle.ds_state.specs.declared.situation.Rest.{Rest}
 
--- a process that works reports nothing
+-- a process that works shows nothing
 after_quiet : (e : PlainWorkCall) (s : WorkStage) (word : ℕ) → reports_in (after e s word) ≡ 0
 after_quiet e (Answer end) word = refl
 after_quiet e _ word = refl
@@ -110,7 +110,7 @@ refuses_of w p Stopped r at is = rw at (let same : r ≡ refusal.Stopped = cc in
 refuses_of w p (Editing e) r at is = rw at (let same : r ≡ refusal.Busy = cc in same)
 refuses_of w p (Working e) r at is = rw at (let same : r ≡ refusal.Busy = cc in same)
 refuses_of w p (Recovering e) r at is = rw at (let same : r ≡ refusal.Busy = cc in same)
-refuses_of w p (Reporting e) r at is = rw at (let same : r ≡ refusal.Busy = cc in same)
+refuses_of w p (Showing e) r at is = rw at (let same : r ≡ refusal.Busy = cc in same)
 refuses_of w p (Migrating e) r at is = rw at (let same : r ≡ refusal.Busy = cc in same)
 
 -- ---- works under way
@@ -209,7 +209,7 @@ steps_plain _ is = tt
 pub steps_not_answer : (s : WorkStage) → turn_at s ≡ doings.Steps → (end : WorkEnd) → s ≡ Answer end → ⊥
 steps_not_answer s is end at = let k : turn_at (Answer end) ≡ doings.Steps = subst (λ (x : WorkStage). turn_at x ≡ doings.Steps) at is in cc
 
--- behind a turn that makes a step the process is in the work's next stage
+-- after a turn that makes a step the process is in the work's next stage
 pub steps_after : (e : PlainWorkCall) (s : WorkStage) (word : ℕ) → turn_at s ≡ doings.Steps → Working (next_at e s word) ≡ after e s word
 steps_after e (Answer end) word is = absurd cc
 steps_after e _ word is = refl

@@ -1,4 +1,4 @@
--- Each step of work keeps a world sound, and leaves each other process what it may count on.
+-- Each step of work keeps a world sound, and leaves each other process what it may rely on.
 use Rattle.std.proofs.Common.{ℕ, ◌≡◌, ◌<◌, subst, refl}
 use Rattle.std.specs.Prelude.{Contains}
 use Rattle.ds_eval.specs.declared.inputs.Entry as entries
@@ -33,7 +33,7 @@ use Rattle.std.proofs.Common.{ap, sym, ◌∙◌, Some}
 pub fits_at : (e : PlainWorkCall) (s : WorkStage) (w : PlainWorld) → IsSound w → e.process < w.layout.processes → w.situation e.process ≡ Working (at e s) → WorkFits w e.process (at e s)
 fits_at e s w sound real was = subst (λ (x : Situation). CallFits w e.process x) was (sound.calls e.process real)
 
--- in a sound world the text of an edit that counts is bytes, and not too many
+-- in a sound world the text of a linearized edit is bytes, and not too many
 pub text_of : (w : PlainWorld) → IsSound w → (by : PlainEdit) → Contains w.counted by → IsText by.text
 text_of w sound by (k, l, is) = subst (λ (e : PlainEdit). IsText e.text) is (sound.of_sheet k by l).text
 
@@ -70,7 +70,7 @@ module _ (e : PlainWorkCall) (word : ℕ) (old new : PlainWorld) (sound : IsSoun
   each (BackCleared end) was fits t = back_cleared e word old new sound real end fits was t
   each (Answer end) was fits t = answer e word old new sound real end fits was t
 
--- each step of work leaves a sound world sound, and what the others count on
+-- each step of work leaves a sound world sound, and what the others rely on
 pub work_steps_keep : (e : PlainWorkCall) (stage : WorkStage) (word : ℕ) (old new : PlainWorld) → IsSound old → e.process < old.layout.processes
     → old.situation e.process ≡ Working (at e stage) → StepsAt e stage word old new → Keeps e.process old new
 work_steps_keep e stage word old new sound real was t = each e word old new sound real stage was (fits_at e stage old sound real was) t
@@ -80,7 +80,7 @@ pub reads_keep : (e : PlainWorkCall) (content : PlainContent) (inputs : List Inp
     → old.situation e.process ≡ Working (at e Read) → ReadsAt e content inputs old new → Keeps e.process old new
 reads_keep e content inputs old new sound real was t = read_keeps e old new sound real content inputs (fits_at e Read old sound real was) was t
 
--- the same, of a reading that lacks memory
+-- the same, of a reading that is out of memory
 pub lacks_keep : (e : PlainWorkCall) (old new : PlainWorld) → IsSound old → e.process < old.layout.processes → old.situation e.process ≡ Working (at e Read) → LacksAt e old new → Keeps e.process old new
 lacks_keep e old new sound real was t = lacks_keeps e old new sound real (fits_at e Read old sound real was) was t
 
@@ -92,7 +92,7 @@ offer_keep e entry old new sound real was t = offers_keep e old new sound real e
 begin_goes : (next : Rest) (e : PlainWorkCall) (old new : PlainWorld) → e.process < old.layout.processes → BeginsWork next e old new → Goes e.process old new
 begin_goes next e old new real b = notes e.edition real (ap noted_in b.was ∙ ap (λ (x : Rest). Some x.edition) (sym b.next_is)) (ap noted_in b.turn.situation)
 
--- the begin of work leaves a sound world sound, and what the others count on
+-- the begin of work leaves a sound world sound, and what the others rely on
 pub begins_keep : (next : Rest) (e : PlainWorkCall) (old new : PlainWorld) → IsSound old → e.process < old.layout.processes → BeginsWork next e old new → Keeps e.process old new
 begins_keep next e old new sound real b = begin_work_keeps e.process next e old new sound real
     (record { layout = b.turn.layout; counted = b.turn.counted; situations = b.turn.others; pendings = λ q ne. b.turn.open_edits q; goes = begin_goes next e old new real b })

@@ -75,7 +75,7 @@ module _ (shape : Shape) (cells : List Cell) (pairs : AllPairs refs.IsBefore cel
           let below = index_below shape (get_or cells n no_cell) (is_inside n l) in
           omega (arith, least, below)
 
--- the next one is behind those before it
+-- the next one is after those before it
 pub is_behind : (cells : List Cell) (i : ℕ) → AllPairs refs.IsBefore cells → i < length cells → IsBehind (map unseen (take i cells)) (get_or cells i no_cell)
 is_behind cells i pairs l = record {
   behind = λ k lt. (

@@ -31,7 +31,7 @@ turn_goes e f s old new real was same t = notes e.edition real (ap noted_in was)
 pub noted_of : (e : PlainWorkCall) (s : WorkStage) (w : PlainWorld) → IsSound w → e.process < w.layout.processes → w.situation e.process ≡ Working (at e s) → Agrees w.memory e.edition
 noted_of e s w sound real was = subst (λ (x : Situation). LayoutFits w e.process x) was (sound.layouts e.process real)
 
--- so a counted edit's text fits it
+-- so a linearized edit's text fits it
 pub fits_noted : (w : PlainWorld) (edition : Edition) (f : PlainEdit) → IsOfSheet w f → Agrees w.memory edition → length f.text ≤ most_in edition
 fits_noted w First f h a = h.short (inl a.cached)
 fits_noted w Second f h a = h.text.short

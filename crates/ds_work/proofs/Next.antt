@@ -367,11 +367,11 @@ noted_alone e word (Answer end) = next_noted e word (Answer end)
 taken_as : (e : PlainWorkCall) (word : ℕ) (n : Noting) → notes_at e.stage ≡ n → by_noting e word e.stage n ≡ next_at e e.stage word
 taken_as e word n is = ap (by_noting e word e.stage) (sym is) ∙ sym (noted_alone e word e.stage)
 
--- behind a stage that notes nothing, the next work differs in its stage alone
+-- after a stage that notes nothing, the next work differs in its stage alone
 pub goes_on : (e v : PlainWorkCall) (word : ℕ) (stage : WorkStage) → v ≡ e → notes_at e.stage ≡ notes.Nothing → stage ≡ stage_at e e.stage word → at v stage ≡ next_at e e.stage word
 goes_on e v word stage same is a = rw (same, a) (taken_as e word notes.Nothing is)
 
--- behind a stage that notes a mark, the next work differs in mark and stage alone
+-- after a stage that notes a mark, the next work differs in mark and stage alone
 pub takes_mark : (e v : PlainWorkCall) (word mark : ℕ) (stage : WorkStage) → v ≡ e → notes_at e.stage ≡ notes.Mark → stage ≡ stage_at e e.stage word → mark ≡ mark_at e e.stage word
     → record v { mark = mark; stage = stage } ≡ next_at e e.stage word
 takes_mark e v word mark stage same is a b = rw (same, a, b) (taken_as e word notes.Mark is)
@@ -396,6 +396,6 @@ pub takes_row : (e v : PlainWorkCall) (word : ℕ) (row : List ℕ) (stage : Wor
     → row ≡ row_after v.row v.stage word → record v { row = row; stage = stage } ≡ next_at e e.stage word
 takes_row e v word row stage same is a b = rw (b, a, same) (taken_as e word notes.Row is)
 
--- a work of a sheet is one of the sheet behind its step, too, with room for its inputs
+-- a work of a sheet is one of the sheet after its step, too, with room for its inputs
 pub next_within : (e : PlainWorkCall) (word room : ℕ) → IsWork e → e.cells ≤ room → IsWorkIn (next_at e e.stage word) room
 next_within e word room h fits = record { is = next_is e word e.stage h; room = subst (λ (n : ℕ). n ≤ room) (sym (ap (λ (x : PlainWorkCall). x.cells) (next_noted e word e.stage))) fits }

@@ -104,7 +104,7 @@ pub reading_falls : (e : PlainWorkCall) (content : PlainContent) (inputs : List 
 reading_falls e content inputs = below (length inputs) (left (length inputs) e Read) (nat_lt 0 (length inputs)) (record e { content = content; inputs = inputs; stage = LoadValue 0 }) (record e { content = content; inputs = inputs; stage = LoadOwnValue })
     (λ b. omega arith) (λ b. omega arith)
 
--- a reading that lacks memory leaves fewer steps
+-- a reading that is out of memory leaves fewer steps
 pub lacking_falls : (r : ℕ) (e : PlainWorkCall) → left r e Give < left r e Read
 lacking_falls r e = omega arith
 

@@ -21,7 +21,7 @@ use Rattle.ds_work.proofs.Gathered.{content_few}
 use Rattle.ds_work.proofs.Next.{next_noted}
 use Rattle.ds_work.proofs.Ranks.{each_falls}
 
--- behind a step that is no answer the process is in the next work
+-- after a step that is no answer the process is in the next work
 pub after_goes : (e : PlainWorkCall) (s : WorkStage) (word : ℕ) → ((end : WorkEnd) → s ≡ Answer end → ⊥) → after e s word ≡ Working (next_at e s word)
 after_goes e (Answer end) word na = absurd (na end refl)
 after_goes e _ word na = refl
@@ -33,7 +33,7 @@ falls_plain r e f Wait h plain na = absurd plain
 falls_plain r e f (Answer end) h plain na = absurd (na end refl)
 falls_plain r e f _ h plain na = h
 
--- reading leaves fewer, also where more references were counted on
+-- reading leaves fewer, also where more references were relied on
 pub reading_less : (r : ℕ) (e : PlainWorkCall) (content : PlainContent) (inputs : List Input) → length inputs ≤ r → steps_left r (read_from e content inputs) < left r e Read
 reading_less r e content inputs few = go (nat_lt 0 (length inputs))
   where

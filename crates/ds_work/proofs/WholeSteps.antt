@@ -1,4 +1,4 @@
--- The clear and the first store as whole steps: they keep a world sound, and what others count on.
+-- The clear and the first store as whole steps: they keep a world sound, and what others rely on.
 use Rattle.std.proofs.Common.{ℕ, ◌≡◌, ◌<◌, ◌≤◌, ◌/◌, refl, ap, sym, ◌∙◌, subst, arith, length, inl, inr}
 use Rattle.std.specs.Prelude.{Bool}
 use Rattle.std.proofs.lemmas.Bool.{cases_eq}
@@ -175,7 +175,7 @@ begin_work_keeps p next e old new sound real turn m pending was is mine number c
       at = tt;
     }))
 
--- facts of work do not rest on its stage (records over the whole call must be packed again: see the report)
+-- facts of work do not rest on its stage (records over the whole call must be packed again)
 held_on : (w : PlainWorld) (e : PlainWorkCall) (s s' : WorkStage) → HasHeld w (on e s) → HasHeld w (on e s')
 held_on w e s s' h = record { claim = record { even = h.claim.even; by = h.claim.by; cached = h.claim.cached; alone = h.claim.alone }; persisted = h.persisted }
 

@@ -44,7 +44,7 @@ use Rattle.ds_eval.specs.Inputs.{with_entry}
 use Rattle.ds_work.specs.WorkSteps.{at, access_at, claims_from, head_from, header_from, text_from, input_from, told, tell_from, row_from, next_at, read_from, lacks, offered, after, text_parts, parts_of, StepsAt, Turns}
 use Rattle.ds_work.specs.WorkAnswers.{mark_now}
 use Rattle.ds_work.specs.WorkAlone.{RefersToItself, IsToldTo, IsTold, IsRow, IsWholeRow, IsAloneAt, IsAlone, EndsAlone, GoesAlone}
-use Rattle.ds_work.specs.WorkShows.{CellWords, shown_in, EndsReporting, ShowsAt}
+use Rattle.ds_work.specs.WorkShows.{CellWords, shown_in, EndsShowing, ShowsAt}
 use Rattle.ds_work.proofs.WorkShows.{IsUnmarkedAt, input_shows, offer_shows, shown_kept, shows}
 use Rattle.ds_state.specs.Shown.{header_in}
 
@@ -123,7 +123,7 @@ end_alone row old new e (ends.Published false) same h = subst IsClean (sym same)
 end_alone row old new e ends.Again same h = h
 end_alone row old new e ends.NoMemory same h = h
 
--- what it told stays told, where its own mark stays
+-- what it has marked stays marked, where its own mark stays
 told_stays : (row : ℕ → ℕ) (old new : PlainWorld) (e : PlainWorkCall) (d : ℕ) → mark_now new e ≡ mark_now old e → IsToldTo row old e d → IsToldTo row new e d
 told_stays row old new e d same (inl (is, low)) = inl (same ∙ is, low)
 told_stays row old new e d same (inr (is, own)) = inr (same ∙ is, own)
@@ -240,7 +240,7 @@ even_at w p e fits = by e.stage fits.knows
     by (works.Telling spread) knows = knows.hold.claim.even
     by _ knows = tt
 
--- behind a step that is no answer the process is in the next work
+-- after a step that is no answer the process is in the next work
 pub after_on : (e : PlainWorkCall) (s : WorkStage) (word : ℕ) → ((end : WorkEnd) → s ≡ works.Answer end → ⊥) → after e s word ≡ Working (next_at e s word)
 after_on e (works.Answer end) word not = absurd (not end refl)
 after_on e _ word not = refl
@@ -249,7 +249,7 @@ if_field : {A : Type 0} (b : Bool) (x y : PlainWorkCall) (field : PlainWorkCall 
 if_field true x y field v h k = h
 if_field false x y field v h k = k
 
--- where the mark alone tells how it ends, work that is alone sees it
+-- where the mark alone says how it ends, work that is alone sees it
 unmarked : (row : ℕ → ℕ) (w : PlainWorld) (e : PlainWorkCall) (s : WorkStage) → IsAloneAt row w e s → IsUnmarkedAt w e s
 unmarked row w e (works.Clear true) h = tt
 unmarked row w e (works.Clear false) h = h
@@ -314,7 +314,7 @@ module _ (row : ℕ → ℕ) (before : CellWords) (e : PlainWorkCall) (old new :
   turn_alone what (events.answers end at t) = (
     t.situation,
     end_alone row old new e end (t.memory.1.cached (Mark e.cell)) (seen_at row before e old new h (works.Answer end) at),
-    subst (λ x. EndsReporting before x end) (sym (shown_kept old new e.cell t.memory.1)) (shows_at row before e old new h (works.Answer end) at),
+    subst (λ x. EndsShowing before x end) (sym (shown_kept old new e.cell t.memory.1)) (shows_at row before e old new h (works.Answer end) at),
   )
 
 -- ---- an eviction

@@ -1,4 +1,4 @@
--- Work is given its content, or lacks memory for it, and is offered an entry.
+-- Work is given its content, or is out of memory for it, and is offered an entry.
 use Rattle.std.proofs.Common.{ℕ, ◌≡◌, ◌<◌, ◌⊎◌, Bool, true, false, if◌then◌else◌, nat_lt, List, [], refl, ap, sym, ◌∙◌, subst, arith, length, inl, inr}
 use Rattle.std.proofs.lemmas.Bool.{ltb-true, ltb-false}
 use Rattle.ds_formula.specs.Cells.{IsInside, index_of}

@@ -115,7 +115,7 @@ IsNoStore works.StoreValue = ⊥
 IsNoStore works.StoreKind = ⊥
 IsNoStore _ = Unit {0}
 
--- where the mark alone tells how it ends, it is the one that was noted
+-- where the mark alone says how it ends, it is the one that was noted
 abbrev pub IsUnmarkedAt : PlainWorld → PlainWorkCall → WorkStage → Type 0
 IsUnmarkedAt w e (works.Clear false) = mark_now w e ≡ e.mark
 IsUnmarkedAt w e _ = Unit {0}

@@ -28,7 +28,7 @@ use Rattle.ds_state.specs.declared.work.WorkStage.TheVariants as works
 use Rattle.ds_state.specs.declared.recovery.RecoverStage.{RecoverStage}
 use Rattle.ds_state.specs.declared.recovery.RecoverStage.TheVariants as recoveries
 use Rattle.ds_state.specs.declared.situation.Situation.{Situation}
-use Rattle.ds_state.specs.declared.situation.Situation.TheVariants.{Idle, Stopped, Editing, Working, Recovering, Reporting, Migrating}
+use Rattle.ds_state.specs.declared.situation.Situation.TheVariants.{Idle, Stopped, Editing, Working, Recovering, Showing, Migrating}
 use Rattle.ds_state.proofs.Frames.{Moves, clean_free}
 use Rattle.ds_state.proofs.Telling.{matters_most, odd_above}
 use Rattle.ds_state.proofs.Bearing.{Buffered, Mine, MyMarks, text_same, stored_marks, all_stand, cell_owes_lasts, excused_lasts}
@@ -82,7 +82,7 @@ module _ (w : PlainWorld) (h : ℕ) (c x y : ℕ) (is : x ≡ w.memory.cached (M
   owes_later (Editing e) r k = absurd k
   owes_later (Working e) r k = (k.0, work_later e.row e.stage k.1)
   owes_later (Recovering e) r k = recovery_later e.row e.stage r k
-  owes_later (Reporting e) r k = absurd k
+  owes_later (Showing e) r k = absurd k
 
   edit_later : (s : Stage) → EditOwes w.memory h c s x → EditOwes w.memory h c s y
   edit_later (edits.FlushOwn own) k = tt
@@ -108,7 +108,7 @@ module _ (w : PlainWorld) (h : ℕ) (c x y : ℕ) (is : x ≡ w.memory.cached (M
   excuses_later (Editing e) k = (k.0, edit_later e.stage k.1)
   excuses_later (Working e) k = absurd k
   excuses_later (Recovering e) k = (k.0, excuse_later e.stage k.1)
-  excuses_later (Reporting e) k = absurd k
+  excuses_later (Showing e) k = absurd k
 
 no_place : (a c : ℕ) → ((Mark a ≡ Value c) ⊎ (Mark a ≡ Kind c)) → ⊥
 no_place a c (inl e) = cc
@@ -263,7 +263,7 @@ pub store_value_mine : (p : ℕ) (e : PlainWorkCall) (v : ℕ) (old new : PlainW
     → IsHeld old.memory p e.cell → StoresAt (Value e.cell) v old.memory new.memory → (moves : Moves p (Value e.cell) old new) → Mine p (Value e.cell) old new moves
 store_value_mine p e v old new was is held store moves = store_mine p e works.StoreValue works.StoreKind (Value e.cell) v old new was is held (λ c at. same_value e.cell c at) (λ c at. cc) (λ c at. cc) (λ c x. tt) store moves
 
--- behind the store of its kind the cell owes all that it owed
+-- after the store of its kind the cell owes all that it owed
 pub store_kind_mine : (p : ℕ) (e : PlainWorkCall) (v : ℕ) (old new : PlainWorld) → old.situation p ≡ Working (on e works.StoreKind) → new.situation p ≡ Working (on e works.FlushValue)
     → IsHeld old.memory p e.cell → StoresAt (Kind e.cell) v old.memory new.memory → (moves : Moves p (Kind e.cell) old new) → Mine p (Kind e.cell) old new moves
 store_kind_mine p e v old new was is held store moves = store_mine p e works.StoreKind works.FlushValue (Kind e.cell) v old new was is held (λ c at. same_kind e.cell c at) (λ c at. cc) (λ c at. cc) (λ c x. tt) store moves
@@ -292,7 +292,7 @@ claim_mine p e e' n old new was by store moves = mark_mine p e.cell n old new st
     (λ r c x bit matters held o. absurd (subst (λ (t : Situation). Owes old.memory p t r c x) was o).1)
     (λ l c x matters o. absurd (subst (λ (t : Situation). Excuses old p t c x) was o))
 
--- the `or` that tells a cell: every mark of it that matters is below
+-- the `or` that marks a cell: every mark of it that matters is below
 module _ (p : ℕ) (e : PlainWorkCall) (d n : ℕ) (old new : PlainWorld) (sound : IsSound old) (buffered : Buffered old)
     (was : old.situation p ≡ Working (on e (works.Telling (OrTold d)))) (is : new.situation p ≡ Working (on e (works.Telling (FlushTold d))))
     (odd : n % 2 ≡ 1) (same_turn : n / 2 ≡ old.memory.cached (Mark d) / 2)

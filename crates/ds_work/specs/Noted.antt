@@ -122,7 +122,7 @@ abbrev pub FitsRow : List ℕ → WorkStage → Type 0
 FitsRow row (Telling (LoadRow part)) = length row < ROW_PARTS
 FitsRow row _ = Unit {0}
 
--- the stage of work behind this one, whose access found this word
+-- the stage of work after this one, whose access found this word
 abbrev pub stage_at : PlainWorkCall → WorkStage → ℕ → WorkStage
 stage_at e stage word = (next_at e stage word).stage
 

@@ -17,7 +17,7 @@ use Rattle.ds_state.specs.declared.situation.Situation.TheVariants.{Idle, Workin
 use Rattle.ds_state.specs.declared.turn.Turn.{Turn}
 use Rattle.ds_state.specs.declared.turn.Turn.TheVariants as does
 use Rattle.ds_work.specs.WorkAnswers.{mark_now, state_now}
-use Rattle.ds_work.specs.WorkShows.{CellWords, shown_in, EndsReporting, ShowsAt}
+use Rattle.ds_work.specs.WorkShows.{CellWords, shown_in, EndsShowing, ShowsAt}
 use Rattle.ds_work.specs.WorkSteps.{rest_of}
 
 -- the work's cell is marked, and its mark has generations left
@@ -30,7 +30,7 @@ abbrev pub RefersToItself : (ℕ → ℕ) → PlainWorkCall → Type 0
 RefersToItself row e = HasBit (row (part_with e.cell)) e.cell
 
 -- how work that is alone may end: with its value published and its cell clean, where the value is no other one or the
--- cell does not stand in its own index row; with the cell dirty, where it stands there; or for want of memory
+-- cell does not stand in its own index row; with the cell dirty, where it stands there; or where an allocation fails
 abbrev pub EndsAlone : (ℕ → ℕ) → PlainWorld → PlainWorkCall → WorkEnd → Type 0
 EndsAlone row w e NotDirty = ⊥
 EndsAlone row w e Missed = ⊥
@@ -40,12 +40,12 @@ EndsAlone row w e (Published false) = IsClean (mark_now w e)
 EndsAlone row w e Again = RefersToItself row e
 EndsAlone row w e NoMemory = Unit {0}
 
--- the cells below this one are told: the mark of the work's own cell is the one that it noted, and where the cell stands
--- in its own row, it is not below; or it stands there, and is marked
+-- the cells below this one are marked: the mark of the work's own cell is the one that it noted, and where the cell
+-- stands in its own row, it is not below; or it stands there, and is marked
 abbrev pub IsToldTo : (ℕ → ℕ) → PlainWorld → PlainWorkCall → ℕ → Type 0
 IsToldTo row w e d = ((mark_now w e ≡ e.mark) × (RefersToItself row e → d ≤ e.cell)) ⊎ ((mark_now w e ≡ dirtied e.mark) × RefersToItself row e)
 
--- all cells are told: the work's own cell is marked where it stands in its own row, and only there
+-- all cells are marked: the work's own cell is marked where it stands in its own row, and only there
 abbrev pub IsTold : (ℕ → ℕ) → PlainWorld → PlainWorkCall → Type 0
 IsTold row w e = ((mark_now w e ≡ e.mark) × (RefersToItself row e → ⊥)) ⊎ ((mark_now w e ≡ dirtied e.mark) × RefersToItself row e)
 
@@ -57,7 +57,7 @@ IsRow row e = (part : ℕ) → part < length e.row → slice_index_or e.row part
 abbrev pub IsWholeRow : (ℕ → ℕ) → PlainWorkCall → Type 0
 IsWholeRow row e = (part : ℕ) → part < parts_for e.cells → slice_index_or e.row part 0 ≡ row part
 
--- what work that is alone sees of its cell's mark while it tells, and what it has loaded of the index row
+-- what work that is alone sees of its cell's mark while it marks others, and what it has loaded of the index row
 abbrev pub TellsAlone : (ℕ → ℕ) → PlainWorld → PlainWorkCall → Spread → Type 0
 TellsAlone row w e (LoadRow part) = (mark_now w e ≡ e.mark) × IsRow row e
 TellsAlone row w e (OrTold d) = IsToldTo row w e d × IsWholeRow row e
@@ -105,4 +105,4 @@ pub record IsAlone (row : ℕ → ℕ) (before : CellWords) (w : PlainWorld) (e 
 -- what a turn of work that is alone leaves: it goes on alone, or it has ended so and its process is idle
 abbrev pub GoesAlone : (ℕ → ℕ) → CellWords → PlainWorkCall → PlainWorld → Turn WorkEnd → Type 0
 GoesAlone row before e w does.GoesOn = (f : PlainWorkCall) × (f.cell ≡ e.cell) × (f.process ≡ e.process) × (w.situation e.process ≡ Working f) × IsAlone row before w f
-GoesAlone row before e w (does.Answers end) = (w.situation e.process ≡ Idle (rest_of e)) × EndsAlone row w e end × EndsReporting before (shown_in w e.cell) end
+GoesAlone row before e w (does.Answers end) = (w.situation e.process ≡ Idle (rest_of e)) × EndsAlone row w e end × EndsShowing before (shown_in w e.cell) end

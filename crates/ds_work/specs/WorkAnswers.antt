@@ -17,7 +17,7 @@ use Rattle.ds_state.specs.declared.work.WorkEnd.TheVariants.{NotDirty, Missed, W
 use Rattle.ds_state.specs.declared.work.WorkStage.{WorkStage}
 use Rattle.ds_state.specs.declared.work.WorkStage.TheVariants.{LoadMark, Claim, Clear, ClearDirty, Give, GiveDirty, FlushCleared, BackCleared, Answer}
 
--- the stage is one behind the letting go: the work is to answer this
+-- the stage is one after the letting go: the work is to answer this
 abbrev pub IsDecided : WorkStage → WorkEnd → Type 0
 IsDecided (FlushCleared e) end = e ≡ end
 IsDecided (BackCleared e) end = e ≡ end
@@ -40,7 +40,7 @@ pub record IsPublished (e : PlainWorkCall) (new : PlainWorld) : Type 0 where
 
 -- the answer is true by the step from this stage, from the one world to the other: a mark that was clean, held, or worn
 -- when it was seen; a claim that another mark forestalled; a cell that is let go, clean with the words of its entry, or
--- dirty since it was marked meanwhile, or dirty for want of memory. A step of no other stage decides.
+-- dirty since it was marked meanwhile, or dirty where an allocation fails. A step of no other stage decides.
 abbrev pub IsTrueAnswer : PlainWorkCall → WorkStage → PlainWorld → PlainWorld → WorkEnd → Type 0
 IsTrueAnswer e LoadMark old new NotDirty = state_now old e ≡ Clean
 IsTrueAnswer e LoadMark old new Missed = (q : ℕ) × (state_now old e ≡ Held q)

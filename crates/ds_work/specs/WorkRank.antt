@@ -14,7 +14,7 @@ abbrev pub telling : PlainWorkCall → ℕ
 telling e = 3 * e.cells + parts_for e.cells
 
 -- how many steps of work are left at most from a stage on, the answer's among them: before the content is read, for a
--- content with so many references; an offer counts as one
+-- content with that number of references; an offer counts as one
 abbrev pub left : ℕ → PlainWorkCall → WorkStage → ℕ
 left r e LoadMark = 51 + telling e + 2 * r
 left r e Claim = 50 + telling e + 2 * r
@@ -47,7 +47,7 @@ left r e (FlushCleared end) = 3
 left r e (BackCleared end) = 2
 left r e (Answer end) = 1
 
--- how many steps the work has left at most from its own stage on, for a content with so many references
+-- how many steps the work has left at most from its own stage on, for a content with that number of references
 abbrev pub steps_left : ℕ → PlainWorkCall → ℕ
 steps_left r e = left r e e.stage
 

@@ -29,14 +29,14 @@ words_for entry = record { value = value_for entry; kind = word_for entry }
 
 -- what the cell shows when work on it ends so: what it showed before, but where the work published another value; that
 -- it also did where it marked its own cell
-abbrev pub EndsReporting : CellWords → CellWords → WorkEnd → Type 0
-EndsReporting before now NotDirty = now ≡ before
-EndsReporting before now Missed = now ≡ before
-EndsReporting before now Worn = now ≡ before
-EndsReporting before now (Published true) = now ≢ before
-EndsReporting before now (Published false) = now ≡ before
-EndsReporting before now Again = now ≢ before
-EndsReporting before now NoMemory = now ≡ before
+abbrev pub EndsShowing : CellWords → CellWords → WorkEnd → Type 0
+EndsShowing before now NotDirty = now ≡ before
+EndsShowing before now Missed = now ≡ before
+EndsShowing before now Worn = now ≡ before
+EndsShowing before now (Published true) = now ≢ before
+EndsShowing before now (Published false) = now ≡ before
+EndsShowing before now Again = now ≢ before
+EndsShowing before now NoMemory = now ≡ before
 
 -- the work has noted what the cell showed before, and the cell shows this now
 abbrev pub HasNoted : CellWords → PlainWorkCall → CellWords → CellWords → Type 0
@@ -70,6 +70,6 @@ ShowsAt before now e (Clear false) = now ≡ before
 ShowsAt before now e ClearDirty = now ≢ before
 ShowsAt before now e Give = now ≡ before
 ShowsAt before now e GiveDirty = now ≡ before
-ShowsAt before now e (FlushCleared end) = EndsReporting before now end
-ShowsAt before now e (BackCleared end) = EndsReporting before now end
-ShowsAt before now e (Answer end) = EndsReporting before now end
+ShowsAt before now e (FlushCleared end) = EndsShowing before now end
+ShowsAt before now e (BackCleared end) = EndsShowing before now end
+ShowsAt before now e (Answer end) = EndsShowing before now end

@@ -108,7 +108,7 @@ abbrev pub head_from : PlainWorkCall → ℕ → Option Head → PlainWorkCall
 head_from e word None = record e { head = word; length = 0; text = []; stage = Read }
 head_from e word (Some head) = record e { head = word; length = 0; text = []; stage = LoadHeader }
 
--- the work goes to this part of the text; behind the last part, to the reading of the content
+-- the work goes to this part of the text; after the last part, to the reading of the content
 abbrev pub text_from : PlainWorkCall → ℕ → PlainWorkCall
 text_from e part = if nat_lt part (text_parts e) then at e (LoadText part) else at e Read
 
@@ -117,7 +117,7 @@ abbrev pub header_from : PlainWorkCall → Option Header → PlainWorkCall
 header_from e None = record e { length = 0; text = []; stage = Read }
 header_from e (Some header) = text_from (record e { length = header.length; text = [] }) 0
 
--- the work goes to value and kind of this input; behind the last input, to those of its own cell
+-- the work goes to value and kind of this input; after the last input, to those of its own cell
 abbrev pub input_from : PlainWorkCall → ℕ → PlainWorkCall
 input_from e i = if nat_lt i (length e.inputs) then at e (LoadValue i) else at e LoadOwnValue
 
@@ -126,11 +126,11 @@ abbrev pub told : PlainWorkCall → Option ℕ → PlainWorkCall
 told e None = at e (Clear true)
 told e (Some d) = at e (Telling (OrTold d))
 
--- the work goes to mark the next cell, from this one on, whose bit stands in the row; behind the last, to let go
+-- the work goes to mark the next cell, from this one on, whose bit stands in the row; after the last, to let go
 abbrev pub tell_from : PlainWorkCall → ℕ → PlainWorkCall
 tell_from e d = told e (told_from e.row (e.cells - d) d)
 
--- the work goes to this part of the index row; behind the last part, to the first cell to tell
+-- the work goes to this part of the index row; after the last part, to the first cell to mark
 abbrev pub row_from : PlainWorkCall → ℕ → PlainWorkCall
 row_from e part = if nat_lt part (parts_of e) then at e (Telling (LoadRow part)) else tell_from e 0
 
@@ -202,7 +202,7 @@ IsPlainStep Read = ⊥
 IsPlainStep Wait = ⊥
 IsPlainStep _ = Unit {0}
 
--- one step of the work at a stage that ends by its access, which answered the word: no edit comes to count
+-- one step of the work at a stage that ends by its access, which answered the word: no edit is linearized
 pub record StepsAt (e : PlainWorkCall) (stage : WorkStage) (word : ℕ) (old new : PlainWorld) : Type 0 where
   pub plain : IsPlainStep stage
   pub layout : new.layout ≡ old.layout

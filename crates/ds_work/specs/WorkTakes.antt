@@ -14,7 +14,7 @@ use Rattle.ds_state.specs.World.{PlainWorld}
 use Rattle.ds_state.specs.declared.refusal.Refusal.{Refusal}
 use Rattle.ds_state.specs.declared.refusal.Refusal.TheVariants as refusal
 use Rattle.ds_state.specs.declared.situation.Situation.{Situation}
-use Rattle.ds_state.specs.declared.situation.Situation.TheVariants.{Idle, Stopped, Editing, Working, Recovering, Reporting, Migrating}
+use Rattle.ds_state.specs.declared.situation.Situation.TheVariants.{Idle, Stopped, Editing, Working, Recovering, Showing, Migrating}
 use Rattle.ds_state.specs.declared.work.WorkEnd.{WorkEnd}
 use Rattle.ds_state.specs.declared.work.WorkStage.TheVariants.{LoadMark, Read, Wait, Answer}
 use Rattle.ds_layout.specs.SheetMemory.{SheetValue, memory, PerformsAt}
@@ -50,7 +50,7 @@ RefusesIn Stopped r = r ≡ refusal.Stopped
 RefusesIn (Editing e) r = r ≡ refusal.Busy
 RefusesIn (Working e) r = r ≡ refusal.Busy
 RefusesIn (Recovering e) r = r ≡ refusal.Busy
-RefusesIn (Reporting e) r = r ≡ refusal.Busy
+RefusesIn (Showing e) r = r ≡ refusal.Busy
 RefusesIn (Migrating e) r = r ≡ refusal.Busy
 
 -- why this process may not begin work
@@ -125,7 +125,7 @@ pub record StepsBy (old : PlainWorld) (process : ℕ) (what : Turn WorkEnd) (new
 abbrev pub CanNotStep : PlainWorld → ℕ → Type 0
 CanNotStep w process = (e : PlainWorkCall) → process < w.layout.processes → w.situation process ≡ Working e → e.stage ≡ Wait
 
--- the process takes one turn of its work; or it can not make a step of work
+-- the process takes one turn of its work; or it cannot make a step of work
 abbrev pub StepTakes : PlainWorld → ℕ → Option (Turn WorkEnd) → PlainWorld → Type 0
 StepTakes old process None new = CanNotStep old process
 StepTakes old process (Some turn) new = StepsBy old process turn new

@@ -14,14 +14,14 @@ use ds_formula::cells::Cell;
 use ds_formula::content::Content;
 use ds_layout::layout::Layout;
 use ds_state::refusal::Refusal;
-use ds_state::row::Row;
+use ds_state::row::IndexRow;
 use ds_state::situation::{Rest, Situation, next_edit, put};
 use ds_state::text::Text;
 use ds_state::work::{WorkCall, WorkStage};
 use ds_state::world::World;
 use std::alloc::{AllocError, Global};
 
-// No inputs, with room for so many: that of an answered work, where it is enough.
+// No inputs, with room for that number: that of an answered work, where it is enough.
 fn inputs_for(alloc: Global, spare: &mut Option<Inputs>, count: usize) -> Result<Inputs, AllocError>
     ensures items { IfOk result (λ inputs. inputs.items ≡ []) }
     ensures room { IfOk result (λ inputs. count ≤ inputs.room) }
@@ -64,13 +64,13 @@ fn prepared(layout: &Layout, process: usize, next: Rest, cell: Cell, inputs: Inp
         value: 0,
         kind: 0,
         entry: nothing,
-        row: Row::new(),
+        row: IndexRow::new(),
         stage: WorkStage::LoadMark,
     }
 }
 
 /// Work of the process on the cell, before its first step, with room for all that it will gather. An
-/// error is a want of memory.
+/// error means that an allocation failed.
 pub fn fresh(
     alloc: Global,
     layout: &Layout,

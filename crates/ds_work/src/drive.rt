@@ -34,7 +34,7 @@ fn work_of(situation: &Situation) -> Option<&WorkCall>
     match situation {
         Situation::Working(call) => Some(call),
         Situation::Idle(_) | Situation::Stopped | Situation::Editing(_) => None,
-        Situation::Recovering(_) | Situation::Reporting(_) | Situation::Migrating(_) => None,
+        Situation::Recovering(_) | Situation::Showing(_) | Situation::Migrating(_) => None,
     }
 }
 
@@ -109,7 +109,7 @@ fn close(world: &mut World, process: usize, next: Rest, end: WorkEnd)
 }
 
 /// A process makes the next step of its work. Where it has none, or its work waits for an entry, or
-/// the sheet has no such process, the step can not happen and nothing changes. Only the step that
+/// the sheet has no such process, the step cannot happen and nothing changes. Only the step that
 /// reads a content takes memory; where that is refused, the work goes on and answers `NoMemory`.
 pub fn step(alloc: Global, world: &mut World, process: usize) -> Option<Turn<WorkEnd>>
     ensures takes { StepTakes (world_of world.old) process result (world_of world.new) }

@@ -26,32 +26,32 @@ ghost use Rattle.ds_state.specs.declared.turn.Turn.TheVariants as does;
 
 use ds_state::work::WorkCall;
 
-/// Each step of work leaves a sound sheet sound, and leaves each other process what it may count on.
+/// Each step of work leaves a sound sheet sound, and leaves each other process what it may rely on.
 #[tactic(auto, using(crate::proofs::EachWork::work_steps_keep))]
 pub fn work_steps_keep_soundness()
     ensures { (e : PlainWorkCall) (stage : WorkStage) (word : ℕ) (old new : PlainWorld) → IsSound old → e.process < old.layout.processes
         → old.situation e.process ≡ Working (at e stage) → StepsAt e stage word old new → Keeps e.process old new }
 {}
 
-/// So does the step that reads the content.
+/// The step that reads the content does so, too.
 pub fn reads_keep_soundness()
     ensures { (e : PlainWorkCall) (content : PlainContent) (inputs : List Input) (old new : PlainWorld) → IsSound old → e.process < old.layout.processes
         → old.situation e.process ≡ Working (at e works.Read) → ReadsAt e content inputs old new → Keeps e.process old new }
 {}
 
-/// So does giving up for want of memory.
+/// Giving up where an allocation fails does so, too.
 pub fn lacks_keep_soundness()
     ensures { (e : PlainWorkCall) (old new : PlainWorld) → IsSound old → e.process < old.layout.processes
         → old.situation e.process ≡ Working (at e works.Read) → LacksAt e old new → Keeps e.process old new }
 {}
 
-/// So does the offer of the entry that the inputs give.
+/// The offer of the entry that the inputs give does so, too.
 pub fn offers_keep_soundness()
     ensures { (e : PlainWorkCall) (entry : entries.Entry) (old new : PlainWorld) → IsSound old → e.process < old.layout.processes
         → old.situation e.process ≡ Working (at e works.Wait) → OffersAt e entry old new → Keeps e.process old new }
 {}
 
-/// So does the beginning of work, by an idle process.
+/// The beginning of work, by an idle process, does so, too.
 pub fn begins_of_work_keep_soundness()
     ensures { (next : Rest) (e : PlainWorkCall) (old new : PlainWorld) → IsSound old → e.process < old.layout.processes → BeginsWork next e old new → Keeps e.process old new }
 {}
@@ -63,7 +63,7 @@ pub fn work_accesses_are_possible()
 {}
 
 /// Each step of work leaves fewer steps, until the answer's, which is the last; so do reading the
-/// content, giving up for want of memory, and an offer. A work on a sheet of N cells whose content
+/// content, giving up where an allocation fails, and an offer. A work on a sheet of N cells whose content
 /// has r references has at most 2r + 3N + 67 of them, the offer and the answer among them.
 #[tactic(auto, using(crate::proofs::Ranks::each_falls, crate::proofs::Ranks::reading_falls, crate::proofs::Ranks::lacking_falls, crate::proofs::Ranks::offer_falls, crate::proofs::Ranks::few))]
 pub fn work_steps_are_few()
@@ -96,7 +96,7 @@ pub fn work_answers_are_true()
 /// Work that is to say that its value has changed has an entry that differs from the words which it
 /// found in its cell; work that is to say that it is as it was has an entry that does not.
 #[tactic(auto, using(crate::proofs::Ors::changed_differs, crate::proofs::Ors::unchanged_same))]
-pub fn changes_are_told()
+pub fn changes_are_marked()
     ensures changed { (e : PlainWorkCall) → IsWork e → e.stage ≡ works.Clear true → Differs e }
     ensures same { (e : PlainWorkCall) → IsWork e → e.stage ≡ works.Clear false → IsSame e }
 {}
@@ -112,6 +112,7 @@ pub fn only_cells_of_the_row_are_marked()
 pub fn works_are_of_a_sheet(call: &WorkCall)
     ensures { IsWork call.now }
 {
+    // For the proof: reading the field gives its invariant.
     let _stage = call.stage;
 }
 
@@ -121,8 +122,8 @@ pub fn turns_leave_fewer_steps()
     ensures { (p : ℕ) (old new : PlainWorld) → IsSound old → (by : StepsBy old p does.GoesOn new) → GoesOn p by.work new }
 {}
 
-/// Each step of work leaves the others what is theirs, and so do reading the content, giving up for
-/// want of memory, an offer, and its beginning: no edit comes to count, and each report under way
+/// Each step of work leaves the others what is theirs, and so do reading the content, giving up where
+/// an allocation fails, an offer, and its beginning: no edit is linearized, and each show under way
 /// still has a middle.
 pub fn works_leave_others()
     ensures steps { (e : PlainWorkCall) (stage : WorkStage) (word : ℕ) (old new : PlainWorld) → IsSound old → e.process < old.layout.processes

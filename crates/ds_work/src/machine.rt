@@ -27,7 +27,7 @@ use ds_layout::mark::{DIRTY, Mark, State};
 use ds_layout::place::Place;
 use ds_layout::stored::{Kind, Stored};
 use ds_layout::text::{part_bytes, text_parts};
-use ds_state::row::Row;
+use ds_state::row::IndexRow;
 use ds_state::shown::header_in;
 use ds_state::spread::{Spread, told_from};
 use ds_state::text::Text;
@@ -132,7 +132,7 @@ fn record_text(call: &WorkCall, part: usize) -> Place
     }
 }
 
-// Its header.
+// The header's word of the record whose head the work has noted.
 fn record_header(call: &WorkCall) -> Place
     ensures { result ≡ record_header call.now.head }
 {
@@ -167,13 +167,7 @@ fn shown(value: u64, kind: u64, cells: usize) -> Entry
     ensures { result ≡ shown_entry cells value kind }
 {
     let stored = Stored::read(value, kind, cells);
-    let value = match stored.kind {
-        Kind::Blank => Value::Blank,
-        Kind::Number => Value::Number(stored.value),
-        Kind::DivZero => Value::DivZero,
-        Kind::Num => Value::Num,
-        Kind::Circular => Value::Circular,
-    };
+    let value = ds_state::shown::shown(stored);
     Entry {
         value,
         height: stored.height,
@@ -277,7 +271,7 @@ pub(crate) fn input_from(count: usize, i: usize) -> WorkStage
     }
 }
 
-// The next cell that is told; where all are told, the cell is let go.
+// The next cell that is marked; where all are marked, the cell is let go.
 fn tell_from(row: &[u64], cells: usize, from: usize) -> WorkStage
     requires { from ≤ cells }
     ensures { (e : PlainWorkCall) → e.row ≡ row.now → e.cells ≡ cells → result ≡ (tell_from e from).stage }
@@ -288,7 +282,7 @@ fn tell_from(row: &[u64], cells: usize, from: usize) -> WorkStage
     }
 }
 
-// The part of the row behind this one, which is noted; behind the last one, the cells that the row tells.
+// The part of the row after this one, which is noted; after the last one, the cells that the row names.
 #[inline(always)]
 fn row_from(row: &[u64], cells: usize, part: usize) -> WorkStage
     requires { part < parts_for cells }
@@ -301,7 +295,7 @@ fn row_from(row: &[u64], cells: usize, part: usize) -> WorkStage
     tell_from(row, cells, 0)
 }
 
-// The stage behind one that notes a part of the row, or that there is none yet, once this is the row.
+// The stage after one that notes a part of the row, or that there is none yet, once this is the row.
 #[inline(always)]
 fn row_next(row: &[u64], cells: usize, stage: WorkStage) -> WorkStage
     requires notes { notes_at stage ≡ noted.Row }
@@ -486,7 +480,7 @@ fn note_input(inputs: &mut Inputs, stage: WorkStage, cells: usize, word: u64)
 
 // A part of the row is noted.
 #[inline(always)]
-fn note_row(row: &mut Row, stage: WorkStage, word: u64)
+fn note_row(row: &mut IndexRow, stage: WorkStage, word: u64)
     requires { FitsRow row.old stage }
     ensures { row.new ≡ row_after row.old stage word }
 {

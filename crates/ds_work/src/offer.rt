@@ -48,7 +48,7 @@ fn waiting(situation: &Situation) -> Option<&WorkCall>
             _ => None,
         },
         Situation::Idle(_) | Situation::Stopped | Situation::Editing(_) => None,
-        Situation::Recovering(_) | Situation::Reporting(_) | Situation::Migrating(_) => None,
+        Situation::Recovering(_) | Situation::Showing(_) | Situation::Migrating(_) => None,
     }
 }
 
@@ -106,7 +106,7 @@ fn take_entry(call: &mut WorkCall, entry: Entry)
     };
 }
 
-// So does the work of a process.
+// The work of a process takes the entry, too.
 #[inline(always)]
 fn accept(situation: &mut Situation, entry: Entry)
     requires { entry.height ≤ CELLS_MOST }

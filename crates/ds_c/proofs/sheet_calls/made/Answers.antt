@@ -1,4 +1,5 @@
-use Rattle.std.proofs.Common.{ap, ◌∙◌}
+use Rattle.std.proofs.Common.{ap, sym, ◌∙◌}
+use Rattle.ds_drives.specs.Table.{new_words}
 use Rattle.ds_c.proofs.sheet_calls.made.Goals as goal
 
 pub returns-in-Ok-new-clause-ok : goal.returns-in-Ok-new-clause-ok
@@ -11,6 +12,7 @@ returns-in-Ok-new-clause-ok c =
       columns_are = ap (λ s. s.columns) shape ∙ c.in-Some.ensures.value.0;
       rows_are = ap (λ s. s.rows) shape ∙ c.in-Some.ensures.value.1;
       processes_are = ap (λ l. l.processes) layout ∙ c.in-Some-new.ensures.value.1;
+      words = c.in-Ok.ensures.words ∙ ap new_words (sym layout);
       fresh = c.in-Ok.ensures.fresh.0;
       past = c.in-Ok.ensures.fresh.1;
     }

@@ -9,6 +9,7 @@ returns-in-Ok-clause-ok c = record {
   was = sym c.in-Closed.ensures.value;
   is = refl;
   layout = c.in-Ok.ensures.layout;
+  words = c.in-Ok.ensures.words;
   past = c.in-Ok.ensures.past;
   fresh = c.in-Ok.ensures.fresh;
 }

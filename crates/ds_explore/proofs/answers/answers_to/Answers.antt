@@ -1,8 +1,8 @@
 use Rattle.std.proofs.Common.{ℕ, ◌≡◌, ◌≤◌, ◌∙◌, ◌++◌, List, [], length, Some, true, ap, arith, subst, sym}
 use Rattle.ds_formula.specs.Limits.{INPUT_MOST}
-use Rattle.ds_streams.specs.Streams.{reader_of, writer_of, has_ended, read_failed}
-use Rattle.ds_streams.specs.declared.ending.ScriptEnd.{ScriptEnd}
-use Rattle.ds_play.specs.Script.{Finishes, Concludes}
+use Rattle.ds_script_io.specs.Streams.{reader_of, writer_of, has_ended, read_failed}
+use Rattle.ds_script_io.specs.declared.ending.ScriptEnd.{ScriptEnd}
+use Rattle.ds_script.specs.Script.{Finishes, Concludes}
 use Rattle.ds_explore.proofs.Telling.{finishes_of}
 use Rattle.ds_explore.proofs.answers.answers_to.Goals as goal
 

@@ -1,4 +1,4 @@
-use Rattle.ds_streams.proofs.Known.{Appends-Keeps}
+use Rattle.ds_script_io.proofs.Known.{Appends-Keeps}
 use Rattle.ds_explore.proofs.explore.explore.Goals as goal
 
 pub returns-in-Ok-clause-writes : goal.returns-in-Ok-clause-writes

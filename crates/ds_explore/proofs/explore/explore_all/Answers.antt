@@ -1,5 +1,5 @@
 use Rattle.std.proofs.Common.{[], subst, sym}
-use Rattle.ds_streams.proofs.Known.{Appends-none}
+use Rattle.ds_script_io.proofs.Known.{Appends-none}
 use Rattle.ds_explore.specs.declared.explore.ExploreEnd.{ExploreEnd}
 use Rattle.ds_explore.specs.Explored.{Explores}
 use Rattle.ds_explore.proofs.Telling.{explores_none}

@@ -1,6 +1,6 @@
 use Rattle.std.proofs.Common.{ℕ, sym, subst, List, [], inl}
-use Rattle.ds_streams.proofs.Known.{Appends-none}
-use Rattle.ds_streams.specs.declared.input.InputEnd.{InputEnd}
+use Rattle.ds_script_io.proofs.Known.{Appends-none}
+use Rattle.ds_script_io.specs.declared.input.InputEnd.{InputEnd}
 use Rattle.ds_grid.specs.Grids.{Ran, Fails}
 use Rattle.ds_grid.proofs.Fields.{ran_of}
 use Rattle.ds_grid.proofs.report.report_grid.Goals as goal

@@ -4,7 +4,7 @@ use Rattle.ds_formula.specs.declared.cells.Shape.{Shape}
 use Rattle.ds_formula.specs.declared.content.Content.{Content}
 use Rattle.ds_eval.specs.SheetContents.{contents_of}
 use Rattle.ds_eval.specs.declared.value.Value.{Value}
-use Rattle.ds_streams.specs.AnswerTexts.{rows_text}
+use Rattle.ds_script_io.specs.AnswerTexts.{rows_text}
 use Rattle.ds_grid.specs.Grids.{IsGridOf, AllRead, FailsAt}
 use Rattle.ds_grid.proofs.Fields.{fails_of, reads_all}
 use Rattle.ds_grid.proofs.report.values_of.Goals as goal

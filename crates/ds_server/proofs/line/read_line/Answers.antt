@@ -1,5 +1,5 @@
 use Rattle.std.proofs.Common.{◌≤◌, ℕ, [], ◌∷◌, ◌++◌, List, length, ap, ◌∙◌, arith, length-append}
-use Rattle.ds_streams.proofs.Known.{Consumes-both}
+use Rattle.ds_script_io.proofs.Known.{Consumes-both}
 use Rattle.ds_server.proofs.LineLemmas.{no_feed_more, reads_over, reads_long}
 use Rattle.ds_server.proofs.line.read_line.Goals as goal
 

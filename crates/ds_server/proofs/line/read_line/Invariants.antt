@@ -1,7 +1,7 @@
 use Rattle.std.proofs.Common.{◌≡◌, ◌+◌, ◌≤◌, ℕ, List, length, min}
 use Rattle.std.specs.Prelude.{vec_capacity, vec_len}
 use Rattle.std.specs.Io.KnownBytes.{Consumes}
-use Rattle.ds_streams.specs.Streams.{reader_of, bytes_given}
+use Rattle.ds_script_io.specs.Streams.{reader_of, bytes_given}
 use Rattle.ds_server.specs.SessionLines.{HasNoFeed}
 use Rattle.ds_server.proofs.line.read_line.Given as goal
 

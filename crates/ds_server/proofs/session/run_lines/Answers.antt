@@ -1,6 +1,6 @@
 use Rattle.std.proofs.Common.{ℕ, [], ◌++◌, Option, refl, sym, subst, arith, ◌∙◌, inl}
-use Rattle.ds_streams.specs.Streams.{write_failed}
-use Rattle.ds_streams.proofs.Known.{Consumes-none, Consumes-both, Appends-none}
+use Rattle.ds_script_io.specs.Streams.{write_failed}
+use Rattle.ds_script_io.proofs.Known.{Consumes-none, Consumes-both, Appends-none}
 use Rattle.ds_server.specs.Boards.{Seated}
 use Rattle.ds_server.specs.SessionTexts.{said_text}
 use Rattle.ds_server.specs.Session.{Session, begins, Served}
@@ -29,6 +29,7 @@ lines-init g c = record {
   counted = omega arith;
   room = omega (arith, c.in-Ok.ensures.capacity);
   given = omega arith;
+  flushed = λ was. was;
   failed = refl;
 }
 
@@ -75,7 +76,7 @@ pub lines-preserved-in-Ok-turn : goal.lines-preserved-in-Ok-turn
 lines-preserved-in-Ok-turn g c =
     let i = c.lines.invariant in
     let r = c.in-Line.ensures.line in
-    let a = c.in-Ok-turn.ensures in
+    let a = c.in-Ok-turn.ensures.turned in
     let t = turns_short g.B.Board.rules c.args.most c.lines.left c.read_line.new.left c.lines.board c.turn.new.board c.lines.joined r.0 c.deref.result.now a.said c.read_line.new.line.items r.2 c.deref.ensures.value a.says in
     let m = session_more g.B.Board.rules c.args.most c.args.board.now c.lines.board c.turn.new.board i.bytes r.0 i.out c.lines.joined c.turn.new.joined a.said _ _ _ _ _ i.session i.written t a.joined_is a.writes in
     record {
@@ -88,6 +89,7 @@ lines-preserved-in-Ok-turn g c =
       counted = more_counted i.bytes r.0 c.lines.left c.read_line.new.left c.args.limit i.counted r.2.counted;
       room = omega (arith, i.room, c.in-Line.ensures.room);
       given = more_given i.bytes r.0 _ _ _ i.given r.3;
+      flushed = λ was. c.in-Ok-turn.ensures.flushed (i.flushed was);
       failed = a.writes.1 ∙ i.failed;
     }
 
@@ -95,7 +97,7 @@ pub lines-preserved : goal.lines-preserved
 lines-preserved g c =
     let i = c.lines.invariant in
     let r = c.in-Long.ensures.line in
-    let a = c.in-Ok-turn-2.ensures in
+    let a = c.in-Ok-turn-2.ensures.turned in
     let t = turns_long g.B.Board.rules c.args.most c.lines.left c.read_line.new.left c.lines.board c.turn-in-Long.new.board c.lines.joined r.0 c.deref-in-Long.result.now a.said r.2 a.says in
     let m = session_more g.B.Board.rules c.args.most c.args.board.now c.lines.board c.turn-in-Long.new.board i.bytes r.0 i.out c.lines.joined c.turn-in-Long.new.joined a.said _ _ _ _ _ i.session i.written t a.joined_is a.writes in
     record {
@@ -108,6 +110,7 @@ lines-preserved g c =
       counted = more_counted i.bytes r.0 c.lines.left c.read_line.new.left c.args.limit i.counted r.2.counted;
       room = omega (arith, i.room, c.in-Long.ensures.room);
       given = more_given i.bytes r.0 _ _ _ i.given r.3;
+      flushed = λ was. c.in-Ok-turn-2.ensures.flushed (i.flushed was);
       failed = a.writes.1 ∙ i.failed;
     }
 
@@ -115,7 +118,7 @@ pub returns-in-Err-clause-outcome : goal.returns-in-Err-clause-outcome
 returns-in-Err-clause-outcome g c =
     let i = c.lines.invariant in
     let r = c.in-Line.ensures.line in
-    let a = c.in-Err.ensures in
+    let a = c.in-Err.ensures.turned in
     let t = turns_short g.B.Board.rules c.args.most c.lines.left c.read_line.new.left c.lines.board c.turn.new.board c.lines.joined r.0 c.deref.result.now a.said c.read_line.new.line.items r.2 c.deref.ensures.value a.says in
     let m = session_stops g.B.Board.rules c.args.most c.args.board.now c.lines.board c.turn.new.board i.bytes r.0 i.out c.lines.joined c.turn.new.joined a.said _ _ _ _ (write_failed c.turn.new.writer) c.args.limit c.in-Err.stop i.session i.written t a.joined_is a.writes in
     rw c.end_at.ensures (i.bytes ++ r.0, i.out, Consumes-both _ _ _ i.bytes r.0 i.consumed r.1, m.0, m.1, more_given i.bytes r.0 _ _ _ i.given r.3, omega (arith, more_counted i.bytes r.0 c.lines.left c.read_line.new.left c.args.limit i.counted r.2.counted))
@@ -124,7 +127,7 @@ pub returns-in-Err-turn-clause-outcome : goal.returns-in-Err-turn-clause-outcome
 returns-in-Err-turn-clause-outcome g c =
     let i = c.lines.invariant in
     let r = c.in-Long.ensures.line in
-    let a = c.in-Err-turn.ensures in
+    let a = c.in-Err-turn.ensures.turned in
     let t = turns_long g.B.Board.rules c.args.most c.lines.left c.read_line.new.left c.lines.board c.turn-in-Long.new.board c.lines.joined r.0 c.deref-in-Long.result.now a.said r.2 a.says in
     let m = session_stops g.B.Board.rules c.args.most c.args.board.now c.lines.board c.turn-in-Long.new.board i.bytes r.0 i.out c.lines.joined c.turn-in-Long.new.joined a.said _ _ _ _ (write_failed c.turn-in-Long.new.writer) c.args.limit c.in-Err-turn.stop i.session i.written t a.joined_is a.writes in
     rw c.end_at-in-Err-turn.ensures (i.bytes ++ r.0, i.out, Consumes-both _ _ _ i.bytes r.0 i.consumed r.1, m.0, m.1, more_given i.bytes r.0 _ _ _ i.given r.3, omega (arith, more_counted i.bytes r.0 c.lines.left c.read_line.new.left c.args.limit i.counted r.2.counted))

@@ -1,7 +1,7 @@
-use Rattle.std.proofs.Common.{◌≡◌, ℕ, ◌+◌, ◌≤◌, ◌<◌, List, length}
+use Rattle.std.proofs.Common.{◌≡◌, ℕ, ◌+◌, ◌≤◌, ◌<◌, true, List, length}
 use Rattle.std.specs.Prelude.{vec_capacity}
 use Rattle.std.specs.Io.KnownBytes.{Consumes, Appends}
-use Rattle.ds_streams.specs.Streams.{reader_of, writer_of, bytes_given, write_failed}
+use Rattle.ds_script_io.specs.Streams.{reader_of, writer_of, is_flushed, bytes_given, write_failed}
 use Rattle.ds_server.specs.Boards.{Seated}
 use Rattle.ds_server.specs.Session.{Session}
 use Rattle.ds_server.proofs.session.run_lines.Given as goal
@@ -17,6 +17,7 @@ invariant-lines g l = record {
   counted : length bytes + l.left ≡ l.limit;
   room : l.most < vec_capacity l.line;
   given : bytes_given l.reader ≤ bytes_given l.fn.reader + length bytes;
+  flushed : is_flushed l.fn.writer ≡ true → is_flushed l.writer ≡ true;
   failed : write_failed l.writer ≡ write_failed l.fn.writer;
 }
 

@@ -1,12 +1,15 @@
-use Rattle.std.proofs.Common.{◌≡◌, ◌<◌, [], map, length, All}
+use Rattle.std.proofs.Common.{◌≡◌, ◌<◌, [], List, map, length, All}
 use Rattle.std.specs.List.{range_with_len}
 use Rattle.std.specs.Vec.{vec_capacity}
-use Rattle.ds_drives.specs.Views.{HasRest, first_now}
-use Rattle.ds_shared.specs.Known.{past_in}
+use Rattle.ds_drives.specs.declared.board.HistoryEntry.{HistoryEntry}
+use Rattle.ds_shared.specs.Known.{past_in, seen_by}
 use Rattle.ds_shared.specs.Answers.{IsFresh}
+use Rattle.ds_shared.proofs.Joined.{HasAll, HasLeft}
 use Rattle.ds_shared.proofs.seats.dealt.Given as goal
 
 abbrev pub invariant-loop-process : goal.invariant-loop-process
-invariant-loop-process l = (l.rest.table_id ≡ l.fn.rest.table_id) × (l.rest.me.1 ≡ []) × (past_in l.rest ≡ past_in l.fn.rest) × HasRest (first_now l.stopped) l.process l.board.layout.processes (past_in l.fn.rest) l.rest.me.0
+invariant-loop-process l = (l.rest.table_id ≡ l.fn.rest.table_id) × (l.rest.me.1 ≡ []) × (past_in l.rest ≡ past_in l.fn.rest)
+    × ((seen : List HistoryEntry) → HasAll l.stopped l.board.layout.processes seen l.fn.rest → HasLeft l.stopped l.board.layout.processes seen (past_in l.fn.rest) l.process l.rest)
     × (map (λ p. p.process) l.passes.items ≡ range_with_len 0 l.process) × (vec_capacity l.passes ≡ vec_capacity l.fn.passes) × (length l.passes.items ≡ l.process)
     × All (λ p. (p.place.table_id ≡ l.board.table.shared.table_id) × (p.process < l.board.layout.processes) × IsFresh l.stopped p) l.passes.items
+    × All (λ p. (seen : List HistoryEntry) → HasAll l.stopped l.board.layout.processes seen l.fn.rest → seen_by p.place ≡ seen) l.passes.items

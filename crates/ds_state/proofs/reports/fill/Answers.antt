@@ -2,7 +2,7 @@ use Rattle.std.proofs.Common.{ℕ, ◌≡◌, List, ◌∷◌, ◌++◌, [], ap,
 use Rattle.std.specs.List.{range_with_len}
 use Rattle.std.proofs.lemmas.List.FromFn.{length-map-range_with_len, map-range_with_len_more}
 use Rattle.ds_eval.specs.declared.value.Value.{Value}
-use Rattle.ds_state.specs.KnownReport.{noted}
+use Rattle.ds_state.specs.KnownShow.{noted}
 use Rattle.ds_state.specs.EntryWords.{shown_of}
 use Rattle.ds_state.specs.Standing.{shown_entry}
 use Rattle.ds_state.proofs.reports.fill.Goals as goal

@@ -1,7 +1,7 @@
 use Rattle.std.proofs.Common.{◌≡◌, map}
 use Rattle.std.specs.Vec.{vec_capacity}
 use Rattle.std.specs.List.{range_with_len}
-use Rattle.ds_state.specs.KnownReport.{noted}
+use Rattle.ds_state.specs.KnownShow.{noted}
 use Rattle.ds_state.specs.Standing.{shown_entry}
 use Rattle.ds_state.proofs.reports.fill.Given as goal
 

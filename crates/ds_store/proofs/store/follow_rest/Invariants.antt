@@ -1,6 +1,6 @@
 use Rattle.std.proofs.Common.{◌++◌, ℕ, List, map, take}
 use Rattle.std.specs.String.{string_bytes}
-use Rattle.ds_journal.specs.Journals.{Follows}
+use Rattle.ds_store_journal.specs.Journals.{Follows}
 use Rattle.ds_store.proofs.store.follow_rest.Given as goal
 
 abbrev pub invariant-loop-line : goal.invariant-loop-line

@@ -3,7 +3,7 @@ use Rattle.std.specs.List.{flat_map}
 use Rattle.std.proofs.lemmas.List.{flat_map_more, take_more}
 use Rattle.ds_svg.specs.declared.tag.Attribute.{Attribute}
 use Rattle.ds_svg.specs.declared.tag.Name.TheVariants as names
-use Rattle.ds_svg.specs.declared.tag.Value.TheVariants as values
+use Rattle.ds_svg.specs.declared.tag.AttributeValue.TheVariants as values
 use Rattle.ds_svg.specs.Markup.{attribute_text}
 use Rattle.ds_svg.proofs.tag.put_attributes.Goals as goal
 

@@ -1,7 +1,7 @@
 use Rattle.std.proofs.Common.{◌≡◌, true}
 use Rattle.std.specs.Prelude.{IfSome}
 use Rattle.ds_state.specs.Value.{world_of}
-use Rattle.ds_play.specs.Points.{has_passed}
+use Rattle.ds_script.specs.Points.{has_passed}
 use Rattle.ds_trace.proofs.look.behind.Given as goal
 
 abbrev pub invariant-loop-name : goal.invariant-loop-name

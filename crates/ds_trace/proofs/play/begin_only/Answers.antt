@@ -1,4 +1,4 @@
-use Rattle.ds_play.specs.Orders.{beginning}
+use Rattle.ds_script.specs.Orders.{beginning}
 use Rattle.ds_trace.proofs.Trails.{once}
 use Rattle.ds_trace.proofs.play.begin_only.Goals as goal
 

@@ -1,4 +1,4 @@
-use Rattle.ds_play.specs.ScriptTexts.{reply_text}
+use Rattle.ds_script.specs.ScriptTexts.{reply_text}
 use Rattle.ds_trace.proofs.Turning.{says}
 use Rattle.ds_trace.proofs.play.behind_step.Goals as goal
 

@@ -1,8 +1,8 @@
 use Rattle.std.proofs.Common.{sym, subst}
 use Rattle.ds_core.specs.declared.event.Event.TheVariants as events
 use Rattle.ds_core.specs.declared.reply.Reply.{Reply}
-use Rattle.ds_play.specs.declared.order.Command.{Command}
-use Rattle.ds_play.specs.Orders.{command_view}
+use Rattle.ds_script.specs.declared.order.Command.{Command}
+use Rattle.ds_script.specs.Orders.{command_view}
 use Rattle.ds_trace.specs.Rows.{Happens}
 use Rattle.ds_trace.specs.Trails.{ObeysBy}
 use Rattle.ds_trace.proofs.Trails.{once, on_ok, looks}

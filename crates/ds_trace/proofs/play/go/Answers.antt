@@ -1,11 +1,11 @@
 use Rattle.std.proofs.Common.{refl, subst, sym}
 use Rattle.ds_state.specs.Value.{WorldValue}
-use Rattle.ds_play.specs.Plays.{WantsStep}
+use Rattle.ds_script.specs.Plays.{WantsStep}
 use Rattle.ds_calls.proofs.Driving.{offer_event, offer_fits}
-use Rattle.ds_play.proofs.Driving.{wants_step}
+use Rattle.ds_script.proofs.Driving.{wants_step}
 use Rattle.ds_core.specs.declared.reply.Reply.TheVariants.{Stepped}
-use Rattle.ds_stops.specs.declared.turn.Left.TheVariants.{Drives}
-use Rattle.ds_stops.proofs.Turning.{stays_within}
+use Rattle.ds_script_stops.specs.declared.turn.Left.TheVariants.{Drives}
+use Rattle.ds_script_stops.proofs.Turning.{stays_within}
 use Rattle.ds_trace.proofs.Turning.{offers}
 use Rattle.ds_trace.proofs.play.go.Goals as goal
 

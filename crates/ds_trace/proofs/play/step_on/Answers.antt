@@ -1,6 +1,6 @@
 use Rattle.ds_core.specs.declared.event.Event.TheVariants.{Step}
-use Rattle.ds_stops.specs.declared.turn.Left.TheVariants.{Drives}
-use Rattle.ds_stops.proofs.Turning.{stays_within}
+use Rattle.ds_script_stops.specs.declared.turn.Left.TheVariants.{Drives}
+use Rattle.ds_script_stops.proofs.Turning.{stays_within}
 use Rattle.ds_trace.proofs.Turning.{steps}
 use Rattle.ds_trace.proofs.play.step_on.Goals as goal
 

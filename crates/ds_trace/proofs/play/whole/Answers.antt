@@ -1,7 +1,7 @@
 use Rattle.std.proofs.Common.{refl}
-use Rattle.ds_play.specs.Orders.{beginning}
-use Rattle.ds_play.specs.Doing.{Calls, called}
-use Rattle.ds_play.specs.declared.drive.Until.TheVariants.{ToAnswer}
+use Rattle.ds_script.specs.Orders.{beginning}
+use Rattle.ds_script.specs.Doing.{Calls, called}
+use Rattle.ds_script.specs.declared.drive.Until.TheVariants.{ToAnswer}
 use Rattle.ds_trace.specs.Trails.{Trail}
 use Rattle.ds_trace.proofs.Trails.{event_first, on_ok}
 use Rattle.ds_trace.proofs.play.whole.Goals as goal

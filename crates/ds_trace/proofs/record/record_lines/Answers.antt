@@ -4,8 +4,8 @@ use Rattle.ds_words.specs.declared.words.Word.{Word}
 use Rattle.ds_state.specs.Value.{WorldValue}
 use Rattle.ds_trace.specs.Rows.{sides_of}
 use Rattle.ds_trace.proofs.record.record_lines.Goals.{then-has_none+in_ok-start-in-Line, else-has_none}
-use Rattle.ds_streams.specs.ScriptLines.{ALine, next_of}
-use Rattle.ds_streams.proofs.LinesLemmas.{next_shorter}
+use Rattle.ds_script_io.specs.ScriptLines.{ALine, next_of}
+use Rattle.ds_script_io.proofs.LinesLemmas.{next_shorter}
 use Rattle.ds_trace.specs.declared.record.Untraced.{Untraced}
 use Rattle.ds_trace.specs.Traces.{IsUntraced}
 use Rattle.ds_trace.proofs.Lines.{LedFrom, begins_led, begins_start, starts_here, still, line_more, line_stops, ends_led, breaks_long}

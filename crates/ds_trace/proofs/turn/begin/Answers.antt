@@ -1,7 +1,7 @@
 use Rattle.std.proofs.Common.{◌∙◌, ap}
 use Rattle.ds_trace.specs.declared.row.Begin.{Begin}
 use Rattle.ds_trace.specs.declared.row.Happening.TheVariants.{Begins}
-use Rattle.ds_play.specs.Orders.{beginning}
+use Rattle.ds_script.specs.Orders.{beginning}
 use Rattle.ds_trace.proofs.Sides.{told, begin_what, begin_text}
 use Rattle.ds_trace.proofs.turn.begin.Goals as goal
 

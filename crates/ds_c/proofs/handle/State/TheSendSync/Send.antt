@@ -13,7 +13,7 @@ use Rattle.std.proofs.Crossing as heap
 use Rattle.std_alloc.proofs.SendSync.{quiet, lies}
 use Rattle.std_heap.proofs.Global.TheSendSync as handle
 use Rattle.ds_state.specs.contracts.world.World as World
-use Rattle.ds_c.proofs.Crossing.{world_send}
+use Rattle.ds_core.proofs.Crossing.{world_send}
 use Rattle.ds_c.specs.contracts.handle.State.{the_row, the_type}
 
 -- what it owns names no thread

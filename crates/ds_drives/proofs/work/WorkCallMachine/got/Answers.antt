@@ -3,8 +3,8 @@ use Rattle.ds_state.specs.Works.{PlainWorkCall}
 use Rattle.ds_drives.proofs.Works.{next_same, turned_next, fits_still, stays_still, fewer_left}
 use Rattle.ds_drives.proofs.work.WorkCallMachine.got.Goals as goal
 
-pub go_on-requires : goal.go_on-requires
-go_on-requires c = c.requires.fits.cells ∙ sym (ap (λ (z : PlainWorkCall). z.cells) c.got.ensures ∙ (next_same c.args.self.now c.args.word).cells)
+pub go_on-requires-clause-cells : goal.go_on-requires-clause-cells
+go_on-requires-clause-cells c = c.requires.fits.cells ∙ sym (ap (λ (z : PlainWorkCall). z.cells) c.got.ensures ∙ (next_same c.args.self.now c.args.word).cells)
 
 pub returns-clause-turns : goal.returns-clause-turns
 returns-clause-turns c = turned_next c.args.board.now.layout c.args.self.now c.got.new.call c.go_on.new.call c.args.word c.got.ensures c.go_on.ensures

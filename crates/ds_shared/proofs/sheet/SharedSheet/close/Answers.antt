@@ -7,6 +7,7 @@ use Rattle.ds_drives.proofs.Dealt.{in_left, in_right}
 use Rattle.ds_shared.specs.declared.pass.Pass.{Pass}
 use Rattle.ds_shared.proofs.Joined.{AreOf, popped, still_of, none_left, past_kept, still_there, last_there, same_past, one_seated, all_seated}
 use Rattle.ds_shared.specs.Known.{past_in}
+use Rattle.ds_shared_runs.proofs.Right.{rests_with_run}
 use Rattle.ds_shared.proofs.sheet.SharedSheet.close.Goals as goal
 
 pub loop-pass-preserved : goal.loop-pass-preserved
@@ -43,9 +44,18 @@ returns-clause-stand c =
       last = s.last;
       sound = s.sound;
       second = s.second;
+      run = s.run;
+      bare = s.bare;
+      stood = s.stood;
+      from = s.from;
+      opens = s.opens;
+      made = s.made;
       stands = λ e t. s.stands e (subst (λ (x : Seated). In c.loop-pass.seat.me.0.entries x) (sym t.2) (none_left _ t.0 c.loop-pass.seat.me.0 (search rules) (c.loop-pass.invariant.3 t.0 t.1)));
       behind = s.behind;
       stops = s.stops;
       rests = s.rests;
-      told = λ e d inside here. s.told e d (subst (λ (es : List Seated). In es e) c.close-table.ensures.past inside) here;
+      told = λ e inside. s.told e (subst (λ (es : List Seated). In es e) c.close-table.ensures.past inside);
     }
+
+pub returns-clause-run : goal.returns-clause-run
+returns-clause-run c = λ b rests true few. rests_with_run _ _ b _ rests true few

@@ -2,12 +2,12 @@ use Rattle.std.proofs.Common.{ℕ, ◌≡◌, ◌<◌, ◌≤◌, List, length, 
 use Rattle.std.specs.Vec.{vec_capacity}
 use Rattle.std.proofs.lemmas.List.{map-set, length-map}
 use Rattle.ds_eval.specs.declared.value.Value.{Value}
-use Rattle.ds_state.specs.KnownReport.{values_of, noted}
+use Rattle.ds_state.specs.KnownShow.{values_of, noted}
 use Rattle.ds_state.specs.Reports.{PlainReports, with_report}
-use Rattle.ds_state.proofs.ReportRooms.{room_of, kept_room}
+use Rattle.ds_state.proofs.ShowRooms.{room_of, kept_room}
 use Rattle.ds_state.proofs.reports.Reports.keep.Goals as goal
 
--- the process has a report
+-- the process has a show
 low : (rows : List (Vec Value Global)) (cells process : ℕ) (r : PlainReports) → process < length r.values → record { cells = cells; values = map (λ v. v.items) rows } ≡ r → process < length rows
 low rows cells process r l is =
     let same = ap (λ (x : PlainReports). length x.values) (sym is) ∙ length-map rows (λ v. v.items) in

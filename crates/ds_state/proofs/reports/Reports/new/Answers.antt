@@ -3,7 +3,7 @@ use Rattle.std.specs.Vec.{vec_capacity}
 use Rattle.std.proofs.lemmas.List.Elements.{All-nil}
 use Rattle.ds_eval.specs.declared.value.Value.{Value}
 use Rattle.ds_state.specs.Reports.{PlainReports}
-use Rattle.ds_state.proofs.ReportRooms.{one_more}
+use Rattle.ds_state.proofs.ShowRooms.{one_more}
 use Rattle.ds_state.proofs.reports.Reports.new.Goals as goal
 
 pub loop-init : goal.loop-init

@@ -1,8 +1,8 @@
 use Rattle.std.proofs.Common.{rules, sym, subst, map}
 use Rattle.std.specs.String.{string_bytes}
 use Rattle.sqlite.specs.Held.{state}
-use Rattle.ds_journal.specs.Journals.{Follows}
-use Rattle.ds_lines.specs.Tables.{Holds}
+use Rattle.ds_store_journal.specs.Journals.{Follows}
+use Rattle.ds_store_table.specs.Tables.{Holds}
 use Rattle.ds_store.specs.Stores.{IsRestarted}
 use Rattle.ds_store.proofs.store.Store.open.Goals as goal
 

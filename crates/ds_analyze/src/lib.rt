@@ -1,0 +1,6 @@
+//! `dsheet explore` and `dsheet trace`: what the orders of a script's calls come to, and its run as a picture.
+#![tactic(auto)]
+
+pub mod explore;
+pub mod status;
+pub mod trace;

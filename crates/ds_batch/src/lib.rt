@@ -1,0 +1,10 @@
+//! `dsheet run`, `dsheet run --stops` and `dsheet report`: scripts and grids from standard input to standard output, with
+//! their exit statuses. Nothing here reads the command line, a file or a socket.
+#![tactic(auto)]
+
+mod copying;
+pub mod faults;
+mod progress;
+pub mod report;
+pub mod run;
+pub mod status;

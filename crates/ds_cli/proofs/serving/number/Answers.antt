@@ -1,0 +1,15 @@
+use Rattle.clap.specs.Words.{found_of}
+use Rattle.ds_cli.proofs.Matched.{no_number_in, no_number_of, none_of, number_of, text_of}
+use Rattle.ds_cli.proofs.serving.number.Goals as goal
+
+pub returns-in-Some-clause-some : goal.returns-in-Some-clause-some
+returns-in-Some-clause-some c = number_of (found_of c.args.matches.now) c.args.name.now c.in-Some.text.now c.digits.result
+    (text_of (found_of c.args.matches.now) c.args.name.now c.get_str.result c.in-Some.text c.get_str.ensures c.in-Some.is) c.digits.ensures.some
+
+pub returns-in-Some-clause-none : goal.returns-in-Some-clause-none
+returns-in-Some-clause-none c = λ e. no_number_of (found_of c.args.matches.now) c.args.name.now c.in-Some.text.now
+    (text_of (found_of c.args.matches.now) c.args.name.now c.get_str.result c.in-Some.text c.get_str.ensures c.in-Some.is) (c.digits.ensures.none e)
+
+pub returns-in-None-clause-none : goal.returns-in-None-clause-none
+returns-in-None-clause-none c = λ e. no_number_in (found_of c.args.matches.now) c.args.name.now
+    (none_of (found_of c.args.matches.now) c.args.name.now c.get_str.result c.get_str.ensures c.in-None.is)

@@ -1,0 +1,182 @@
+-- The command line of `dsheet`, and what its words ask for.
+use Rattle.std.specs.Prelude.{◌≡◌, ◌≢◌, ◌⊎◌, List, [], ◌∷◌, Option, Some, None, false, true, codes, pos}
+use Rattle.clap.specs.Words.{App, app_of, Row, Rule, Text, HasKind, fault_of, first_of, kind_of, new_app, new_rule, one_of, subcommand_of, with_rule, with_subcommand}
+use Rattle.clap.specs.declared.error.kind.ErrorKind.TheVariants.{OutOfMemory}
+use Rattle.clap.specs.declared.builder.command.Command.{Command}
+use Rattle.clap.specs.declared.builder.command.Command.TheViews.{out-Command as fields_of}
+use Rattle.clap.specs.declared.builder.action.ArgAction.TheVariants.{SetTrue}
+use Rattle.clap.specs.declared.builder.value_parser.ValueParser.TheVariants.{Signed}
+use Rattle.ds_cli.specs.declared.command_line.Action.{Action}
+use Rattle.ds_cli.specs.declared.command_line.Action.TheVariants.{Run, Stops, Report, Explore, Trace, Serve, Keep, Connect, Check, Export, Import, Compact}
+use Rattle.ds_cli.specs.declared.command_line.OptionsFault.{OptionsFault}
+use Rattle.ds_cli.specs.declared.command_line.OptionsFault.TheVariants.{CommandLine, NoCommand, NoFile, OutOfLimits}
+use Rattle.ds_cli.specs.Connectings.{IsConnecting, IsStopping}
+use Rattle.ds_cli.specs.Explorings.{IsExploring}
+use Rattle.ds_cli.specs.Servings.{IsOutOfLimits, IsServing}
+
+-- `clap`'s command is this one, with no global argument
+pub record IsCommand (app : App) (command : Command) : Type 0 where
+  pub is : app_of command ≡ app
+  pub local : (fields_of command).has_globals ≡ false
+
+-- the flag `--stops`
+abbrev pub stops : Rule
+stops = record (new_rule (codes "stops")) { long = Some (codes "stops"); action = Some SetTrue }
+
+-- the option `--listen` with one value, which has to be there
+abbrev pub listen : Rule
+listen = record (new_rule (codes "listen")) { long = Some (codes "listen"); value_names = 1; required = true }
+
+-- an option of this name with one value, which is a number of 16 bits, and this one where it is not there
+abbrev pub number_option : Text → Text → Rule
+number_option name default = record (new_rule name) {
+  long = Some name;
+  value_names = 1;
+  parser = Some (Signed (pos 0) (pos 65535));
+  defaults = default ∷ [];
+}
+
+-- `dsheet run [--stops] [--from K] [--to K]`
+abbrev pub run_command : App
+run_command = with_rule (with_rule (with_rule (new_app (codes "run")) stops) (number_option (codes "from") (codes "1"))) (number_option (codes "to") (codes "0"))
+
+-- a flag of this name
+abbrev pub flag : Text → Rule
+flag name = record (new_rule name) { long = Some name; action = Some SetTrue }
+
+-- `dsheet explore [--crashes] [--stops] [--evictions] [--most N]`
+abbrev pub explore_command : App
+explore_command = with_rule (with_rule (with_rule (with_rule (new_app (codes "explore")) (flag (codes "crashes"))) (flag (codes "stops")))
+    (flag (codes "evictions"))) (number_option (codes "most") (codes "1000"))
+
+-- `dsheet trace`
+abbrev pub trace_command : App
+trace_command = new_app (codes "trace")
+
+-- `dsheet report`
+abbrev pub report_command : App
+report_command = new_app (codes "report")
+
+-- `dsheet serve --listen ADDRESS [--columns N] [--rows N]`
+abbrev pub sheet_command : App
+sheet_command = with_rule (with_rule (with_rule (new_app (codes "serve")) listen)
+    (number_option (codes "columns") (codes "2"))) (number_option (codes "rows") (codes "2"))
+
+-- the same with [--processes N] [--workers N] [--sessions N] [--forever]
+abbrev pub shared_command : App
+shared_command = with_rule (with_rule (with_rule (with_rule sheet_command (number_option (codes "processes") (codes "2")))
+    (number_option (codes "workers") (codes "0"))) (number_option (codes "sessions") (codes "1"))) (flag (codes "forever"))
+
+-- the option `--store` with one value
+abbrev pub store : Rule
+store = record (new_rule (codes "store")) { long = Some (codes "store"); value_names = 1 }
+
+-- the option `--log` with one value
+abbrev pub log_option : Rule
+log_option = record (new_rule (codes "log")) { long = Some (codes "log"); value_names = 1; defaults = codes "info" ∷ [] }
+
+-- the same with [--at-once N] [--idle SECONDS] [--store FILE] [--log LEVEL]
+abbrev pub serve_command : App
+serve_command = with_rule (with_rule (with_rule (with_rule shared_command (number_option (codes "at-once") (codes "64")))
+    (number_option (codes "idle") (codes "300"))) store) log_option
+
+-- an argument of this name, which has to be there
+abbrev pub file : Text → Rule
+file name = record (new_rule name) { value_names = 1; required = true }
+
+-- `dsheet connect SERVER [--process N]`
+abbrev pub connect_command : App
+connect_command = with_rule (with_rule (new_app (codes "connect")) (file (codes "server"))) (number_option (codes "process") (codes "0"))
+
+-- `dsheet COMMAND FILE`
+abbrev pub file_command : Text → App
+file_command name = with_rule (new_app name) (file (codes "file"))
+
+-- `dsheet compact FILE NEW`
+abbrev pub compact_command : App
+compact_command = with_rule (file_command (codes "compact")) (file (codes "new"))
+
+-- the program with the subcommands that work on a store
+abbrev pub with_stores : App → App
+with_stores app = with_subcommand (with_subcommand (with_subcommand (with_subcommand app (file_command (codes "check")).top)
+    (file_command (codes "export")).top) (file_command (codes "import")).top) compact_command.top
+
+-- the program, which has a version and wants one of its subcommands
+abbrev pub dsheet_alone : App
+dsheet_alone = record (new_app (codes "dsheet")) {
+  top = record (new_app (codes "dsheet")).top {
+    has_version = true;
+    subcommand_required = true;
+    arg_required_else_help = true;
+  };
+}
+
+-- the program with its subcommands
+abbrev pub dsheet : App
+dsheet = with_stores (with_subcommand (with_subcommand (with_subcommand (with_subcommand (with_subcommand (with_subcommand dsheet_alone run_command.top) report_command.top)
+    serve_command.top) explore_command.top) trace_command.top) connect_command.top)
+
+-- the argument or option of this name has this value
+abbrev pub Names : List Row → Text → Text → Type 0
+Names rows name value = first_of name rows ≡ Some value
+
+-- a subcommand of this name with these matches asks for this
+abbrev pub Asks : Text → List Row → Action → Type 0
+Asks name rows Run = (name ≡ codes "run") × (one_of (codes "stops") rows ≡ Some (codes "true") → ⊥)
+Asks name rows (Stops stopping) = (name ≡ codes "run") × (one_of (codes "stops") rows ≡ Some (codes "true")) × IsStopping rows stopping
+Asks name rows Report = name ≡ codes "report"
+Asks name rows Trace = name ≡ codes "trace"
+Asks name rows (Explore exploring) = (name ≡ codes "explore") × IsExploring rows exploring
+Asks name rows (Serve serving) = (name ≡ codes "serve") × IsServing rows serving × (first_of (codes "store") rows ≡ None)
+Asks name rows (Keep serving path) = (name ≡ codes "serve") × IsServing rows serving × Names rows (codes "store") path.now
+Asks name rows (Connect connecting) = (name ≡ codes "connect") × IsConnecting rows connecting
+Asks name rows (Check path) = (name ≡ codes "check") × Names rows (codes "file") path.now
+Asks name rows (Export path) = (name ≡ codes "export") × Names rows (codes "file") path.now
+Asks name rows (Import path) = (name ≡ codes "import") × Names rows (codes "file") path.now
+Asks name rows (Compact path new) = (name ≡ codes "compact") × Names rows (codes "file") path.now × Names rows (codes "new") new.now
+
+-- the words of the command line ask for this, by the subcommand and the matches that `clap` reads from them
+abbrev pub IsAskedBy : List Text → Action → Type 0
+IsAskedBy words action = (name : Text) × (rows : List Row) × (subcommand_of dsheet words ≡ Some (name, rows)) × Asks name rows action
+
+-- the subcommand of this name has options with limits
+abbrev pub HasLimits : Text → Type 0
+HasLimits name = ((name ≡ codes "serve") ⊎ (name ≡ codes "explore")) ⊎ ((name ≡ codes "connect") ⊎ (name ≡ codes "run"))
+
+-- the subcommands that want the file of a store
+abbrev pub WantsFile : Text → Type 0
+WantsFile name = ((name ≡ codes "check") ⊎ (name ≡ codes "export")) ⊎ ((name ≡ codes "import") ⊎ (name ≡ codes "compact"))
+
+-- a subcommand of this name with these matches asks for nothing, for this fault: it is none of these, an argument is
+-- missing, or an option is out of its limits
+abbrev pub AsksNothing : Text → List Row → OptionsFault → Type 0
+AsksNothing name rows (CommandLine error) = ⊥
+AsksNothing name rows NoCommand = (name ≢ codes "run") × (name ≢ codes "report") × (name ≢ codes "serve") × (name ≢ codes "explore") × (name ≢ codes "trace")
+    × (name ≢ codes "connect") × (name ≢ codes "check")
+    × (name ≢ codes "export") × (name ≢ codes "import") × (name ≢ codes "compact")
+AsksNothing name rows NoFile = (WantsFile name × (first_of (codes "file") rows ≡ None)) ⊎ ((name ≡ codes "compact") × (first_of (codes "new") rows ≡ None))
+AsksNothing name rows (OutOfLimits limit) = HasLimits name × IsOutOfLimits rows limit
+
+-- the same of a subcommand that none but those on a store can be
+abbrev pub AsksOfStore : Text → List Row → OptionsFault → Type 0
+AsksOfStore name rows (CommandLine error) = ⊥
+AsksOfStore name rows NoCommand = (name ≢ codes "check") × (name ≢ codes "export") × (name ≢ codes "import") × (name ≢ codes "compact")
+AsksOfStore name rows NoFile = AsksNothing name rows NoFile
+AsksOfStore name rows (OutOfLimits limit) = ⊥
+
+-- there is no subcommand, or it asks for nothing, for this fault
+abbrev pub NamesNothing : Option (Text × List Row) → OptionsFault → Type 0
+NamesNothing (Some entered) fault = AsksNothing entered.0 entered.1 fault
+NamesNothing None NoCommand = Unit {0}
+NamesNothing None fault = ⊥
+
+-- the words of the command line ask for nothing, for this fault: memory ran out, or `clap` gives the error for a fault
+-- of the words; or the subcommand that it reads from them asks for nothing
+abbrev pub IsRefusedFor : List Text → OptionsFault → Type 0
+IsRefusedFor words (CommandLine error) = HasKind (fault_of dsheet words) error
+IsRefusedFor words fault = NamesNothing (subcommand_of dsheet words) fault
+
+-- the error says that memory ran out
+abbrev pub IsWanting : OptionsFault → Type 0
+IsWanting (CommandLine error) = kind_of error ≡ OutOfMemory
+IsWanting fault = ⊥

@@ -1,0 +1,18 @@
+-- What a client and a crashed script are asked for, by the arguments of `dsheet connect` and `dsheet run --stops`.
+use Rattle.std.specs.Prelude.{◌<◌, List, codes}
+use Rattle.clap.specs.Words.{Row}
+use Rattle.ds_formula.specs.Limits.{PROCESSES_MOST}
+use Rattle.ds_cli.specs.declared.connecting.Connecting.{Connecting}
+use Rattle.ds_cli.specs.declared.connecting.Stopping.{Stopping}
+use Rattle.ds_cli.specs.Servings.{IsAddressOf, IsNumberOf}
+
+-- the matches of `dsheet connect` ask for this client: of a process that a sheet can have
+pub record IsConnecting (rows : List Row) (c : Connecting) : Type 0 where
+  pub server : IsAddressOf rows (codes "server") c.server
+  pub process : IsNumberOf rows (codes "process") c.process
+  pub below : c.process < PROCESSES_MOST
+
+-- the matches of `dsheet run --stops` ask for these steps
+pub record IsStopping (rows : List Row) (s : Stopping) : Type 0 where
+  pub from : IsNumberOf rows (codes "from") s.from
+  pub to : IsNumberOf rows (codes "to") s.to

@@ -1,0 +1,132 @@
+-- What a client shows of an answer: the lines of a script's answers.
+use Rattle.std.specs.Prelude.{ℕ, Bool, List, [], ◌∷◌, ◌++◌, codes, Option, Some, None, if◌then◌else◌}
+use Rattle.ds_script_io.specs.Fields.{◌>>=◌}
+use Rattle.std.specs.Fmt.{decimal}
+use Rattle.std.specs.Str.{bytes_eq}
+use Rattle.serde_json.specs.Data.{Data, null}
+use Rattle.serde_json.specs.Find.{get, as_str, as_number, as_u64}
+use Rattle.ds_formula.specs.declared.cells.Shape.{Shape}
+use Rattle.ds_state.specs.declared.recovery.LastEdit.{LastEdit}
+use Rattle.ds_state.specs.declared.refusal.Refusal.TheVariants as state
+use Rattle.ds_script_io.specs.AnswerTexts.{done_text, refused_text, settled_text}
+use Rattle.ds_script.specs.ScriptTexts.{last_text, overtaken_text, unsettled_text, word_line}
+use Rattle.ds_server.specs.declared.board.CallRefusal.{CallRefusal}
+use Rattle.ds_server.specs.declared.board.CallRefusal.TheVariants as refusal
+use Rattle.ds_server.specs.declared.request.LineFault.{LineFault}
+use Rattle.ds_server.specs.declared.request.LineFault.TheVariants as fault
+use Rattle.ds_server.specs.Replies.{Said, Joined, Done, Overtaken, Settled, Unsettled, Tells, Left, Refused, Faulted}
+use Rattle.ds_server.specs.SessionTexts.{name_of_fault}
+
+-- the last edit of a process as a recovery of a script reports it
+abbrev pub last_lines : Shape → ℕ → Option LastEdit → List ℕ
+last_lines shape p None = word_line p (codes "nothing")
+last_lines shape p (Some told) = last_text shape p told
+
+-- the refusal of a script; a process that another session has is busy
+abbrev pub refusal_lines : ℕ → CallRefusal → List ℕ
+refusal_lines p refusal.ProcessTaken = refused_text p state.Busy
+refusal_lines p (refusal.Text at) = refused_text p (state.Text at)
+refusal_lines p refusal.Stopped = refused_text p state.Stopped
+refusal_lines p refusal.RecordsFull = refused_text p state.RecordsFull
+refusal_lines p refusal.NoMemory = refused_text p state.NoMemory
+
+-- the answer to a line that is no call: P refused NAME
+abbrev pub named_lines : ℕ → List ℕ → List ℕ
+named_lines p name = decimal p ++ (codes " refused " ++ (name ++ codes "\n"))
+
+-- what a client shows of a line that asks for no call: why
+abbrev pub fault_lines : ℕ → LineFault → List ℕ
+fault_lines p fault.NoMemory = refused_text p state.NoMemory
+fault_lines p other = named_lines p (name_of_fault other)
+
+-- what a client of this process shows of what is said to it; that a process is given back is said to nobody
+abbrev pub said_lines : ℕ → Shape → Said → List ℕ
+said_lines p shape (Joined process last) = last_lines shape p last
+said_lines p shape (Done number) = done_text p number
+said_lines p shape (Overtaken number by) = overtaken_text p number by
+said_lines p shape (Settled values) = settled_text shape values
+said_lines p shape (Unsettled place word) = unsettled_text shape place word
+said_lines p shape (Tells last) = last_lines shape p last
+said_lines p shape Left = []
+said_lines p shape (Refused why) = refusal_lines p why
+said_lines p shape (Faulted fault) = fault_lines p fault
+
+-- ---- of the JSON of an answer
+
+-- the text of the field with this key
+abbrev pub text_at : List ℕ → Data → Option (List ℕ)
+text_at key value = get key value >>= as_str
+
+-- the number of the field with this key
+abbrev pub number_at : List ℕ → Data → Option ℕ
+number_at key value = (get key value >>= as_number) >>= as_u64
+
+-- the line of an edit's number
+abbrev pub done_shown : ℕ → Data → Option (List ℕ)
+done_shown p value = number_at (codes "number") value >>= λ n. Some (done_text p n)
+
+-- the line of an edit that another one has overtaken
+abbrev pub overtaken_shown : ℕ → Data → Option (List ℕ)
+overtaken_shown p value =
+    number_at (codes "number") value >>= λ n. get (codes "by") value >>= λ by. number_at (codes "process") by >>= λ q. number_at (codes "number") by >>= λ m.
+    Some (overtaken_text p n (record { process = q; number = m }))
+
+-- the line of a last edit, or of none
+abbrev pub told_shown : ℕ → Data → Option (List ℕ)
+told_shown p null = Some (word_line p (codes "nothing"))
+told_shown p told =
+    number_at (codes "number") told >>= λ n. text_at (codes "cell") told >>= λ cell. text_at (codes "outcome") told >>= λ outcome.
+    Some (decimal p ++ (codes " last " ++ (decimal n ++ (codes " " ++ (cell ++ (codes " " ++ (outcome ++ codes "\n")))))))
+
+-- what the field `last` of an answer says
+abbrev pub last_shown : ℕ → Data → Option (List ℕ)
+last_shown p value = get (codes "last") value >>= told_shown p
+
+-- the line of a place whose word was not at rest: unsettled, the place, the word
+abbrev pub place_shown : List ℕ → ℕ → List ℕ
+place_shown [] word = codes "unsettled " ++ (decimal word ++ codes "\n")
+place_shown (b ∷ place) word = codes "unsettled " ++ ((b ∷ place) ++ (codes " " ++ (decimal word ++ codes "\n")))
+
+-- the same, of the place and the word of an answer
+abbrev pub unsettled_shown : Data → Option (List ℕ)
+unsettled_shown value = text_at (codes "place") value >>= λ place. number_at (codes "word") value >>= λ word. Some (place_shown place word)
+
+-- a text with a fault
+abbrev pub text_fault_shown : ℕ → Data → Option (List ℕ)
+text_fault_shown p value = text_at (codes "fault") value >>= λ fault. number_at (codes "offset") value >>= λ offset.
+    Some (decimal p ++ (codes " refused 1 " ++ (fault ++ (codes " " ++ (decimal offset ++ codes "\n")))))
+
+-- an error by its name
+abbrev pub error_shown : ℕ → Data → List ℕ → Option (List ℕ)
+error_shown p value name =
+    if bytes_eq name (codes "text") then text_fault_shown p value
+    else (if bytes_eq name (codes "process-taken") then Some (refused_text p state.Busy)
+    else (if bytes_eq name (codes "stopped") then Some (refused_text p state.Stopped)
+    else (if bytes_eq name (codes "records-full") then Some (refused_text p state.RecordsFull)
+    else (if bytes_eq name (codes "no-memory") then Some (refused_text p state.NoMemory)
+    else Some (named_lines p name)))))
+
+-- an answer by its name, but for that of a report that is settled
+abbrev pub ok_shown : ℕ → Data → List ℕ → Option (List ℕ)
+ok_shown p value name =
+    if bytes_eq name (codes "done") then done_shown p value
+    else (if bytes_eq name (codes "overtaken") then overtaken_shown p value
+    else (if bytes_eq name (codes "unsettled") then unsettled_shown value
+    else (if bytes_eq name (codes "join") then last_shown p value
+    else (if bytes_eq name (codes "last") then last_shown p value
+    else None))))
+
+-- the lines of an answer, by its name or that of its error; none where it has neither
+abbrev pub shown_by : ℕ → Data → Option (List ℕ) → Option (List ℕ)
+shown_by p value (Some name) = ok_shown p value name
+shown_by p value None = text_at (codes "error") value >>= error_shown p value
+
+-- what a client of this process shows of an answer that has no values; nothing where it is none of a server's
+abbrev pub shown : ℕ → Data → Option (List ℕ)
+shown p value = shown_by p value (text_at (codes "ok") value)
+
+-- an answer that is said to a client, and has no values
+abbrev pub HasNoValues : Said → Type 0
+HasNoValues (Settled values) = ⊥
+HasNoValues Left = ⊥
+HasNoValues other = Unit {0}

@@ -1,0 +1,26 @@
+-- The line that a client sends for what is asked.
+use Rattle.std.specs.Prelude.{ℕ, List, [], ◌∷◌, ◌++◌, Option, Some, codes}
+use Rattle.serde_json.specs.Data.{Data, object, no_members, member}
+use Rattle.serde_json.specs.Written.{compact_text}
+use Rattle.ds_formula.specs.declared.cells.Shape.{Shape}
+use Rattle.ds_formula.specs.Names.{cell_named}
+use Rattle.ds_script_io.specs.Fields.{◌>>=◌}
+use Rattle.ds_server.specs.BoardCalls.{Call}
+use Rattle.ds_server.specs.BoardCalls as calls
+use Rattle.ds_server.specs.SessionTexts.{number_data, text_data}
+use Rattle.ds_client.specs.Asks.{Wish, Join, Set, Report, Last}
+
+-- what is asked, as JSON: {"op":"set","cell":"A1","text":"=1+2"}, with its keys in byte order
+abbrev pub wish_data : Wish → Data
+wish_data (Join process) = object (member (codes "op") (text_data (codes "join")) (member (codes "process") (number_data process) no_members))
+wish_data (Set cell text) = object (member (codes "cell") (text_data cell) (member (codes "op") (text_data (codes "set")) (member (codes "text") (text_data text) no_members)))
+wish_data Report = object (member (codes "op") (text_data (codes "report")) no_members)
+wish_data Last = object (member (codes "op") (text_data (codes "last")) no_members)
+
+-- its line
+abbrev pub wish_text : Wish → List ℕ
+wish_text wish = compact_text (wish_data wish) ++ 10 ∷ []
+
+-- the edit by the process of the cell of this name, where the sheet has one
+abbrev pub edit_named : Shape → ℕ → List ℕ → List ℕ → Option Call
+edit_named shape process cell text = cell_named shape cell >>= λ at. Some (calls.Set process at text)

@@ -1,0 +1,4 @@
+//! `dsheet connect`: a client of a server, with the commands of scripts.
+#![tactic(auto)]
+
+pub mod connect;

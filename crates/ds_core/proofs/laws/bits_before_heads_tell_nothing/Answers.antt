@@ -1,5 +1,0 @@
-use Rattle.ds_core.proofs.BitFirst.{finds_neither}
-use Rattle.ds_core.proofs.laws.bits_before_heads_tell_nothing.Goals as goal
-
-pub returns : goal.returns
-returns c = finds_neither

@@ -1,5 +1,0 @@
-use Rattle.ds_shared.specs.Answers.{IsOf}
-use Rattle.ds_crowds.proofs.hand.play.Given as goal
-
-abbrev pub invariant-loop-turn : goal.invariant-loop-turn
-invariant-loop-turn l = IsOf l.sheet l.member.pass

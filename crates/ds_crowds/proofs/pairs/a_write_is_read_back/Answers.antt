@@ -1,7 +1,0 @@
-use Rattle.std.proofs.Crossing.{crosses}
-use denote.Param.Send.{sendable}
-use Rattle.ds_shared.proofs.Crossing.{pass_send, sheet_sync}
-use Rattle.ds_crowds.proofs.pairs.a_write_is_read_back.Goals as goal
-
-pub join-first-requires-send-F : goal.join-first-requires-send-F
-join-first-requires-send-F g c κs within = search (sendable, crosses, pass_send, sheet_sync) depth 40

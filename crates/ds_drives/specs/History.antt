@@ -1,0 +1,207 @@
+-- What has happened to a shared sheet: a run of the core's events from world to world, with what each process was
+-- answered.
+use Rattle.std.specs.Prelude.{ℕ, ◌≡◌, ◌<◌, ◌≤◌, ◌==◌, None, if◌then◌else◌, List, [], ◌∷◌, ◌++◌}
+use Rattle.ds_formula.specs.Cells.{IsInside, index_of}
+use Rattle.ds_state.specs.Edits.{PlainEditCall}
+use Rattle.ds_words.specs.declared.access.BufferEntry.{BufferEntry}
+use Rattle.ds_layout.specs.SheetMemory.{memory_at}
+use Rattle.ds_state.specs.Works.{PlainWorkCall, IsWork, PlainRecoverCall, PlainShowCall}
+use Rattle.ds_state.specs.Sound.{IsSound}
+use Rattle.ds_state.specs.Value.{first_rest}
+use Rattle.ds_state.specs.World.{PlainWorld}
+use Rattle.ds_state.specs.Crashes.{StopsIn, CrashesTo}
+use Rattle.ds_state.specs.Events.{Evicts}
+use Rattle.ds_state.specs.declared.stage.Stage.{Stage}
+use Rattle.ds_state.specs.declared.stage.Stage.TheVariants as edit_stage
+use Rattle.ds_state.specs.declared.work.WorkStage.{WorkStage}
+use Rattle.ds_state.specs.declared.work.WorkStage.TheVariants as work_stage
+use Rattle.ds_state.specs.declared.work.WorkEnd.{WorkEnd}
+use Rattle.ds_state.specs.declared.show.ShowStage.{ShowStage}
+use Rattle.ds_state.specs.declared.show.ShowStage.TheVariants as show_stage
+use Rattle.ds_state.specs.declared.recovery.RecoverStage.{RecoverStage}
+use Rattle.ds_state.specs.declared.recovery.RecoverStage.TheVariants as recover_stage
+use Rattle.ds_state.specs.declared.situation.Situation.{Situation}
+use Rattle.ds_state.specs.declared.situation.Situation.TheVariants.{Idle, Editing, Working, Recovering, Showing}
+use Rattle.ds_state.specs.declared.turn.Turn.{Turn}
+use Rattle.ds_edit.specs.EditTakes as edits
+use Rattle.ds_edit.specs.Begun as edit_begun
+use Rattle.ds_work.specs.WorkTakes as works
+use Rattle.ds_show.specs.ShowSteps as reports
+use Rattle.ds_show.specs.ShowBegun as show_begun
+use Rattle.ds_recover.specs.RecoverySteps as recoveries
+use Rattle.ds_recover.specs.RecoverBegun as recover_begun
+use Rattle.ds_core.specs.EditEvents.{edit_reply}
+use Rattle.ds_core.specs.WorkEvents.{work_reply}
+use Rattle.ds_core.specs.ShowEvents.{show_reply}
+use Rattle.ds_core.specs.RecoveryEvents.{recovery_reply}
+use Rattle.ds_core.specs.declared.event.Event.{Event}
+use Rattle.ds_core.specs.declared.event.Event.TheVariants.{BeginEdit, BeginWork, BeginShow, BeginRecover, Step, Offer, Evict, Stop, Crash}
+use Rattle.ds_core.specs.declared.reply.Reply.{Reply}
+use Rattle.ds_core.specs.declared.reply.Reply.TheVariants.{Begun, Entered, Stepped, Evicted, Stopped, Crashed}
+use Rattle.ds_drives.specs.Table.{two_sided}
+use Rattle.ds_drives.specs.declared.board.HistoryEntry.{HistoryEntry}
+use Rattle.ds_drives.specs.declared.board.Told.{Told}
+use Rattle.ds_drives.specs.declared.board.Told.TheVariants.{Began, Edited, Worked, Recovered, Reported}
+
+-- ---- what an event does to a plain world: as in the core, without what a shared sheet does not count
+
+-- the process makes one step of its edit, with the reply of that step
+pub record EditMoves (old : PlainWorld) (p : ℕ) (reply : Reply) (new : PlainWorld) : Type 0 where
+  pub edit : PlainEditCall
+  pub mine : edit.process ≡ p
+  pub at : old.situation p ≡ Editing edit
+  pub word : ℕ
+  pub steps : edits.Steps edit word old new
+  pub is : reply ≡ edit_reply (edits.turn_at old.layout.processes edit.number edit.stage)
+
+-- one turn of its work
+pub record WorkMoves (old : PlainWorld) (p : ℕ) (reply : Reply) (new : PlainWorld) : Type 0 where
+  pub what : Turn WorkEnd
+  pub work : PlainWorkCall
+  pub mine : work.process ≡ p
+  pub at : old.situation p ≡ Working work
+  pub good : IsWork work
+  pub turn : works.TakesTurn work old new what
+  pub is : reply ≡ work_reply what
+
+-- one step of its show
+pub record ShowMoves (old : PlainWorld) (p : ℕ) (reply : Reply) (new : PlainWorld) : Type 0 where
+  pub report : PlainShowCall
+  pub mine : report.process ≡ p
+  pub at : old.situation p ≡ Showing report
+  pub word : ℕ
+  pub steps : reports.Steps report word old new
+  pub is : reply ≡ show_reply (reports.effect_at report.stage)
+
+-- one step of its recovery
+pub record RecoveryMoves (old : PlainWorld) (p : ℕ) (reply : Reply) (new : PlainWorld) : Type 0 where
+  pub recovery : PlainRecoverCall
+  pub mine : recovery.process ≡ p
+  pub at : old.situation p ≡ Recovering recovery
+  pub word : ℕ
+  pub steps : recoveries.Steps recovery word old new
+  pub is : reply ≡ recovery_reply (recoveries.effect_at recovery recovery.stage)
+
+-- the process makes one step of the call that it is in
+pub data StepMoves (old : PlainWorld) (p : ℕ) (reply : Reply) (new : PlainWorld) : Type 0 where
+  edit : EditMoves old p reply new → StepMoves old p reply new
+  work : WorkMoves old p reply new → StepMoves old p reply new
+  report : ShowMoves old p reply new → StepMoves old p reply new
+  recovery : RecoveryMoves old p reply new → StepMoves old p reply new
+
+-- the event leads, with its reply, from the one world to the other
+abbrev pub Moves : PlainWorld → Event → Reply → PlainWorld → Type 0
+Moves old (BeginEdit r) (Begun number) new = (r.process < old.layout.processes) × IsInside old.layout.shape r.cell × edit_begun.IsBegun old r.process (index_of old.layout.shape r.cell) r.text number new
+Moves old (BeginWork p cell) Entered new = (p < old.layout.processes) × IsInside old.layout.shape cell × works.IsBegun old p (index_of old.layout.shape cell) new
+Moves old (BeginShow p) Entered new = (p < old.layout.processes) × show_begun.IsBegun old p new
+Moves old (BeginRecover p) Entered new = (p < old.layout.processes) × recover_begun.IsBegun old p new
+Moves old (Step p) reply new = (p < old.layout.processes) × StepMoves old p reply new
+Moves old (Offer value) Stepped new = works.WaitsFor old value.task × works.IsOffered old value.task.process value.entry new
+Moves old (Evict place) Evicted new = Evicts place old new
+Moves old (Stop p) Stopped new = (p < old.layout.processes) × StopsIn p old new
+Moves old Crash Crashed new = CrashesTo old new
+Moves old event reply new = ⊥
+
+-- ---- a run
+
+-- an event with its reply, and the world that it came upon
+pub record Happened : Type 0 where
+  pub before : PlainWorld
+  pub event : Event
+  pub reply : Reply
+
+-- a run from the first world to the last, the last event first
+abbrev pub Run : PlainWorld → List Happened → PlainWorld → Type 0
+Run first [] last = last ≡ first
+Run first (h ∷ hs) last = Moves h.before h.event h.reply last × Run first hs h.before
+
+-- the world's words are those of a table, and of no process that its sheet has not is anything said
+pub record IsTidy (w : PlainWorld) : Type 0 where
+  pub words : List ℕ
+  pub buffer : ℕ → List (BufferEntry ℕ)
+  pub memory : w.memory ≡ memory_at w.layout (two_sided words buffer)
+  pub buffers : (q : ℕ) → w.layout.processes ≤ q → buffer q ≡ []
+  pub situations : (q : ℕ) → w.layout.processes ≤ q → w.situation q ≡ Idle first_rest
+  pub open_edits : (q : ℕ) → w.layout.processes ≤ q → w.open_edits q ≡ None
+
+-- a sound and tidy world
+pub record IsStanding (w : PlainWorld) : Type 0 where
+  pub sound : IsSound w
+  pub tidy : IsTidy w
+
+-- each event came upon such a world
+abbrev pub Stood : List Happened → Type 0
+Stood [] = Unit {0}
+Stood (h ∷ hs) = IsStanding h.before × Stood hs
+
+-- ---- what a process is answered by a run
+
+-- by the step at this stage: its call, where that is the answer
+abbrev pub edit_told : PlainEditCall → Stage → List Told
+edit_told e (edit_stage.Answer how) = Edited (record e { stage = edit_stage.Answer how }) how ∷ []
+edit_told e _ = []
+
+abbrev pub work_told : PlainWorkCall → WorkStage → List Told
+work_told e (work_stage.Answer end) = Worked (record e { stage = work_stage.Answer end }) end ∷ []
+work_told e _ = []
+
+abbrev pub recovery_told : PlainRecoverCall → RecoverStage → List Told
+recovery_told e (recover_stage.Answer how) = Recovered (record e { stage = recover_stage.Answer how }) (recoveries.end_of e how) ∷ []
+recovery_told e _ = []
+
+abbrev pub show_told : PlainShowCall → ShowStage → List Told
+show_told e (show_stage.Answer end) = Reported (record e { stage = show_stage.Answer end }) end ∷ []
+show_told e _ = []
+
+-- by a step in this situation
+abbrev pub told_at : Situation → List Told
+told_at (Editing e) = edit_told e e.stage
+told_at (Working e) = work_told e e.stage
+told_at (Recovering e) = recovery_told e e.stage
+told_at (Showing e) = show_told e e.stage
+told_at _ = []
+
+-- the call that the event began in this world, or answered
+abbrev pub told_of : PlainWorld → Event → Reply → List Told
+told_of w (Step q) reply = told_at (w.situation q)
+told_of w (BeginEdit r) reply = Began (BeginEdit r) reply ∷ []
+told_of w (BeginWork q cell) reply = Began (BeginWork q cell) reply ∷ []
+told_of w (BeginShow q) reply = Began (BeginShow q) reply ∷ []
+told_of w (BeginRecover q) reply = Began (BeginRecover q) reply ∷ []
+told_of w _ reply = []
+
+-- what stands beside an event is answered to its process
+abbrev pub told_to : ℕ → Event → List Told → List Told
+told_to p (Step q) ts = if q == p then ts else []
+told_to p (BeginEdit r) ts = if r.process == p then ts else []
+told_to p (BeginWork q cell) ts = if q == p then ts else []
+told_to p (BeginShow q) ts = if q == p then ts else []
+told_to p (BeginRecover q) ts = if q == p then ts else []
+told_to p _ ts = []
+
+-- by this event, if it is one of its own
+abbrev pub told_from : ℕ → PlainWorld → Event → Reply → List Told
+told_from p w event reply = told_to p event (told_of w event reply)
+
+-- what the process was answered, the last thing first: each call that it began, and each answer
+abbrev pub told_by : ℕ → List Happened → List Told
+told_by p [] = []
+told_by p (h ∷ hs) = told_from p h.before h.event h.reply ++ told_by p hs
+
+-- ---- the history that seats see: the same without the worlds
+
+abbrev pub entry_of : Happened → HistoryEntry
+entry_of h = record { event = h.event; reply = h.reply; told = told_of h.before h.event h.reply }
+
+abbrev pub history_of : List Happened → List HistoryEntry
+history_of [] = []
+history_of (h ∷ hs) = entry_of h ∷ history_of hs
+
+-- what the process was answered by a history, the last thing first
+abbrev pub calls_of : ℕ → List HistoryEntry → List Told
+calls_of p [] = []
+calls_of p (e ∷ es) = told_to p e.event e.told ++ calls_of p es
+
+-- the first history begins with the second one: the entries that came later stand in front
+abbrev pub Extends : List HistoryEntry → List HistoryEntry → Type 0
+Extends new old = (late : List HistoryEntry) × (new ≡ late ++ old)

@@ -1,0 +1,169 @@
+//! The words that calls under way may touch.
+
+use ds_layout::layout::Layout;
+use ds_layout::place::{DONE_PARTS, Edition, Place, RECORDS};
+use ds_state::situation::Situation;
+use ds_state::world::World;
+use std::alloc::{AllocError, Global};
+
+/// The words of a sheet that are touched, or may be by the calls under way: the version, those of each cell, and then of
+/// each process.
+#[derive(Drop)]
+pub struct Touched {
+    /// The version, the words of each cell, then of each process with its records.
+    pub groups: Vec<Vec<Place>>,
+    /// All of them.
+    pub places: Vec<Place>,
+}
+
+// The words of a cell.
+fn of_cell(alloc: Global, layout: &Layout, cell: usize) -> Result<Vec<Place>, AllocError> {
+    let mut places = vec![in alloc;
+        Place::Head(cell),
+        Place::Mark(cell),
+        Place::Value(cell),
+        Place::Kind(cell),
+    ]?;
+    for part in 0..layout.row_parts() {
+        places.push(Place::Index { row: cell, part })?;
+    }
+    Ok(places)
+}
+
+// Whether the calls under way, or those after a crash, may have to do with the texts of this layout: without a
+// migration only with those of the layout that the sheet has.
+fn has_texts(world: &World, edition: Edition) -> bool {
+    let word = world.words.word(Place::Version);
+    let moving = world
+        .situations
+        .iter()
+        .any(|situation| matches!(situation, Situation::Migrating(_)));
+    moving || Edition::read(word.cached) == edition || Edition::read(word.persisted) == edition
+}
+
+// The layouts whose texts matter.
+fn editions_of(alloc: Global, world: &World) -> Result<Vec<Edition>, AllocError> {
+    let mut editions = Vec::new(alloc);
+    for edition in [Edition::First, Edition::Second] {
+        if has_texts(world, edition) {
+            editions.push(edition)?;
+        }
+    }
+    Ok(editions)
+}
+
+// The words of a record's text in a layout.
+fn of_text(
+    places: &mut Vec<Place>,
+    edition: Edition,
+    process: usize,
+    number: usize,
+) -> Result<(), AllocError> {
+    for part in 0..edition.parts() {
+        places.push(Place::Text {
+            edition,
+            process,
+            number,
+            part,
+        })?;
+    }
+    Ok(())
+}
+
+// The words of a record.
+fn of_record(
+    places: &mut Vec<Place>,
+    editions: &[Edition],
+    process: usize,
+    number: usize,
+) -> Result<(), AllocError> {
+    places.push(Place::Header { process, number })?;
+    for edition in editions {
+        of_text(places, *edition, process, number)?;
+    }
+    Ok(())
+}
+
+// Whether a word of the sheet is not zero on both sides.
+fn is_written(world: &World, place: Place) -> bool {
+    if !world.words.layout().contains(place) {
+        return false;
+    }
+    let word = world.words.word(place);
+    word.cached != 0 || word.persisted != 0
+}
+
+// Whether a record has a word that is not zero.
+fn has_record(
+    alloc: Global,
+    world: &World,
+    editions: &[Edition],
+    process: usize,
+    number: usize,
+) -> Result<bool, AllocError> {
+    let mut places = Vec::new(alloc);
+    of_record(&mut places, editions, process, number)?;
+    Ok(places.iter().any(|place| is_written(world, *place)))
+}
+
+// How many records of a process there are that are written, or may be by its edit under way.
+fn records(
+    alloc: Global,
+    world: &World,
+    editions: &[Edition],
+    process: usize,
+) -> Result<usize, AllocError> {
+    let mut count = match world.situations.get(process) {
+        Some(Situation::Editing(call)) => call.number.saturating_add(1),
+        _ => 0,
+    };
+    for number in 0..RECORDS {
+        if number >= count && has_record(alloc, world, editions, process, number)? {
+            count = number.saturating_add(1);
+        }
+    }
+    Ok(count)
+}
+
+// The words of a process.
+fn of_process(
+    alloc: Global,
+    world: &World,
+    editions: &[Edition],
+    process: usize,
+) -> Result<Vec<Place>, AllocError> {
+    let mut places = vec![in alloc; Place::Announce(process)]?;
+    for part in 0..DONE_PARTS {
+        places.push(Place::Done { process, part })?;
+    }
+    for number in 0..records(alloc, world, editions, process)? {
+        of_record(&mut places, editions, process, number)?;
+    }
+    Ok(places)
+}
+
+impl Touched {
+    /// The words of this world.
+    pub fn of(alloc: Global, world: &World) -> Result<Touched, AllocError> {
+        let layout = world.words.layout();
+        let editions = editions_of(alloc, world)?;
+        let mut groups = vec![in alloc; vec![in alloc; Place::Version]?]?;
+        for cell in 0..layout.cells() {
+            groups.push(of_cell(alloc, &layout, cell)?)?;
+        }
+        for process in 0..layout.processes {
+            groups.push(of_process(alloc, world, &editions, process)?)?;
+        }
+        let places = all(alloc, &groups)?;
+        Ok(Touched { groups, places })
+    }
+}
+
+// The places of all groups.
+fn all(alloc: Global, groups: &[Vec<Place>]) -> Result<Vec<Place>, AllocError> {
+    let mut places = Vec::new(alloc);
+    for group in groups {
+        places.extend_from_slice(group)?;
+    }
+    Ok(places)
+}

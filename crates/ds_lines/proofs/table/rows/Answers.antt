@@ -1,8 +1,0 @@
-use Rattle.std.proofs.lemmas.Result.{IfOk-weaker}
-use Rattle.sqlite.specs.Held.{state}
-use Rattle.ds_lines.proofs.Reading.{lists}
-use Rattle.ds_lines.proofs.table.rows.Goals as goal
-
-pub returns : goal.returns
-returns g c clean lines has =
-    IfOk-weaker c.query_all.result _ _ (λ rows h. lists (state g.S.Store c.args.conn.now) (state g.S.Store c.query_all.new.self) rows.items lines has h) (c.query_all.ensures.ok clean)

@@ -1,0 +1,157 @@
+//! What the threads of a server share beside its sheet.
+
+use crate::keeping::Keeping;
+use std::sync::atomic::{AtomicBool, AtomicU64, Ordering};
+
+/// The door of a server: whether it is to stop, how many sessions it has, and what they have come to. It is shared by
+/// the threads of the server and by whoever tells it to stop.
+#[derive(Drop)]
+pub struct Door {
+    told: AtomicBool,
+    ended: AtomicBool,
+    logs: AtomicBool,
+    patience: AtomicU64,
+    running: AtomicU64,
+    begun: AtomicU64,
+    joined: AtomicU64,
+    done: AtomicU64,
+    overtaken: AtomicU64,
+    refused: AtomicU64,
+    reports: AtomicU64,
+    keeping: Option<Keeping>,
+}
+
+/// What the sessions of a server have come to.
+#[derive(Clone, Copy, Debug, PartialEq, Eq)]
+pub struct Totals {
+    /// Sessions that have joined a process.
+    pub joined: u64,
+    /// Sets that were answered `done`.
+    pub done: u64,
+    /// Sets that were answered `overtaken`.
+    pub overtaken: u64,
+    /// Sets, reports and lasts that the sheet has refused, or for which an allocation failed.
+    pub refused: u64,
+    /// Reports that were answered, settled or not.
+    pub reports: u64,
+}
+
+impl Door {
+    /// Of a server that has not begun, and that has no store.
+    pub fn new() -> Door {
+        Door::with_store(None)
+    }
+
+    /// Of a server that has not begun; where it has a store, its sessions tell the keeper of it what is to be kept.
+    pub fn with_store(keeping: Option<Keeping>) -> Door {
+        Door {
+            told: AtomicBool::new(false),
+            ended: AtomicBool::new(false),
+            logs: AtomicBool::new(false),
+            patience: AtomicU64::new(0),
+            running: AtomicU64::new(0),
+            begun: AtomicU64::new(0),
+            joined: AtomicU64::new(0),
+            done: AtomicU64::new(0),
+            overtaken: AtomicU64::new(0),
+            refused: AtomicU64::new(0),
+            reports: AtomicU64::new(0),
+            keeping,
+        }
+    }
+
+    /// What is shared with the keeper of the server's store, if it has one.
+    pub fn keeping(&self) -> Option<&Keeping> {
+        self.keeping.as_ref()
+    }
+
+    /// Tells the server to stop: it takes no more connections, each session answers the lines that it has read, and
+    /// ends.
+    pub fn tell(&self) {
+        self.told.store(true, Ordering::SeqCst);
+    }
+
+    /// Whether the server was asked to stop.
+    pub fn is_told(&self) -> bool {
+        self.told.load(Ordering::SeqCst)
+    }
+
+    /// Whether the server has ended: nobody has to listen any more for what may tell it to stop.
+    pub fn has_ended(&self) -> bool {
+        self.ended.load(Ordering::SeqCst)
+    }
+
+    /// The server has ended.
+    pub fn end(&self) {
+        self.ended.store(true, Ordering::SeqCst);
+    }
+
+    /// What the sessions have come to so far.
+    pub fn totals(&self) -> Totals {
+        Totals {
+            joined: self.joined.load(Ordering::SeqCst),
+            done: self.done.load(Ordering::SeqCst),
+            overtaken: self.overtaken.load(Ordering::SeqCst),
+            refused: self.refused.load(Ordering::SeqCst),
+            reports: self.reports.load(Ordering::SeqCst),
+        }
+    }
+
+    // How many sessions there are at once.
+    pub(crate) fn running(&self) -> u64 {
+        self.running.load(Ordering::SeqCst)
+    }
+
+    // For how many ticks a client is waited for from now on.
+    pub(crate) fn set_patience(&self, ticks: u64) {
+        self.patience.store(ticks, Ordering::SeqCst);
+    }
+
+    pub(crate) fn patience(&self) -> u64 {
+        self.patience.load(Ordering::SeqCst)
+    }
+
+    // The number of the session that begins, from 1.
+    pub(crate) fn draw_number(&self) -> u64 {
+        self.begun.fetch_add(1, Ordering::SeqCst).wrapping_add(1)
+    }
+
+    // A session begins.
+    pub(crate) fn enter(&self) {
+        self.running.fetch_add(1, Ordering::SeqCst);
+    }
+
+    // A session has ended.
+    pub(crate) fn leave(&self) {
+        self.running.fetch_sub(1, Ordering::SeqCst);
+    }
+
+    pub(crate) fn count_joined(&self) {
+        self.joined.fetch_add(1, Ordering::SeqCst);
+    }
+
+    pub(crate) fn count_done(&self) {
+        self.done.fetch_add(1, Ordering::SeqCst);
+    }
+
+    pub(crate) fn count_overtaken(&self) {
+        self.overtaken.fetch_add(1, Ordering::SeqCst);
+    }
+
+    pub(crate) fn count_refused(&self) {
+        self.refused.fetch_add(1, Ordering::SeqCst);
+    }
+
+    pub(crate) fn count_report(&self) {
+        self.reports.fetch_add(1, Ordering::SeqCst);
+    }
+
+    // Whether nobody else is writing a line of the log, which is the caller's to write then, until `give_log`.
+    pub(crate) fn take_log(&self) -> bool {
+        !self.logs.swap(true, Ordering::SeqCst)
+    }
+
+    pub(crate) fn give_log(&self) {
+        self.logs.store(false, Ordering::SeqCst);
+    }
+}

@@ -1,0 +1,71 @@
+//! The settle of a sheet that threads share.
+
+ghost use Rattle.std.specs.Prelude.{IfErr};
+ghost use Rattle.std.specs.Result.{IsOkAnd};
+ghost use Rattle.ds_net.specs.SharedDesks.{BreaksOff, FitsCause, HasWorked, sheet_of};
+ghost use Rattle.ds_shared_seats.specs.Sheets.{IsSeatOf};
+
+use crate::settle::{PATIENCE, REST, Round};
+use ds_server::board::CallRefusal;
+use ds_shared::ended::Ended;
+use ds_shared_seats::fault::Fault;
+use ds_shared_seats::seat::Seat;
+use ds_state::work::WorkEnd;
+use std::alloc::Global;
+use std::sync::Wait;
+use std::thread;
+use std::time::{Clock, Duration};
+
+/// How many steps a call of a session may take: as many as are counted.
+pub(crate) const STEPS_MOST: u64 = u64::MAX;
+
+// What a round has found with this work, which may end the settle: an error is why. A cell that the sheet has not wants no
+// work.
+fn with_work(round: Round, worked: Result<Ended<WorkEnd>, Fault>) -> Result<Round, CallRefusal>
+    ensures { IfErr result (λ why. IsOkAnd worked (λ how. FitsCause how why)) }
+{
+    match worked {
+        Ok(Ended::Answered(WorkEnd::NotDirty)) | Err(_) => Ok(round),
+        Ok(Ended::Answered(WorkEnd::Missed)) if round != Round::Worked => Ok(Round::Held),
+        Ok(Ended::Answered(WorkEnd::NoMemory)) => Err(CallRefusal::NoMemory),
+        Ok(Ended::Answered(_)) => Ok(Round::Worked),
+        Ok(Ended::Refused(why)) => Err(CallRefusal::from(why)),
+        Ok(Ended::Stopped) => Err(CallRefusal::Stopped),
+    }
+}
+
+/// One round over the cells, with work on each. An error is why a work was refused or stopped, or that an allocation failed
+/// in one.
+pub(crate) fn shared_round(alloc: Global, seat: &mut Seat) -> Result<Round, CallRefusal>
+    ensures works { HasWorked (sheet_of seat.old) seat.old seat.new }
+    ensures err { IfErr result (BreaksOff (sheet_of seat.old) seat.old seat.new) }
+{
+    let shape = seat.layout().shape;
+    let mut round = Round::Clean;
+    for cell in 0..shape.count() {
+        round = with_work(round, seat.work(alloc, shape.cell(cell), STEPS_MOST))?;
+    }
+    Ok(round)
+}
+
+/// Works on the cells, in at most N + 252 rounds over the N cells, until a round finds none that is marked. After a round
+/// that found only marks that others hold it rests for a millisecond. An error is why a work was refused or stopped, or
+/// that an allocation failed in one.
+pub(crate) fn shared_settle<R: Wait + Clock>(
+    rt: &R,
+    alloc: Global,
+    seat: &mut Seat,
+) -> Result<(), CallRefusal>
+    ensures works { HasWorked (sheet_of seat.old) seat.old seat.new }
+    ensures err { IfErr result (BreaksOff (sheet_of seat.old) seat.old seat.new) }
+{
+    let rounds = seat.layout().cells() + 2 + PATIENCE;
+    for _ in 0..rounds {
+        match shared_round(alloc, seat)? {
+            Round::Clean => break,
+            Round::Held => thread::sleep(rt, Duration::from_millis(REST)),
+            Round::Worked => {}
+        }
+    }
+    Ok(())
+}

@@ -1,0 +1,92 @@
+//! What one session notes of itself beside its calls.
+
+use crate::door::Door;
+use crate::keeping::Keeping;
+use ds_server::board::{CallRefusal, Reported};
+use ds_state::answer::EditEnd;
+use std::sync::atomic::{AtomicBool, AtomicU64, Ordering};
+
+/// A session, as the log tells it: which process it has joined, whether its client was silent for too long, and whether
+/// an answer was not given since the store has failed. It counts in the totals of its server.
+#[derive(Drop)]
+pub struct Visit<'a> {
+    door: &'a Door,
+    // The process that was joined, and 1; 0 before.
+    seat: AtomicU64,
+    idle: AtomicBool,
+    lost: AtomicBool,
+}
+
+impl<'a> Visit<'a> {
+    /// Before anything is read.
+    pub fn new(door: &'a Door) -> Visit<'a> {
+        Visit {
+            door,
+            seat: AtomicU64::new(0),
+            idle: AtomicBool::new(false),
+            lost: AtomicBool::new(false),
+        }
+    }
+
+    /// The process that the session has joined, if it has.
+    pub fn process(&self) -> Option<u64> {
+        match self.seat.load(Ordering::SeqCst) {
+            0 => None,
+            seat => Some(seat - 1),
+        }
+    }
+
+    // Whether the session is to read no more: the server was asked to stop.
+    pub(crate) fn is_over(&self) -> bool {
+        self.door.is_told()
+    }
+
+    // Whether the server was asked to stop.
+    pub(crate) fn is_told(&self) -> bool {
+        self.door.is_told()
+    }
+
+    // What is shared with the keeper of the server's store, if it has one.
+    pub(crate) fn keeping(&self) -> Option<&Keeping> {
+        self.door.keeping()
+    }
+
+    // Its client has neither said nor taken anything for too long.
+    pub(crate) fn waits_no_longer(&self) {
+        self.idle.store(true, Ordering::SeqCst);
+    }
+
+    pub(crate) fn was_idle(&self) -> bool {
+        self.idle.load(Ordering::SeqCst)
+    }
+
+    // What it was to say cannot be said: the store has failed.
+    pub(crate) fn loses(&self) {
+        self.lost.store(true, Ordering::SeqCst);
+    }
+
+    pub(crate) fn is_lost(&self) -> bool {
+        self.lost.load(Ordering::SeqCst)
+    }
+
+    pub(crate) fn joins(&self, process: usize) {
+        self.seat
+            .store((process as u64).wrapping_add(1), Ordering::SeqCst);
+        self.door.count_joined();
+    }
+
+    pub(crate) fn counts_set(&self, end: &Result<EditEnd, CallRefusal>) {
+        match end {
+            Ok(EditEnd::Done(_)) => self.door.count_done(),
+            Ok(EditEnd::Overtaken(_, _)) => self.door.count_overtaken(),
+            Err(_) => self.door.count_refused(),
+        }
+    }
+
+    pub(crate) fn counts_report(&self, end: &Result<Reported, CallRefusal>) {
+        match end {
+            Ok(_) => self.door.count_report(),
+            Err(_) => self.door.count_refused(),
+        }
+    }
+}

@@ -1,0 +1,111 @@
+//! A connection that is waited for so long, and no longer.
+
+use crate::visit::Visit;
+use std::io::{self, ErrorKind, Read, Write};
+use std::net::TcpStream;
+use std::time::Duration;
+
+/// How long one read or write of a connection waits, in milliseconds; then it is asked whether the server is to stop.
+pub(crate) const TICK: u64 = 250;
+
+/// How many ticks are in a second.
+const TICKS_A_SECOND: u64 = 4;
+
+// For how many ticks a client that takes nothing is waited for when the server was asked to stop.
+const LATE: u64 = 4;
+
+/// Reads and writes a connection. A read or a write that waits for longer than `ticks` fails, which the visit notes; a
+/// server that was asked to stop reads no more, as if the client had ended.
+#[derive(Drop)]
+pub(crate) struct Wire<'a> {
+    stream: &'a TcpStream,
+    visit: &'a Visit<'a>,
+    ticks: u64,
+}
+
+/// How many ticks are in this number of seconds. 0 seconds are for ever.
+pub(crate) fn ticks_of(seconds: u64) -> u64 {
+    if seconds == 0 {
+        u64::MAX
+    } else {
+        seconds.saturating_mul(TICKS_A_SECOND)
+    }
+}
+
+/// Has each read and write of a connection wait for a tick.
+pub(crate) fn prepare(stream: &TcpStream) -> io::Result<()> {
+    let tick = Some(Duration::from_millis(TICK));
+    stream.set_read_timeout(tick)?;
+    stream.set_write_timeout(tick)?;
+    stream.set_nodelay(true)
+}
+
+impl<'a> Wire<'a> {
+    pub(crate) fn new(stream: &'a TcpStream, visit: &'a Visit<'a>, ticks: u64) -> Wire<'a> {
+        Wire {
+            stream,
+            visit,
+            ticks,
+        }
+    }
+
+    // The failure of a client that was waited for too long.
+    fn idle(&self) -> io::Error {
+        self.visit.waits_no_longer();
+        io::Error::from(ErrorKind::TimedOut)
+    }
+
+    // The bytes that the client says first, as many as it has said; they stay for the first read.
+    pub(crate) fn first(&self, buf: &mut [u8]) -> io::Result<usize> {
+        for _ in 0..self.ticks {
+            if self.visit.is_over() {
+                return Ok(0);
+            }
+            match self.stream.peek(buf) {
+                Err(error) if error.kind() == ErrorKind::WouldBlock => {}
+                read => return read,
+            }
+        }
+        Err(self.idle())
+    }
+}
+
+impl Read for Wire<'_> {
+    fn read(&mut self, buf: &mut [u8]) -> io::Result<usize> {
+        let mut stream = self.stream;
+        for _ in 0..self.ticks {
+            if self.visit.is_over() {
+                return Ok(0);
+            }
+            match stream.read(buf) {
+                Err(error) if error.kind() == ErrorKind::WouldBlock => {}
+                read => return read,
+            }
+        }
+        Err(self.idle())
+    }
+}
+
+impl Write for Wire<'_> {
+    fn write(&mut self, buf: &[u8]) -> io::Result<usize> {
+        let mut stream = self.stream;
+        let mut late = 0u64;
+        for _ in 0..self.ticks {
+            match stream.write(buf) {
+                Err(error) if error.kind() == ErrorKind::WouldBlock => {}
+                written => return written,
+            }
+            if self.visit.is_told() {
+                late = late.saturating_add(1);
+                if late >= LATE {
+                    break;
+                }
+            }
+        }
+        Err(self.idle())
+    }
+
+    fn flush(&mut self) -> io::Result<()> {
+        Ok(())
+    }
+}

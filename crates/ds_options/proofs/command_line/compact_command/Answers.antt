@@ -1,5 +1,0 @@
-use Rattle.ds_options.proofs.command_line.compact_command.Goals as goal
-
-pub returns : goal.returns
-returns c =
-    c.with_argument.ensures _ _ c.file_command-command.ensures c.file_argument-new.ensures.rule c.file_argument-new.ensures.local

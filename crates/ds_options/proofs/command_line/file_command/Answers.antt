@@ -1,5 +1,0 @@
-use Rattle.ds_options.proofs.command_line.file_command.Goals as goal
-
-pub returns : goal.returns
-returns c =
-    c.with_argument.ensures _ _ c.described.ensures c.file_argument-file.ensures.rule c.file_argument-file.ensures.local

@@ -1,7 +1,0 @@
-pub mod Played
-pub mod Driving
-pub mod Calling
-pub mod Settles
-pub mod Scripts
-pub mod RecoverPlayed
-pub mod Settled

@@ -1,5 +1,0 @@
-use Rattle.ds_play.proofs.Settled.{lone_says_clean}
-use Rattle.ds_play.proofs.settle.lone_settles_are_clean.Goals as goal
-
-pub returns : goal.returns
-returns c = lone_says_clean

@@ -1,5 +1,0 @@
-use Rattle.ds_report.proofs.ReportMiddles.{middle_says, middle_settles}
-use Rattle.ds_report.proofs.laws.middles_are_true.Goals as goal
-
-pub returns : goal.returns
-returns c = record { says = middle_says; settles = middle_settles }

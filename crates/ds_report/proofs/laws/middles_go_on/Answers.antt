@@ -1,5 +1,0 @@
-use Rattle.ds_report.proofs.ReportMiddles.{middles_begin, middles_step}
-use Rattle.ds_report.proofs.laws.middles_go_on.Goals as goal
-
-pub returns : goal.returns
-returns c = record { begins = middles_begin; steps = middles_step }

@@ -1,5 +1,0 @@
-use Rattle.ds_report.proofs.OneCollect.{mixed_of_none}
-use Rattle.ds_report.proofs.laws.one_collect_is_not_enough.Goals as goal
-
-pub returns : goal.returns
-returns c = mixed_of_none

@@ -1,7 +1,0 @@
-//! A report: its beginning, its steps, and what they are proved to do.
-#![tactic(auto)]
-
-pub mod begin;
-pub mod laws;
-pub mod machine;
-pub mod step;

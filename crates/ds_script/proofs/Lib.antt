@@ -1,0 +1,8 @@
+mod Naming
+pub mod Played
+pub mod Driving
+pub mod Calling
+pub mod Settles
+pub mod Scripts
+pub mod RecoverPlayed
+pub mod Settled

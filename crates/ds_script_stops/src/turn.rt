@@ -1,0 +1,222 @@
+//! A command, event by event.
+
+ghost use Rattle.std.specs.Prelude.{◌≡◌, ◌<◌, IfSome};
+ghost use Rattle.ds_layout.specs.Places.{cells_of};
+ghost use Rattle.ds_state.specs.Value.{WorldValue, world_of};
+ghost use Rattle.ds_state.specs.declared.answer.Answer.TheVariants.{Work};
+ghost use Rattle.ds_core.specs.declared.reply.Reply.TheVariants.{Answered};
+ghost use Rattle.ds_script.specs.declared.drive.Until.TheVariants.{InRound, ToPoint};
+ghost use Rattle.ds_calls.specs.Settling.{IsInTurn};
+ghost use Rattle.ds_script.specs.Doing.{at_turn, called, offered, stepped, ended, to_point};
+ghost use Rattle.ds_script.specs.Plays.{WantsStep};
+ghost use Rattle.ds_script_stops.specs.ScriptTurns.{Remains, IsWithin, TakesTurn};
+
+use ds_calls::finish::step_once;
+use ds_calls::settle;
+use ds_core::reply::Reply;
+use ds_script::drive::{Until, has_come};
+use ds_script::point::PointName;
+use ds_script::settle::begin;
+use ds_state::answer::Answer;
+use ds_state::work::WorkEnd;
+use ds_state::world::World;
+use ds_work::offer::offer_own;
+use std::alloc::Global;
+
+/// What is left of a command that has not ended.
+#[derive(Clone, Copy, Debug)]
+pub enum Left {
+    /// The process is driven.
+    Drives(usize, Until),
+    /// A settle of the process, with n rounds left after this one, works on the cell with this number, and goes
+    /// on after it.
+    Works {
+        /// The process.
+        process: usize,
+        /// How many rounds are left after this one.
+        rounds: usize,
+        /// The cell, by its number.
+        cell: usize,
+    },
+}
+
+/// One event of a command.
+#[derive(Clone, Copy, Debug)]
+pub struct CommandTurn {
+    /// Whether it was a step that was taken.
+    pub stepped: bool,
+    /// What is left of the command after it; none where the command has ended.
+    pub left: Option<Left>,
+}
+
+/// What is left of a command that drives a process up to a point: nothing where that is passed.
+pub fn to_point(world: &World, process: usize, name: PointName) -> Option<Left>
+    ensures remains { Remains result (to_point process name ((world_of world.now).situation process)) }
+    ensures within { IfSome result (IsWithin world.now) }
+    ensures same { IfSome result (λ next. next ≡ Left.Drives process (ToPoint name)) }
+{
+    if has_come(world, process, name) {
+        None
+    } else {
+        Some(Left::Drives(process, Until::ToPoint(name)))
+    }
+}
+
+/// What is left of a settle by the process at this turn of its: nothing where it ends.
+pub fn left_of(process: usize, turn: settle::SettleStage) -> Option<Left>
+    ensures remains { (w : WorldValue) → Remains result (at_turn w process turn) }
+    ensures within { (w : WorldValue) → IsInTurn (cells_of w.sheet.layout) turn → IfSome result (IsWithin w) }
+{
+    match turn {
+        settle::SettleStage::Ends(_) => None,
+        settle::SettleStage::Works { rounds, cell } => Some(Left::Works {
+            process,
+            rounds,
+            cell,
+        }),
+    }
+}
+
+/// What is left once the beginning of a call was answered: once begun, the process is driven.
+pub fn after_begin(process: usize, until: Until, reply: Reply) -> Option<Left>
+    ensures remains { (w : WorldValue) → Remains result (called w process until reply) }
+    ensures same { IfSome result (λ next. next ≡ Left.Drives process until) }
+{
+    match reply {
+        Reply::Begun(_) | Reply::Entered => Some(Left::Drives(process, until)),
+        _ => None,
+    }
+}
+
+/// What is left once the process's work was offered its entry.
+pub fn after_offer(world: &World, process: usize, until: Until) -> Option<Left>
+    requires { IsWithin world.now (Left.Drives process until) }
+    ensures remains { Remains result (offered world.now process until) }
+    ensures within { IfSome result (IsWithin world.now) }
+    ensures same { IfSome result (λ next. next ≡ Left.Drives process until) }
+{
+    match until {
+        Until::ToPoint(name) => to_point(world, process, name),
+        Until::OneStep | Until::ToAnswer | Until::InRound { rounds: _, cell: _ } => {
+            Some(Left::Drives(process, until))
+        }
+    }
+}
+
+/// What is left once the process has made a step.
+pub fn after_step(world: &World, process: usize, until: Until) -> Option<Left>
+    requires { IsWithin world.now (Left.Drives process until) }
+    ensures remains { Remains result (stepped world.now process until) }
+    ensures within { IfSome result (IsWithin world.now) }
+{
+    match until {
+        Until::OneStep => None,
+        Until::ToPoint(name) => to_point(world, process, name),
+        Until::ToAnswer | Until::InRound { rounds: _, cell: _ } => {
+            Some(Left::Drives(process, until))
+        }
+    }
+}
+
+// What is left of a settle once its work on the cell has ended so.
+fn after_work(
+    world: &World,
+    process: usize,
+    rounds: usize,
+    cell: usize,
+    end: WorkEnd,
+) -> Option<Left>
+    requires { cell < cells_of world.now.sheet.layout }
+    ensures remains { Remains result (ended world.now process (InRound rounds cell) (Answered (Work end))) }
+    ensures within { IfSome result (IsWithin world.now) }
+{
+    let next = settle::worked(world, rounds, cell, Ok(end));
+    left_of(process, next)
+}
+
+/// What is left once the process's call was answered: of a settle, where a work of its was.
+pub fn after_answer(world: &World, process: usize, until: Until, answer: Answer) -> Option<Left>
+    requires { IsWithin world.now (Left.Drives process until) }
+    ensures remains { Remains result (ended world.now process until (Answered answer)) }
+    ensures within { IfSome result (IsWithin world.now) }
+{
+    match until {
+        Until::OneStep | Until::ToPoint(_) | Until::ToAnswer => None,
+        Until::InRound { rounds, cell } => match answer {
+            Answer::Work(end) => after_work(world, process, rounds, cell, end),
+            _ => None,
+        },
+    }
+}
+
+// Work of a settle begins, or is refused.
+fn begin_work(
+    alloc: Global,
+    world: &mut World,
+    process: usize,
+    rounds: usize,
+    cell: usize,
+) -> CommandTurn
+    requires { cell < cells_of world.old.sheet.layout }
+    ensures { TakesTurn (Left.Works process rounds cell) world.old result world.new }
+{
+    let reply = begin(alloc, world, process, cell);
+    CommandTurn {
+        stepped: false,
+        left: after_begin(process, Until::InRound { rounds, cell }, reply),
+    }
+}
+
+// The process makes a step, if it can.
+fn step(alloc: Global, world: &mut World, process: usize, until: Until) -> CommandTurn
+    requires wants { WantsStep world.old process }
+    requires within { IsWithin world.old (Left.Drives process until) }
+    ensures { TakesTurn (Left.Drives process until) world.old result world.new }
+{
+    match step_once(alloc, world, process) {
+        Reply::Stepped => CommandTurn {
+            stepped: true,
+            left: after_step(world, process, until),
+        },
+        Reply::Answered(answer) => CommandTurn {
+            stepped: true,
+            left: after_answer(world, process, until, answer),
+        },
+        _ => CommandTurn {
+            stepped: false,
+            left: None,
+        },
+    }
+}
+
+// The process's work is offered the entry that it waits for, or else the process makes a step.
+fn go(alloc: Global, world: &mut World, process: usize, until: Until) -> CommandTurn
+    requires { IsWithin world.old (Left.Drives process until) }
+    ensures { TakesTurn (Left.Drives process until) world.old result world.new }
+{
+    world.is_always_good();
+    if offer_own(world, process) {
+        world.is_always_good();
+        CommandTurn {
+            stepped: false,
+            left: after_offer(world, process, until),
+        }
+    } else {
+        step(alloc, world, process, until)
+    }
+}
+
+/// Takes the next event of a command.
+pub fn take_turn(alloc: Global, world: &mut World, left: Left) -> CommandTurn
+    requires { IsWithin world.old left }
+    ensures { TakesTurn left world.old result world.new }
+{
+    match left {
+        Left::Drives(process, until) => go(alloc, world, process, until),
+        Left::Works {
+            process,
+            rounds,
+            cell,
+        } => begin_work(alloc, world, process, rounds, cell),
+    }
+}

@@ -1,6 +1,0 @@
-use denote.Param.Send.{sendable}
-use Rattle.ds_serve.proofs.Crossing.{told_sync}
-use Rattle.ds_serve.proofs.server.fn.serve_beside.scope.Goals as goal
-
-pub spawn-requires-send-F : goal.spawn-requires-send-F
-spawn-requires-send-F g c κs within = search (sendable, told_sync) depth 40

@@ -1,6 +1,0 @@
-use denote.Param.Send.{sendable}
-use Rattle.ds_serve.proofs.Crossing.{door_sync, listener_sync, service_send}
-use Rattle.ds_serve.proofs.stored.start.Goals as goal
-
-pub spawn_with-requires-send-F : goal.spawn_with-requires-send-F
-spawn_with-requires-send-F g c κs within = search (sendable, door_sync, listener_sync, service_send) depth 60

@@ -1,0 +1,4 @@
+//! What has happened to a shared sheet is a run of the core, and has its headline.
+#![tactic(auto)]
+
+pub mod laws;

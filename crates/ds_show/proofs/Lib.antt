@@ -1,0 +1,10 @@
+pub mod ShowSteps
+pub mod ShowKeeps
+pub mod ShowBegins
+pub mod ShowTruth
+pub mod ShowRuns
+pub mod ShowMiddles
+pub mod ShowSolo
+pub mod ShowLaws
+pub mod ShowGood
+pub mod OneCollect

@@ -1,5 +1,0 @@
-use Rattle.ds_stops.proofs.Lines.{begins_led}
-use Rattle.ds_stops.proofs.reach.Place.first.Goals as goal
-
-pub returns-clause-at : goal.returns-clause-at
-returns-clause-at c = λ whole w made. begins_led whole c.args.script.now w made

@@ -1,5 +1,0 @@
-use Rattle.ds_stops.proofs.CleanBlocks.{blocks_clean}
-use Rattle.ds_stops.proofs.stops.blocks_are_clean.Goals as goal
-
-pub returns : goal.returns
-returns c = blocks_clean

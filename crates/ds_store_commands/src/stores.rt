@@ -1,0 +1,229 @@
+//! The commands that work on a store.
+
+use crate::status::{BAD_STORE, store_status};
+use ds_batch::status::STREAM_FAILED;
+use ds_script_io::input::{InputEnd, read_input};
+use ds_script_io::line::INPUT_LIMIT;
+use ds_script_io::streams::Reading;
+use ds_store::compact;
+use ds_store::fault::StoreFault;
+use ds_store::open::Databases;
+use ds_store::store::{Opened, Store, is_bare};
+use sqlite::{Connection, FileFrom, FileStore, Wary};
+use std::alloc::{AllocError, Global};
+use std::fs::{self, File, Files};
+use std::io::{self, BufWriter, Write};
+use std::str;
+
+/// What a database lies in: a file, of which a crash leaves the last commit.
+pub type Disk = FileStore<FileFrom<Wary>>;
+
+/// Reports on standard error what is wrong with the store at this path, and gives its status.
+pub fn tell_fault(rt: &impl Eprint, path: &str, fault: &StoreFault) -> u8 {
+    let _told = eprintln!(rt; "dsheet: {path}: {fault}");
+    store_status(fault)
+}
+
+// Reports on standard error what is wrong with the file at this path, and gives the status.
+fn tell_error(rt: &impl Eprint, path: &str, error: &io::Error) -> u8 {
+    let _told = eprintln!(rt; "dsheet: {path}: {error}");
+    STREAM_FAILED
+}
+
+// Opens the store at this path, which is to be there. An error is the status, when standard error has the reason.
+fn open_there<R: AllocGlobal + Eprint + Files<File = File> + Databases>(
+    rt: &R,
+    path: &str,
+) -> Result<Opened<Disk>, u8> {
+    if let Err(error) = fs::open(rt, path) {
+        return Err(tell_error(rt, path, &error));
+    }
+    let conn = match rt.open_database(path) {
+        Ok(conn) => conn,
+        Err(fault) => return Err(tell_fault(rt, path, &fault)),
+    };
+    match Store::open(rt.alloc(), conn) {
+        Ok(opened) => Ok(opened),
+        Err(fault) => Err(tell_fault(rt, path, &fault)),
+    }
+}
+
+// Opens a database at this path that has nothing, and is made where there is none. An error is as before.
+fn open_new<R: AllocGlobal + Eprint + Databases>(
+    rt: &R,
+    path: &str,
+) -> Result<Connection<Disk>, u8> {
+    let conn = match rt.open_database(path) {
+        Ok(conn) => conn,
+        Err(fault) => return Err(tell_fault(rt, path, &fault)),
+    };
+    if is_bare(&conn) {
+        Ok(conn)
+    } else {
+        let _told = eprintln!(rt; "dsheet: {path}: it has a store, or something else, already");
+        Err(BAD_STORE)
+    }
+}
+
+/// Closes a store, whose file has all of it then, and gives the status.
+pub fn close<R: Eprint>(rt: &R, path: &str, store: Store<Disk>) -> u8 {
+    match store.into_database().close() {
+        Ok(()) => 0,
+        Err(error) => tell_fault(rt, path, &StoreFault::from(error)),
+    }
+}
+
+// The status after what was written, or not.
+fn written<R: Eprint>(rt: &R, out: io::Result<()>) -> u8 {
+    match out {
+        Ok(()) => 0,
+        Err(error) => tell_error(rt, "standard output", &error),
+    }
+}
+
+// Writes what a store has: the shape of its sheet, and how many edits of each process.
+fn write_summary<W: Write>(out: &mut W, store: &Store<Disk>) -> io::Result<()> {
+    let layout = store.layout();
+    let counted = store.sheet().counted.as_slice();
+    let (columns, rows) = (layout.shape.columns, layout.shape.rows);
+    writeln!(out, "sheet {columns} {rows} {}", layout.processes)?;
+    for process in 0..layout.processes {
+        let edits = counted
+            .iter()
+            .filter(|edit| edit.process == process)
+            .count();
+        writeln!(out, "process {process}: {edits} edits of 256")?;
+    }
+    writeln!(out, "{} edits count, none is in doubt", counted.len())?;
+    out.flush()
+}
+
+// Writes lines, each ended; a line feed within one is white space of a formula, and is written as a space.
+fn write_lines<W: Write>(out: &mut W, lines: &[String]) -> io::Result<()> {
+    for line in lines {
+        write_line(out, line.as_bytes())?;
+    }
+    out.flush()
+}
+
+fn write_line<W: Write>(out: &mut W, line: &[u8]) -> io::Result<()> {
+    for byte in line {
+        let shown = if *byte == b'\n' { b' ' } else { *byte };
+        out.write_all(&[shown])?;
+    }
+    out.write_all(b"\n")
+}
+
+/// `dsheet check FILE`: whether the store at this path is sound, and what it has, to standard output.
+pub fn check<R: AllocGlobal + Print + Eprint + Files<File = File> + Databases>(
+    rt: &R,
+    path: &str,
+) -> u8 {
+    let opened = match open_there(rt, path) {
+        Ok(opened) => opened,
+        Err(status) => return status,
+    };
+    let Ok(mut out) = BufWriter::new(rt.alloc(), io::writer(rt)) else {
+        return tell_fault(rt, path, &StoreFault::NoMemory);
+    };
+    let status = written(rt, write_summary(&mut out, &opened.store));
+    if status == 0 {
+        close(rt, path, opened.store)
+    } else {
+        status
+    }
+}
+
+/// `dsheet export FILE`: the lines of the store at this path, to standard output: a script, which `dsheet run` reads.
+pub fn export<R: AllocGlobal + Print + Eprint + Files<File = File> + Databases>(
+    rt: &R,
+    path: &str,
+) -> u8 {
+    let Opened {
+        mut store,
+        sheet: _,
+    } = match open_there(rt, path) {
+        Ok(opened) => opened,
+        Err(status) => return status,
+    };
+    let lines = match store.lines(rt.alloc()) {
+        Ok(lines) => lines,
+        Err(fault) => return tell_fault(rt, path, &fault),
+    };
+    let Ok(mut out) = BufWriter::new(rt.alloc(), io::writer(rt)) else {
+        return tell_fault(rt, path, &StoreFault::NoMemory);
+    };
+    let status = written(rt, write_lines(&mut out, &lines));
+    if status == 0 {
+        close(rt, path, store)
+    } else {
+        status
+    }
+}
+
+// The lines of a text, each of its own.
+fn lines_of(alloc: Global, text: &str) -> Result<Vec<String>, AllocError> {
+    let mut lines = Vec::new(alloc);
+    for line in text.lines() {
+        lines.push(String::from_str(alloc, line)?)?;
+    }
+    Ok(lines)
+}
+
+// Reads the lines of standard input. An error is the status, when standard error has the reason.
+fn read_lines<R: AllocGlobal + Input + Eprint>(rt: &R) -> Result<Vec<String>, u8> {
+    let mut reader = Reading::new(rt.reader());
+    let Ok(input) = read_input(rt.alloc(), &mut reader, INPUT_LIMIT) else {
+        return Err(tell_fault(rt, "standard input", &StoreFault::NoMemory));
+    };
+    let what = match (input.end, str::from_utf8(&input.bytes)) {
+        (InputEnd::Ended, Ok(text)) => {
+            return match lines_of(rt.alloc(), text) {
+                Ok(lines) => Ok(lines),
+                Err(_) => Err(tell_fault(rt, "standard input", &StoreFault::NoMemory)),
+            };
+        }
+        (InputEnd::Ended, Err(_)) => "it is not UTF-8",
+        (InputEnd::TooLong, _) => "over 1048576 bytes",
+        (InputEnd::Failed, _) => "a read failed",
+    };
+    let _told = eprintln!(rt; "dsheet: standard input: {what}");
+    Err(STREAM_FAILED)
+}
+
+/// `dsheet import FILE`: makes a store at this path of lines from standard input, as `export` writes them.
+pub fn import<R: AllocGlobal + Input + Eprint + Databases>(rt: &R, path: &str) -> u8 {
+    let lines = match read_lines(rt) {
+        Ok(lines) => lines,
+        Err(status) => return status,
+    };
+    let conn = match open_new(rt, path) {
+        Ok(conn) => conn,
+        Err(status) => return status,
+    };
+    match Store::of_lines(rt.alloc(), conn, &lines) {
+        Ok(store) => close(rt, path, store),
+        Err(fault) => tell_fault(rt, path, &fault),
+    }
+}
+
+/// `dsheet compact FILE NEW`: makes a store at the new path whose edits give each cell the text that it has in the store
+/// at the old one.
+pub fn compact<R: AllocGlobal + Eprint + Files<File = File> + Databases>(
+    rt: &R,
+    path: &str,
+    new: &str,
+) -> u8 {
+    let opened = match open_there(rt, path) {
+        Ok(opened) => opened,
+        Err(status) => return status,
+    };
+    let conn = match open_new(rt, new) {
+        Ok(conn) => conn,
+        Err(status) => return status,
+    };
+    match compact::compact(rt.alloc(), opened.store.sheet(), conn, path) {
+        Ok(store) => close(rt, new, store),
+        Err(fault) => tell_fault(rt, new, &fault),
+    }
+}

@@ -1,0 +1,52 @@
+//! What is wrong with a line of a journal.
+
+use ds_script_io::ending::ScriptFault;
+use ds_state::refusal::Refusal;
+use std::alloc::AllocError;
+use std::fmt;
+
+/// Why a line cannot be a journal's next one.
+#[derive(Clone, Copy, Debug, PartialEq, Eq)]
+pub enum JournalFault {
+    /// It is no line of a script.
+    Line(ScriptFault),
+    /// The first line is no `sheet`.
+    NoSheet,
+    /// It is a line of a script, and no edit of the sheet.
+    NoEdit,
+    /// The edit of the line is refused.
+    Refused(Refusal),
+    /// The edit of the line is answered, and not Done.
+    NotDone,
+    /// It is read as another line than the one that was written, or its edit has another number.
+    Other,
+    /// An allocation failed.
+    NoMemory,
+}
+
+impl From<AllocError> for JournalFault {
+    fn from(_error: AllocError) -> JournalFault {
+        JournalFault::NoMemory
+    }
+}
+
+impl fmt::Display for JournalFault {
+    fn fmt<W: fmt::Write>(&self, f: &mut fmt::Formatter<W>) -> fmt::Result {
+        match self {
+            JournalFault::Line(fault) => write!(f, "{fault}"),
+            JournalFault::NoSheet => f.write_str("the first line is no sheet"),
+            JournalFault::NoEdit => f.write_str("not an edit of the sheet"),
+            JournalFault::Refused(Refusal::Text(fault)) => write!(
+                f,
+                "its text is refused: {fault}"
+            ),
+            JournalFault::Refused(Refusal::RecordsFull) => {
+                f.write_str("its process has begun 256 edits")
+            }
+            JournalFault::Refused(_) => f.write_str("its edit is refused"),
+            JournalFault::NotDone => f.write_str("its edit does not count"),
+            JournalFault::Other => f.write_str("it is read as another line"),
+            JournalFault::NoMemory => f.write_str("no memory"),
+        }
+    }
+}

@@ -1,0 +1,129 @@
+//! The lines of a journal in a database: made, added to, and read.
+
+ghost use Rattle.std.specs.Prelude.{◌≡◌, ◌-◌, ◌++◌, ◌∷◌, [], ℕ, List, IfOk, IsTrue, OnOk, Some, map, slice_get};
+ghost use Rattle.std.specs.String.{string_bytes};
+ghost use Rattle.sqlite.specs.Held.{state};
+ghost use Rattle.sqlite.specs.State.{HasCleanDisk, Survives};
+ghost use Rattle.ds_store_table.specs.Tables.{AreListed, Holds, HoldsInside, IsBare, IsListed, MayHold};
+
+use crate::table;
+use sqlite::{Alter, Connection, Error, ErrorCode, Row, Transaction};
+use std::alloc::{AllocError, Global};
+
+/// Why lines cannot be read.
+#[derive(Clone, Copy, Debug, PartialEq, Eq)]
+pub enum LinesFault {
+    /// The database gives this error; it has no such table, for one.
+    Database(Error),
+    /// The line of this number, from 1, is missing.
+    Missing(usize),
+    /// An allocation failed.
+    NoMemory,
+}
+
+impl From<Error> for LinesFault {
+    fn from(error: Error) -> LinesFault {
+        match error {
+            Error::SqliteFailure(ErrorCode::OutOfMemory) => LinesFault::NoMemory,
+            other => LinesFault::Database(other),
+        }
+    }
+}
+
+impl From<AllocError> for LinesFault {
+    fn from(_error: AllocError) -> LinesFault {
+        LinesFault::NoMemory
+    }
+}
+
+const IN_TRANSACTION: Error = Error::SqliteFailure(ErrorCode::TransactionState);
+
+// Appends lines to the others, in their order.
+fn fill<S: Alter>(tx: &mut Transaction<'_, S>, lines: &[String]) -> Result<(), Error>
+    ensures same_reference { tx.new.conn.ghost_name ≡ tx.old.conn.ghost_name }
+    ensures holds { HasCleanDisk (state S.Store tx.new.conn.now) → (before : List (List ℕ)) → HoldsInside before (state S.Store tx.old.conn.now)
+        → OnOk result (HoldsInside (before ++ map string_bytes lines.now) (state S.Store tx.new.conn.now)) }
+    ensures survives { Survives (state S.Store tx.old.conn.now) (state S.Store tx.new.conn.now) (λ _. ⊥) }
+{
+    for line in lines {
+        table::add(tx, line.as_str())?;
+    }
+    Ok(())
+}
+
+// Makes the table, with these lines.
+fn fill_new<S: Alter>(tx: &mut Transaction<'_, S>, lines: &[String]) -> Result<(), Error>
+    ensures same_reference { tx.new.conn.ghost_name ≡ tx.old.conn.ghost_name }
+    ensures holds { HasCleanDisk (state S.Store tx.new.conn.now) → IsTrue (state S.Store tx.old.conn.now).in_transaction → IsBare (state S.Store tx.old.conn.now).now
+        → OnOk result (HoldsInside (map string_bytes lines.now) (state S.Store tx.new.conn.now)) }
+    ensures survives { Survives (state S.Store tx.old.conn.now) (state S.Store tx.new.conn.now) (λ _. ⊥) }
+{
+    table::create(tx)?;
+    fill(tx, lines)
+}
+
+/// Makes the table in a database that has nothing, with these lines: all of it is committed, or nothing is. It is refused
+/// where a transaction is under way.
+pub fn make<S: Alter>(conn: &mut Connection<S>, lines: &[String]) -> Result<(), Error>
+    ensures made { HasCleanDisk (state S.Store conn.new) → IsBare (state S.Store conn.old).now
+        → OnOk result (Holds (map string_bytes lines.now) (state S.Store conn.new).now × Holds (map string_bytes lines.now) (state S.Store conn.new).committed) }
+    ensures crash { IsBare (state S.Store conn.old).now → Survives (state S.Store conn.old) (state S.Store conn.new) (MayHold (map string_bytes lines.now)) }
+{
+    if !conn.is_autocommit() {
+        return Err(IN_TRANSACTION);
+    }
+    let mut tx = conn.transaction();
+    fill_new(&mut tx, lines)?;
+    tx.commit()
+}
+
+/// Appends lines to those that are there: all are committed, or none is. It is refused where a transaction is under
+/// way.
+pub fn append<S: Alter>(conn: &mut Connection<S>, lines: &[String]) -> Result<(), Error>
+    ensures added { HasCleanDisk (state S.Store conn.new) → (before : List (List ℕ)) → Holds before (state S.Store conn.old).now
+        → OnOk result (Holds (before ++ map string_bytes lines.now) (state S.Store conn.new).now × Holds (before ++ map string_bytes lines.now) (state S.Store conn.new).committed) }
+    ensures crash { (before : List (List ℕ)) → Holds before (state S.Store conn.old).now
+        → Survives (state S.Store conn.old) (state S.Store conn.new) (MayHold (before ++ map string_bytes lines.now)) }
+{
+    if !conn.is_autocommit() {
+        return Err(IN_TRANSACTION);
+    }
+    let mut tx = conn.transaction();
+    fill(&mut tx, lines)?;
+    tx.commit()
+}
+
+// The text of a row, which is to have this number.
+fn text_at(row: &Row, number: usize) -> Result<String, LinesFault>
+    ensures { IfOk result (λ text. (lines : List (List ℕ)) → IsListed lines row.now → slice_get lines (number - 1) ≡ Some (string_bytes text)) }
+{
+    let shown: i64 = row.get(0)?;
+    if usize::try_from(shown) != Ok(number) {
+        return Err(LinesFault::Missing(number));
+    }
+    let text: String = row.get(1)?;
+    Ok(text)
+}
+
+/// The lines that are there, in their order. They are those of the table, all of them; where one of the numbers from 1 on
+/// is missing, it is named.
+pub fn read<S: Alter>(alloc: Global, conn: &mut Connection<S>) -> Result<Vec<String>, LinesFault>
+    ensures { HasCleanDisk (state S.Store conn.new) → (lines : List (List ℕ)) → Holds lines (state S.Store conn.old).now
+        → IfOk result (λ texts. (map string_bytes texts.items ≡ lines) × Holds lines (state S.Store conn.new).now) }
+{
+    let rows = table::rows(conn)?;
+    texts_of(alloc, &rows)
+}
+
+// The texts of rows that are numbered from 1 on.
+fn texts_of(alloc: Global, rows: &[Row]) -> Result<Vec<String>, LinesFault>
+    ensures { IfOk result (λ texts. (lines : List (List ℕ)) → AreListed lines rows.now → map string_bytes texts.items ≡ lines) }
+{
+    let mut texts = Vec::with_capacity(alloc, rows.len())?;
+    for row in rows {
+        let number = texts.len() + 1;
+        let text = text_at(row, number)?;
+        texts.push_reserved(text);
+    }
+    Ok(texts)
+}

@@ -1,0 +1,39 @@
+//! The statements on the table of lines.
+
+ghost use Rattle.std.specs.Prelude.{◌≡◌, ◌++◌, ◌∷◌, [], ℕ, List, IfOk, IsTrue, OnOk};
+ghost use Rattle.sqlite.specs.Held.{state};
+ghost use Rattle.sqlite.specs.State.{HasCleanDisk, Survives};
+ghost use Rattle.ds_store_table.specs.Tables.{AreListed, Holds, HoldsInside, IsBare};
+
+use sqlite::{Alter, Connection, Error, Row, Transaction, params};
+
+/// Makes the table, which has no lines yet, in a database that has nothing.
+pub(crate) fn create<S: Alter>(tx: &mut Transaction<'_, S>) -> Result<usize, Error>
+    ensures same_reference { tx.new.conn.ghost_name ≡ tx.old.conn.ghost_name }
+    ensures holds { HasCleanDisk (state S.Store tx.new.conn.now) → IsTrue (state S.Store tx.old.conn.now).in_transaction → IsBare (state S.Store tx.old.conn.now).now
+        → OnOk result (HoldsInside [] (state S.Store tx.new.conn.now)) }
+    ensures survives { Survives (state S.Store tx.old.conn.now) (state S.Store tx.new.conn.now) (λ _. ⊥) }
+{
+    tx.execute(
+        "CREATE TABLE journal (number INTEGER PRIMARY KEY, line TEXT NOT NULL) STRICT",
+        &[],
+    )
+}
+
+/// Appends a line to the others.
+pub(crate) fn add<S: Alter>(tx: &mut Transaction<'_, S>, line: &str) -> Result<usize, Error>
+    ensures same_reference { tx.new.conn.ghost_name ≡ tx.old.conn.ghost_name }
+    ensures holds { HasCleanDisk (state S.Store tx.new.conn.now) → (lines : List (List ℕ)) → HoldsInside lines (state S.Store tx.old.conn.now)
+        → OnOk result (HoldsInside (lines ++ line.now ∷ []) (state S.Store tx.new.conn.now)) }
+    ensures survives { Survives (state S.Store tx.old.conn.now) (state S.Store tx.new.conn.now) (λ _. ⊥) }
+{
+    tx.execute("INSERT INTO journal (line) VALUES (?1)", params![line])
+}
+
+/// All lines, by their numbers: of each its number and its text.
+pub(crate) fn rows<S: Alter>(conn: &mut Connection<S>) -> Result<Vec<Row>, Error>
+    ensures { HasCleanDisk (state S.Store conn.new) → (lines : List (List ℕ)) → Holds lines (state S.Store conn.old).now
+        → IfOk result (λ rows. AreListed lines rows.items × Holds lines (state S.Store conn.new).now) }
+{
+    conn.query_all("SELECT number, line FROM journal ORDER BY number", &[])
+}

@@ -1,0 +1,238 @@
+//! The columns of a picture: the words that change, side by side, and how they come from one side to the other.
+
+ghost use Rattle.std.specs.Prelude.{◌≡◌, ◌<◌, All, IfOk, length, slice_index_or};
+ghost use Rattle.ds_trace_scene.specs.Columns.{IsColumnOf, IsTrueSpan, first_in, side_of, word_in};
+
+use ds_core::reply::Reply;
+use ds_layout::place::Place;
+use ds_trace::row::{Happening, Trace, TraceRow};
+use ds_words::access::Access;
+use ds_words::words::Word;
+use std::alloc::{AllocError, Global};
+
+/// A side of a word.
+#[derive(Clone, Copy, Debug, PartialEq, Eq)]
+pub enum Side {
+    /// What processes see, and a crash loses.
+    Cached,
+    /// What a crash leaves.
+    Persisted,
+}
+
+/// The number that a side of a word has from one line of the picture to another.
+#[derive(Clone, Copy, Debug, PartialEq, Eq)]
+pub struct Span {
+    /// The line of the event that gave it this number; 0 where it had it before all events.
+    pub from: usize,
+    /// The line of the event that gave it another one, or the last line.
+    pub to: usize,
+    /// The number.
+    pub word: u64,
+    /// Whether a crash took it.
+    pub is_lost: bool,
+}
+
+/// A word that changes.
+#[derive(Debug, Drop)]
+pub struct Column {
+    /// The place of the word.
+    pub place: Place,
+    /// What its cached side was, from the first line to the last.
+    pub cached: Vec<Span>,
+    /// What is shown of its persisted side.
+    pub persisted: Vec<Span>,
+}
+
+/// What became of a buffer entry.
+#[derive(Clone, Copy, Debug, PartialEq, Eq)]
+pub enum PassageEnd {
+    /// It was written back.
+    WrittenBack,
+    /// It was lost by a stop or a crash.
+    Lost,
+    /// It is in the buffer yet.
+    Buffered,
+}
+
+/// A buffer entry: from its flush to its write-back.
+#[derive(Clone, Copy, Debug, PartialEq, Eq)]
+pub struct Passage {
+    /// Whose buffer it was in.
+    pub process: usize,
+    /// The word.
+    pub place: Place,
+    /// The line of its flush.
+    pub from: usize,
+    /// The line of its end.
+    pub to: usize,
+    /// What became of it.
+    pub end: PassageEnd,
+}
+
+/// Where there is no such word.
+pub const NO_WORD: Word = Word {
+    cached: 0,
+    persisted: 0,
+};
+
+/// The line of the last event, and one more.
+pub fn end_line(trace: &Trace) -> usize {
+    trace.rows.len().saturating_add(1)
+}
+
+/// Both sides of a word of the recording after an event, by the word's number; zeros where there is no such word.
+pub fn word_in(row: &TraceRow, number: usize) -> Word
+    ensures { result ≡ word_in number row.now }
+{
+    if number < row.words.len() {
+        row.words[number]
+    } else {
+        NO_WORD
+    }
+}
+
+fn side_of(word: Word, side: Side) -> u64
+    ensures { result ≡ side_of side word }
+{
+    match side {
+        Side::Cached => word.cached,
+        Side::Persisted => word.persisted,
+    }
+}
+
+// The numbers of a side of a word, line by line, which was this one first.
+fn spans(
+    alloc: Global,
+    first: Word,
+    rows: &[TraceRow],
+    number: usize,
+    side: Side,
+) -> Result<Vec<Span>, AllocError>
+    ensures { IfOk result (λ spans. All (IsTrueSpan first rows.now number side) spans.items) }
+{
+    let mut spans = Vec::new(alloc);
+    let mut word = side_of(first, side);
+    let mut from = 0;
+    for event in 0..rows.len() {
+        let next = side_of(word_in(&rows[event], number), side);
+        if next != word {
+            spans.push(Span {
+                from,
+                to: event + 1,
+                word,
+                is_lost: rows[event].reply == Reply::Crashed,
+            })?;
+            from = event + 1;
+            word = next;
+        }
+    }
+    spans.push(Span {
+        from,
+        to: rows.len().saturating_add(1),
+        word,
+        is_lost: false,
+    })?;
+    Ok(spans)
+}
+
+/// Both sides of a word of the recording before all events, by the word's number; zeros where there is no such word.
+pub fn first_in(trace: &Trace, number: usize) -> Word
+    ensures { result ≡ first_in trace.now number }
+{
+    if number < trace.start.len() {
+        trace.start[number]
+    } else {
+        NO_WORD
+    }
+}
+
+// Whether a word ever is another one than in the new sheet.
+fn changes(trace: &Trace, number: usize) -> bool {
+    let first = first_in(trace, number);
+    trace.rows.iter().any(|row| word_in(row, number) != first)
+}
+
+fn place_of(trace: &Trace, number: usize) -> Place
+    requires { number < length trace.now.places.items }
+    ensures { result ≡ slice_index_or trace.now.places.items number Place.Version }
+{
+    trace.places[number]
+}
+
+// The column of a word.
+fn column_of(alloc: Global, trace: &Trace, number: usize) -> Result<Column, AllocError>
+    requires { number < length trace.now.places.items }
+    ensures { IfOk result (λ column. IsColumnOf trace.now column) }
+{
+    let first = first_in(trace, number);
+    Ok(Column {
+        place: place_of(trace, number),
+        cached: spans(alloc, first, &trace.rows, number, Side::Cached)?,
+        persisted: spans(alloc, first, &trace.rows, number, Side::Persisted)?,
+    })
+}
+
+/// A column for each word that changes. An error means that an allocation failed.
+pub fn columns(alloc: Global, trace: &Trace) -> Result<Vec<Column>, AllocError>
+    ensures { IfOk result (λ columns. All (IsColumnOf trace.now) columns.items) }
+{
+    let mut columns = Vec::new(alloc);
+    for number in 0..trace.places.len() {
+        if changes(trace, number) {
+            columns.push(column_of(alloc, trace, number)?)?;
+        }
+    }
+    Ok(columns)
+}
+
+// Ends the oldest passage of a process that has not ended.
+fn write_back(passages: &mut Vec<Passage>, process: usize, line: usize) {
+    for i in 0..passages.len() {
+        let passage = passages[i];
+        if passage.process == process && passage.end == PassageEnd::Buffered {
+            passages[i].to = line;
+            passages[i].end = PassageEnd::WrittenBack;
+            return;
+        }
+    }
+}
+
+// Ends those of a process, or of all, that have not ended.
+fn lose(passages: &mut Vec<Passage>, process: Option<usize>, line: usize) {
+    for i in 0..passages.len() {
+        let passage = passages[i];
+        let is_meant = process.is_none() || process == Some(passage.process);
+        if is_meant && passage.end == PassageEnd::Buffered {
+            passages[i].to = line;
+            passages[i].end = PassageEnd::Lost;
+        }
+    }
+}
+
+/// The buffer entries, in the order of their flushes.
+pub fn passages(alloc: Global, trace: &Trace) -> Result<Vec<Passage>, AllocError> {
+    let mut passages = Vec::new(alloc);
+    for (i, row) in trace.rows.iter().enumerate() {
+        let line = i.saturating_add(1);
+        match (row.what, row.reply) {
+            (Happening::Steps(process, Access::Flush(place)), Reply::Stepped) => {
+                passages.push(Passage {
+                    process,
+                    place,
+                    from: line,
+                    to: end_line(trace),
+                    end: PassageEnd::Buffered,
+                })?;
+            }
+            (Happening::Steps(process, Access::Back), Reply::Stepped) => {
+                write_back(&mut passages, process, line);
+            }
+            (Happening::Stops(process), Reply::Stopped) => {
+                lose(&mut passages, Some(process), line);
+            }
+            (Happening::Crashes, _) => lose(&mut passages, None, line),
+            _ => {}
+        }
+    }
+    Ok(passages)
+}

@@ -1,4 +1,0 @@
-use Rattle.ds_values.proofs.random.+begins_walk.Given as goal
-
-abbrev pub decreases-begins_walk : goal.decreases-begins_walk
-decreases-begins_walk l = l.steps

@@ -1,0 +1,4 @@
+pub mod Puts
+pub mod ByKind
+pub mod Lists
+pub mod Running

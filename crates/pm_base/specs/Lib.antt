@@ -1,0 +1,3 @@
+pub mod Structures
+pub mod Runs
+pub mod Alone

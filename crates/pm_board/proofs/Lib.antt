@@ -1,0 +1,11 @@
+pub mod Words
+pub mod Histories
+pub mod Seating
+pub mod Looking
+pub mod Resting
+pub mod Dealt
+pub mod Driving
+pub mod Machines
+pub mod Having
+pub mod FirstWords
+pub mod Losing

@@ -1,0 +1,116 @@
+-- An access is one step on one word of the table.
+use Rattle.std.proofs.Common.{ℕ, Bool, ◌≡◌, ◌+◌, ◌*◌, ◌<◌, eqb, List, [], ◌∷◌, ◌++◌, length, get_or, set, refl, sym, ap, subst, ◌∙◌, inl, inr, arith, bit_or, eq-eqb, ne_eqb}
+use Rattle.std.proofs.lemmas.List.{get_or-set_same, get_or-set_other, set-get_or}
+use mathlib.Core.Logic.{dite}
+use native.Mathlib.Decide.{ℕ_discrete}
+use prog.Atomic.{either}
+use Rattle.ds_words.specs.declared.access.Class.{Class}
+use Rattle.ds_words.specs.declared.access.BufferEntry.{BufferEntry}
+use Rattle.ds_words.specs.declared.access.Access.{Access}
+use Rattle.ds_words.specs.declared.access.Access.TheVariants.{Nothing, Load, Store, Or, SwapIf, Flush, Back}
+use Rattle.ds_words.specs.Memory.{Memory, Performs, SameMemory, StoresAt, SwapsAt}
+use Rattle.pm_board.specs.Table.{two_sided, word_of, change, answer, told, oldest_of, buffer_after}
+use Rattle.pm_base.specs.Structures.{put}
+use Rattle.pm_base.proofs.Puts.{put_here, put_else, put_same}
+
+-- the table has the word that the access takes, and a write-back has an entry
+abbrev pub IsThere : List ℕ → Access ℕ → List (BufferEntry ℕ) → Type 0
+IsThere words Nothing b = Unit {0}
+IsThere words (Load n) b = 8 * n + 1 < length words
+IsThere words (Store n v) b = 8 * n + 1 < length words
+IsThere words (Or n k) b = 8 * n + 1 < length words
+IsThere words (SwapIf n o v) b = 8 * n + 1 < length words
+IsThere words (Flush n) b = 8 * n + 1 < length words
+IsThere words Back [] = ⊥
+IsThere words Back (x ∷ b) = 8 * x.place + 1 < length words
+
+-- what the step tells gives the same answer and the same buffer
+pub answer_told : (a : Access ℕ) (b : List (BufferEntry ℕ)) (n : ℕ) → answer a (told a (oldest_of b) n) ≡ answer a n
+answer_told Nothing b n = refl
+answer_told (Load w) b n = refl
+answer_told (Store w v) b n = refl
+answer_told (Or w k) b n = refl
+answer_told (SwapIf w o v) b n = refl
+answer_told (Flush w) b n = refl
+answer_told Back b n = refl
+
+-- the buffer after an access is the same by what the table answers and by the word
+pub buffer_told : (classes : ℕ → Class) (a : Access ℕ) (b : List (BufferEntry ℕ)) (n : ℕ) → buffer_after classes a b (told a (oldest_of b) n) ≡ buffer_after classes a b n
+buffer_told classes Nothing b n = refl
+buffer_told classes (Load w) b n = refl
+buffer_told classes (Store w v) b n = refl
+buffer_told classes (Or w k) b n = refl
+buffer_told classes (SwapIf w o v) b n = refl
+buffer_told classes (Flush w) b n = refl
+buffer_told classes Back b n = refl
+
+module _ (classes : ℕ → Class) (p : ℕ) (words : List ℕ) (buffers : ℕ → List (BufferEntry ℕ)) where
+  abbrev pub now : Access ℕ → List (BufferEntry ℕ) → ℕ
+  now a b = get_or words (word_of a (oldest_of b)) 0
+
+  abbrev pub new_words : Access ℕ → List (BufferEntry ℕ) → List ℕ
+  new_words a b = set words (word_of a (oldest_of b)) (change a (oldest_of b) (now a b))
+
+  abbrev pub new_memory : Access ℕ → List (BufferEntry ℕ) → Memory ℕ
+  new_memory a b = two_sided (new_words a b) (put buffers p (buffer_after classes a b (now a b)))
+
+  old_memory : Memory ℕ
+  old_memory = two_sided words buffers
+
+  -- the words stay, and the buffer too
+  same_words : (i : ℕ) (b : List (BufferEntry ℕ)) → buffers p ≡ b → SameMemory (two_sided words buffers) (two_sided (set words i (get_or words i 0)) (put buffers p b))
+  same_words i b same = record {
+    cached = λ r. ap (λ (ws : List ℕ). get_or ws (8 * r) 0) (set-get_or words i 0);
+    persisted = λ r. ap (λ (ws : List ℕ). get_or ws (8 * r + 1) 0) (set-get_or words i 0);
+    buffer = put_same buffers p b same;
+  }
+
+  -- a cached side becomes the value
+  stores : (n v : ℕ) (b : List (BufferEntry ℕ)) → 8 * n + 1 < length words → buffers p ≡ b → StoresAt n v (two_sided words buffers) (two_sided (set words (8 * n) v) (put buffers p b))
+  stores n v b there same = record {
+    there = get_or-set_same words (8 * n) v 0 (omega arith);
+    elsewhere = λ r ne. get_or-set_other words (8 * n) (8 * r) v 0 (λ e. ne (omega arith));
+    persisted = λ r. get_or-set_other words (8 * n) (8 * r + 1) v 0 (λ e. omega arith);
+    buffer = put_same buffers p b same;
+  }
+
+  swaps : (n o v : ℕ) (b : List (BufferEntry ℕ)) → 8 * n + 1 < length words → buffers p ≡ b
+      → SwapsAt n o v (get_or words (8 * n) 0) (two_sided words buffers) (two_sided (set words (8 * n) (either (eqb (get_or words (8 * n) 0) o) v (get_or words (8 * n) 0))) (put buffers p b))
+  swaps n o v b there same = (
+    refl,
+    dite (ℕ_discrete (get_or words (8 * n) 0) o)
+        (λ e. inl (e, subst (λ (t : Bool). StoresAt n v (two_sided words buffers) (two_sided (set words (8 * n) (either t v (get_or words (8 * n) 0))) (put buffers p b))) (sym (eq-eqb (get_or words (8 * n) 0) o e)) (stores n v b there same)))
+        (λ ne. inr (ne, subst (λ (t : Bool). SameMemory (two_sided words buffers) (two_sided (set words (8 * n) (either t v (get_or words (8 * n) 0))) (put buffers p b))) (sym (ne_eqb (get_or words (8 * n) 0) o ne)) (same_words (8 * n) b same))),
+  )
+
+  pub performs : (a : Access ℕ) (b : List (BufferEntry ℕ)) → buffers p ≡ b → IsThere words a b → Performs classes a p (two_sided words buffers) (new_memory a b) (answer a (now a b))
+  performs Nothing b same there = (refl, same_words 0 b same)
+  performs (Load n) b same there = (refl, same_words (8 * n) b same)
+  performs (Store n v) b same there = (refl, stores n v b there same)
+  performs (Or n k) b same there = (refl, stores n (bit_or (get_or words (8 * n) 0) k) b there same)
+  performs (SwapIf n o v) b same there = swaps n o v b there same
+  performs (Flush n) b same there = (
+    refl,
+    record {
+      cached = λ r. ap (λ (ws : List ℕ). get_or ws (8 * r) 0) (set-get_or words (8 * n) 0);
+      persisted = λ r. ap (λ (ws : List ℕ). get_or ws (8 * r + 1) 0) (set-get_or words (8 * n) 0);
+      mine = put_here buffers p _ p refl ∙ ap (λ (l : List (BufferEntry ℕ)). l ++ (let x : BufferEntry ℕ = record { place = n; class = classes n; value = get_or words (8 * n) 0 } in x) ∷ []) (sym same);
+      others = λ q ne. put_else buffers p _ q ne;
+    },
+  )
+  performs Back [] same there = absurd there
+  performs Back (x ∷ b) same there = (
+    refl,
+    (
+      x,
+      b,
+      record {
+        oldest = same;
+        cached = λ r. get_or-set_other words (8 * x.place + 1) (8 * r) _ 0 (λ e. omega arith);
+        there = get_or-set_same words (8 * x.place + 1) _ 0 there;
+        elsewhere = λ r ne. get_or-set_other words (8 * x.place + 1) (8 * r + 1) _ 0 (λ e. ne (omega arith));
+        mine = put_here buffers p b p refl;
+        others = λ q ne. put_else buffers p b q ne;
+      },
+    ),
+  )

@@ -1,0 +1,86 @@
+-- The words of a structure on a table: word n is the table's words 8n, its cached side, and 8n + 1, its persisted side.
+-- What lies between serves nothing: so two words are 64 bytes apart, and no two share a line of a cache.
+use Rattle.std.specs.Prelude.{ℕ, ◌+◌, ◌*◌, ◌<◌, ◌==◌, bit_or, List, [], ◌∷◌, ◌++◌, length, slice_index, Option, Some, None}
+use prog.Atomic.{either}
+use Rattle.ds_words.specs.declared.access.Class.{Class}
+use Rattle.ds_words.specs.declared.access.Class.TheVariants.{Stamped, Bit, Owned}
+use Rattle.ds_words.specs.declared.access.BufferEntry.{BufferEntry}
+use Rattle.ds_words.specs.declared.access.Access.{Access}
+use Rattle.ds_words.specs.declared.access.Access.TheVariants.{Nothing, Load, Store, Or, SwapIf, Flush, Back}
+use Rattle.ds_words.specs.declared.words.TheConstants.{BUFFER_ENTRIES}
+use Rattle.ds_words.specs.Memory.{Memory, newer}
+
+-- the table's words as a memory, with these buffers
+abbrev pub two_sided : List ℕ → (ℕ → List (BufferEntry ℕ)) → Memory ℕ
+two_sided words buffer = record {
+  cached = λ n. slice_index words (8 * n);
+  persisted = λ n. slice_index words (8 * n + 1);
+  buffer = buffer;
+}
+
+-- the oldest entry of a buffer
+abbrev pub oldest_of : List (BufferEntry ℕ) → Option (BufferEntry ℕ)
+oldest_of [] = None
+oldest_of (x ∷ rest) = Some x
+
+-- the buffer without it
+abbrev pub rest_of : List (BufferEntry ℕ) → List (BufferEntry ℕ)
+rest_of [] = []
+rest_of (x ∷ rest) = rest
+
+-- the table's word that an access takes, with this oldest entry
+abbrev pub word_of : Access ℕ → Option (BufferEntry ℕ) → ℕ
+word_of Nothing oldest = 0
+word_of (Load n) oldest = 8 * n
+word_of (Store n value) oldest = 8 * n
+word_of (Or n bits) oldest = 8 * n
+word_of (SwapIf n expected value) oldest = 8 * n
+word_of (Flush n) oldest = 8 * n
+word_of Back None = 0
+word_of Back (Some x) = 8 * x.place + 1
+
+-- what it makes of that word
+abbrev pub change : Access ℕ → Option (BufferEntry ℕ) → ℕ → ℕ
+change Nothing oldest found = found
+change (Load n) oldest found = found
+change (Store n value) oldest found = value
+change (Or n bits) oldest found = bit_or found bits
+change (SwapIf n expected value) oldest found = either (found == expected) value found
+change (Flush n) oldest found = found
+change Back None found = found
+change Back (Some x) found = newer x.class found x.value
+
+-- what it answers
+abbrev pub answer : Access ℕ → ℕ → ℕ
+answer (Load n) found = found
+answer (SwapIf n expected value) found = found
+answer _ found = 0
+
+-- what the table is of its step: the number found, or, where it stores, the number stored
+abbrev pub told_back : Class → ℕ → ℕ → ℕ
+told_back Stamped found value = found
+told_back Bit found value = found
+told_back Owned found value = value
+
+-- what a call of the table is of an access, with the oldest entry of the buffer, where the word is this
+abbrev pub told : Access ℕ → Option (BufferEntry ℕ) → ℕ → ℕ
+told (Store n value) oldest found = value
+told Back None found = found
+told Back (Some x) found = told_back x.class found x.value
+told _ oldest found = found
+
+-- the word that an access flushes, or 0
+abbrev pub word_flushed : Access ℕ → ℕ
+word_flushed (Flush n) = n
+word_flushed _ = 0
+
+-- the buffer after it
+abbrev pub buffer_after : (ℕ → Class) → Access ℕ → List (BufferEntry ℕ) → ℕ → List (BufferEntry ℕ)
+buffer_after class_of (Flush n) buffer found = buffer ++ record { place = n; class = class_of n; value = found } ∷ []
+buffer_after class_of Back buffer found = rest_of buffer
+buffer_after class_of _ buffer found = buffer
+
+-- a flush finds room
+abbrev pub HasRoom : Access ℕ → List (BufferEntry ℕ) → Type 0
+HasRoom (Flush n) buffer = length buffer < BUFFER_ENTRIES
+HasRoom _ buffer = Unit {0}

@@ -1,0 +1,125 @@
+//! One access is one step on the table.
+
+ghost use Rattle.std.specs.Prelude.{◌≡◌, ◌+◌, ◌*◌, ◌<◌, ◌^◌, ℕ, length};
+ghost use Rattle.atomic_table.specs.Table.{Allows};
+ghost use Rattle.ds_words.specs.declared.words.TheConstants.{BUFFER_ENTRIES};
+ghost use Rattle.pm_board.specs.Rule.{Ruled};
+ghost use Rattle.pm_board.specs.Starts.{start_of};
+ghost use Rattle.pm_board.specs.Table.{oldest_of, rest_of, word_of, change, told, answer, buffer_after, word_flushed, HasRoom};
+
+use crate::board::{Fixed, Landing, Lands, Law, Place, View};
+use arrayvec::ArrayVec;
+use atomic_table::Shared;
+use ds_words::access::{Access, BufferEntry, Class};
+use ds_words::words::BUFFER_ENTRIES;
+use pm_base::machine::Structured;
+
+/// What a process has flushed and not written back.
+pub(crate) type Buffer = ArrayVec<BufferEntry<usize>, BUFFER_ENTRIES>;
+
+/// The oldest entry.
+#[inline(always)]
+pub(crate) fn oldest(buffer: &Buffer) -> Option<BufferEntry<usize>>
+    ensures { result ≡ oldest_of buffer.now.items }
+{
+    if buffer.is_empty() {
+        None
+    } else {
+        Some(buffer[0])
+    }
+}
+
+/// The word that an access flushes, or 0.
+#[inline(always)]
+pub(crate) fn flushed(access: Access<usize>) -> usize
+    ensures { result ≡ word_flushed access }
+{
+    match access {
+        Access::Flush(word) => word,
+        _ => 0,
+    }
+}
+
+/// Makes the access on the table, and answers what its step tells. The key, the call, whether it has begun and the buffer
+/// say to the proof whose step it is.
+#[inline(always)]
+pub(crate) fn access<P: Structured, J: Landing<P::Doing, P::Told>, M>(
+    shared: &Shared<u8, View<P::Doing, P::Told>, Fixed<P::Key, P::Doing, P::Told>, Law<P>>,
+    seat: &mut Place<P::Doing, P::Told>,
+    key: &P::Key,
+    call: &M,
+    begun: bool,
+    buffer: &Buffer,
+    want: Access<usize>,
+    oldest: Option<BufferEntry<usize>>,
+) -> u64
+    requires table { seat.old.table_id ≡ shared.now.table_id }
+    requires within { (word_of want oldest < shared.now.table_id.words) × (shared.now.table_id.words < 2 ^ 32) }
+    requires step { Allows (Ruled P.structure shared.now.key.own (start_of shared.now.key)) shared.now.table_id.slots seat.old.id seat.old.me (word_of want oldest) (change want oldest) (λ n m'. (m'.1 ≡ seat.old.me.1) × J.lands (told want oldest n) m'.0) }
+    ensures seat { (seat.new.table_id ≡ seat.old.table_id) × (seat.new.id ≡ seat.old.id) }
+    ensures landed { (seat.new.me.1 ≡ seat.old.me.1) × J.lands result seat.new.me.0 }
+{
+    let (_key, _call, _begun, _buffer) = (key, call, begun, buffer);
+    match want {
+        Access::Nothing => shared.load::<Lands<J>>(seat, 0),
+        Access::Load(word) => shared.load::<Lands<J>>(seat, 8 * word),
+        Access::Store(word, value) => {
+            shared.store::<Lands<J>>(seat, 8 * word, value);
+            value
+        }
+        Access::Or(word, bits) => shared.fetch_or::<Lands<J>>(seat, 8 * word, bits),
+        Access::SwapIf {
+            place: word,
+            expected,
+            value,
+        } => { shared.compare_exchange::<Lands<J>>(seat, 8 * word, expected, value) }
+        Access::Flush(word) => shared.load::<Lands<J>>(seat, 8 * word),
+        Access::Back => match oldest {
+            None => shared.load::<Lands<J>>(seat, 0),
+            Some(entry) => {
+                let word = 8 * entry.place + 1;
+                match entry.class {
+                    Class::Stamped => shared.fetch_max::<Lands<J>>(seat, word, entry.value),
+                    Class::Bit => shared.fetch_or::<Lands<J>>(seat, word, entry.value),
+                    Class::Owned => {
+                        shared.store::<Lands<J>>(seat, word, entry.value);
+                        entry.value
+                    }
+                }
+            }
+        },
+    }
+}
+
+/// What the access answers, where its step found this number.
+#[inline(always)]
+pub(crate) fn answer(want: Access<usize>, found: u64) -> u64
+    ensures { result ≡ answer want found }
+{
+    match want {
+        Access::Load(_) | Access::SwapIf { .. } => found,
+        Access::Nothing | Access::Store(_, _) | Access::Or(_, _) => 0,
+        Access::Flush(_) | Access::Back => 0,
+    }
+}
+
+/// The buffer after an access whose step found this number, where a word that it flushes is of this class.
+#[inline(always)]
+pub(crate) fn keep(buffer: &mut Buffer, class: Class, want: Access<usize>, found: u64)
+    requires room { HasRoom want buffer.old.items }
+    ensures { buffer.new.items ≡ buffer_after (λ n. class) want buffer.old.items found }
+{
+    match want {
+        Access::Flush(word) => buffer.push(BufferEntry {
+            place: word,
+            class,
+            value: found,
+        }),
+        Access::Back => {
+            if !buffer.is_empty() {
+                let _entry = buffer.remove(0);
+            }
+        }
+        _ => {}
+    }
+}

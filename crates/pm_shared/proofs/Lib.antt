@@ -1,0 +1,4 @@
+pub mod Sitting
+pub mod Writing
+pub mod Raised
+pub mod Linearized

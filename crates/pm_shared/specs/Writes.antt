@@ -1,0 +1,39 @@
+-- Where a write or a recovery of a register has come.
+use Rattle.std.specs.Prelude.{ℕ, ◌≡◌, ◌≤◌, ◌∷◌}
+use Rattle.atomic_table.specs.Table.{Me}
+use Rattle.pm_base.specs.declared.history.Deed.TheVariants as deed
+use Rattle.pm_board.specs.declared.board.View.{View}
+use Rattle.pm_board.specs.Machines.{Grows}
+use Rattle.pm_board.specs.Views.{deeds_at}
+use Rattle.pm_registers.specs.Runs.{first_write}
+use Rattle.pm_registers.specs.declared.calls.RecoverCall.{RecoverCall}
+use Rattle.pm_registers.specs.declared.calls.RecoverStage.TheVariants as recover
+use Rattle.pm_registers.specs.declared.calls.Doing.{Doing}
+use Rattle.pm_registers.specs.declared.calls.Doing.TheVariants.{Idle, Writing, Recovering}
+use Rattle.pm_registers.specs.declared.calls.Told.{Told}
+use Rattle.pm_registers.specs.declared.calls.Told.TheVariants.{Wrote, Recalled}
+use Rattle.pm_board.specs.Views.{Sits}
+
+-- a recovery before its first step
+abbrev pub first_recovery : ℕ → RecoverCall
+first_recovery process = record { process = process; stage = recover.LoadAnnounce }
+
+-- the process began the write, and was answered that it is done, after n steps, at most 7; it did nothing else, and all this
+-- stands in the history that it has seen since
+pub record IsWritten (old new : Me ℕ (View Doing Told)) (process value n : ℕ) : Type 0 where
+  pub sits : Sits new process (Idle value)
+  pub done : (deeds_at new).done ≡ deed.Told (Wrote value) ∷ deed.Began (Writing (first_write process value)) ∷ (deeds_at old).done
+  pub grows : Grows process (deeds_at old) (deeds_at new) n
+  pub few : n ≤ 7
+
+-- the value of which a recovery tells
+abbrev pub last_of : Told → ℕ
+last_of (Wrote v) = v
+last_of (Recalled v had) = v
+
+-- the process began a recovery, and was answered this, after n steps, at most 6; it did nothing else
+pub record IsRecovered (old new : Me ℕ (View Doing Told)) (process : ℕ) (told : Told) (n : ℕ) : Type 0 where
+  pub sits : Sits new process (Idle (last_of told))
+  pub done : (deeds_at new).done ≡ deed.Told told ∷ deed.Began (Recovering (first_recovery process)) ∷ (deeds_at old).done
+  pub grows : Grows process (deeds_at old) (deeds_at new) n
+  pub few : n ≤ 6

@@ -1,0 +1,14 @@
+pub mod Numbers
+pub mod Logs
+pub mod Sides
+pub mod Sound
+pub mod Later
+pub mod Moves
+pub mod Acts
+pub mod Enqueues
+pub mod Recoveries
+pub mod Dequeues
+pub mod Structure
+pub mod Fits
+pub mod Runs
+pub mod Effects

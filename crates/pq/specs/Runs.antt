@@ -1,0 +1,142 @@
+-- What is so of every run of a queue.
+use Rattle.std.specs.Prelude.{ℕ, zero, suc, ◌++◌, ◌≡◌, ◌≢◌, ◌⊎◌, ◌<◌, ◌≤◌, List, [], ◌∷◌}
+use Rattle.pm_base.specs.Structures.{In, World}
+use Rattle.pm_base.specs.Runs.{Happened, Run, IsNew, deeds_by, history_of}
+use Rattle.pm_base.specs.declared.history.Deed.TheVariants as deed
+use Rattle.pq.specs.Places.{Belongs, next_at, taker_at, value_at}
+use Rattle.pq.specs.History.{Log, History}
+use Rattle.pq.specs.Queue.{queue}
+use Rattle.pm_base.specs.declared.history.Event.TheVariants.{Step}
+use Rattle.pq.specs.declared.dequeue.Dequeue.{Dequeue}
+use Rattle.pq.specs.declared.enqueue.Enqueue.{Enqueue}
+use Rattle.pq.specs.declared.calls.Doing.{Doing}
+use Rattle.pq.specs.declared.calls.Doing.TheVariants.{Enqueueing, Dequeueing, Torn}
+use Rattle.pq.specs.declared.calls.Told.{Told}
+use Rattle.pq.specs.declared.calls.Told.TheVariants.{Enqueued, Got, Empty, WasEnqueued, NotEnqueued, NotDequeued}
+
+-- the operation is the k-th of the log, counted from 1
+pub record IsAt (log : Log) (k i : ℕ) : Type 0 where
+  pub first : 0 < k
+  pub last : k ≤ log.count
+  pub is : log.at k ≡ i
+
+-- the operation has no place in the log
+abbrev pub IsNotIn : Log → ℕ → Type 0
+IsNotIn log i = (k : ℕ) → IsAt log k i → ⊥
+
+-- what a process was answered is true of the history: an enqueue is one of those that took effect, with its value; the k-th
+-- dequeue took the value of the k-th enqueue; a dequeue that found the queue empty took nothing; and recovery says the
+-- same of each
+abbrev pub IsTrueOf : History → Told → Type 0
+IsTrueOf h (Enqueued i x) = (k : ℕ) × IsAt h.links k i × (h.value i ≡ x)
+IsTrueOf h (Got i x) = (k : ℕ) × IsAt h.claims k i × (k ≤ h.links.count) × (h.value (h.links.at k) ≡ x)
+IsTrueOf h (Empty i) = IsNotIn h.claims i × In h.empty i
+IsTrueOf h (WasEnqueued i) = (k : ℕ) × IsAt h.links k i
+IsTrueOf h (NotEnqueued i) = IsNotIn h.links i
+IsTrueOf h (NotDequeued i) = IsNotIn h.claims i
+
+-- the values of the first k enqueues, in order
+abbrev pub values : History → ℕ → List ℕ
+values h zero = []
+values h (suc k) = values h k ++ h.value (h.links.at (suc k)) ∷ []
+
+-- the values that were put in, in order
+abbrev pub enqueued : History → List ℕ
+enqueued h = values h h.links.count
+
+-- those of them that were taken
+abbrev pub dequeued : History → List ℕ
+dequeued h = values h h.claims.count
+
+-- no operation takes effect twice, and the values that were taken are the first of those that were put in
+pub record IsOrder (h : History) : Type 0 where
+  pub enqueued_once : (j k i : ℕ) → IsAt h.links j i → IsAt h.links k i → j ≡ k
+  pub dequeued_once : (j k i : ℕ) → IsAt h.claims j i → IsAt h.claims k i → j ≡ k
+  pub fewer : h.claims.count ≤ h.links.count
+  pub first_out : (rest : List ℕ) × (enqueued h ≡ dequeued h ++ rest)
+
+-- the words hold the queue of the history: a walk from the sentinel meets the enqueues in order, each with its value,
+-- and the dequeues that took them
+pub record IsHeld (w : World Doing History) : Type 0 where
+  pub next : (k : ℕ) → k < w.hidden.links.count → w.memory.cached (next_at (w.hidden.links.at k)) ≡ w.hidden.links.at (suc k)
+  pub end : w.memory.cached (next_at (w.hidden.links.at w.hidden.links.count)) ≡ 0
+  pub value : (k : ℕ) → k < w.hidden.links.count → w.memory.cached (value_at (w.hidden.links.at (suc k))) ≡ w.hidden.value (w.hidden.links.at (suc k))
+  pub taker : (k : ℕ) → k < w.hidden.claims.count → w.memory.cached (taker_at (w.hidden.links.at (suc k))) ≡ w.hidden.claims.at (suc k)
+
+module _ (n : ℕ) where
+  -- the process was answered this on the run
+  abbrev pub WasTold : List (Happened queue n) → ℕ → Told → Type 0
+  WasTold hs p t = In (deeds_by p (history_of queue n hs)) (deed.Told t)
+
+  -- whatever happens to a new queue of n processes: it is a queue, and what was answered is true of it from then on
+  abbrev pub RunsTellTheTruth : Type 0
+  RunsTellTheTruth = (first last : World Doing History) (hs : List (Happened queue n)) → IsNew queue n first → Run queue n first hs last
+      → IsOrder last.hidden × IsHeld last × ((p : ℕ) (t : Told) → WasTold hs p t → IsTrueOf last.hidden t)
+
+  -- an operation whose effect was answered keeps its place, whatever happens then
+  abbrev pub PlacesStay : Type 0
+  PlacesStay = (first mid last : World Doing History) (before after : List (Happened queue n)) → IsNew queue n first → Run queue n first before mid → Run queue n mid after last
+      → ((p k i x : ℕ) → WasTold before p (Enqueued i x) → IsAt mid.hidden.links k i → IsAt last.hidden.links k i) × ((p k i x : ℕ) → WasTold before p (Got i x) → IsAt mid.hidden.claims k i → IsAt last.hidden.claims k i)
+
+  -- the process was in this dequeue, and all that was put in was taken
+  abbrev pub IsEmptyMoment : World Doing History → ℕ → ℕ → Type 0
+  IsEmptyMoment w p i = (c : Dequeue) × (w.situation p ≡ Dequeueing c) × (c.operation ≡ i) × (w.hidden.claims.count ≡ w.hidden.links.count)
+
+  -- that was so at an event of the run
+  abbrev pub WasEmpty : ℕ → ℕ → List (Happened queue n) → Type 0
+  WasEmpty p i [] = ⊥
+  WasEmpty p i (h ∷ hs) = IsEmptyMoment h.before p i ⊎ WasEmpty p i hs
+
+  -- a dequeue that is answered that the queue was empty ran at a moment at which it was
+  abbrev pub EmptyWasSo : Type 0
+  EmptyWasSo = (first last : World Doing History) (hs : List (Happened queue n)) (p i : ℕ) → IsNew queue n first → Run queue n first hs last → WasTold hs p (Empty i) → WasEmpty p i hs
+
+  -- no call is torn: each ends with an answer, unless its process is stopped
+  abbrev pub NoneIsTorn : Type 0
+  NoneIsTorn = (first last : World Doing History) (hs : List (Happened queue n)) (p : ℕ) → p < n → IsNew queue n first → Run queue n first hs last → last.situation p ≢ Torn
+
+  -- what a process is answered of one operation on a run agrees, whoever answers: the call, or a recovery after any crash
+  pub record IsAgreed (hs : List (Happened queue n)) (p i : ℕ) : Type 0 where
+    pub one_value : (x y : ℕ) → WasTold hs p (Got i x) → WasTold hs p (Got i y) → x ≡ y
+    pub one_input : (x y : ℕ) → WasTold hs p (Enqueued i x) → WasTold hs p (Enqueued i y) → x ≡ y
+    pub got_or_empty : (x : ℕ) → WasTold hs p (Got i x) → WasTold hs p (Empty i) → ⊥
+    pub got_or_not : (x : ℕ) → WasTold hs p (Got i x) → WasTold hs p (NotDequeued i) → ⊥
+    pub empty_or_not : WasTold hs p (Empty i) → WasTold hs p (NotDequeued i) → ⊥
+    pub enqueued_or_not : (x : ℕ) → WasTold hs p (Enqueued i x) → WasTold hs p (NotEnqueued i) → ⊥
+    pub was_or_not : WasTold hs p (WasEnqueued i) → WasTold hs p (NotEnqueued i) → ⊥
+
+  -- so it is with each operation on every run from a new queue
+  abbrev pub AnswersAgree : Type 0
+  AnswersAgree = (first last : World Doing History) (hs : List (Happened queue n)) (p i : ℕ) → IsNew queue n first → Run queue n first hs last → IsAgreed hs p i
+
+  -- the event is a step of the process in this enqueue, of this value, which had no effect before
+  pub record LinksAt (h : Happened queue n) (p i x : ℕ) : Type 0 where
+    pub steps : h.entry.event ≡ Step p
+    pub call : Enqueue
+    pub runs : h.before.situation p ≡ Enqueueing call
+    pub is : call.operation ≡ i
+    pub value : call.value ≡ x
+    pub new : IsNotIn h.before.hidden.links i
+
+  -- the event is a step of the process in this dequeue, which had no effect before
+  pub record ClaimsAt (h : Happened queue n) (p i : ℕ) : Type 0 where
+    pub steps : h.entry.event ≡ Step p
+    pub call : Dequeue
+    pub runs : h.before.situation p ≡ Dequeueing call
+    pub is : call.operation ≡ i
+    pub new : IsNotIn h.before.hidden.claims i
+
+  -- an event of the run is such a step
+  abbrev pub WasLinked : ℕ → ℕ → ℕ → List (Happened queue n) → Type 0
+  WasLinked p i x [] = ⊥
+  WasLinked p i x (h ∷ hs) = LinksAt h p i x ⊎ WasLinked p i x hs
+
+  -- an event of the run is such a step
+  abbrev pub WasClaimed : ℕ → ℕ → List (Happened queue n) → Type 0
+  WasClaimed p i [] = ⊥
+  WasClaimed p i (h ∷ hs) = ClaimsAt h p i ⊎ WasClaimed p i hs
+
+  -- each operation that has a place took effect at a step of its own call: its linearization point
+  abbrev pub EffectsInCalls : Type 0
+  EffectsInCalls = (first last : World Doing History) (hs : List (Happened queue n)) (p i : ℕ) → IsNew queue n first → Run queue n first hs last → Belongs p i
+      → ((k : ℕ) → IsAt last.hidden.links k i → WasLinked p i (last.hidden.value i) hs) × ((k : ℕ) → IsAt last.hidden.claims k i → WasClaimed p i hs)

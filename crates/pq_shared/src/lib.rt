@@ -1,0 +1,5 @@
+//! A detectable queue on words that threads share.
+#![tactic(auto)]
+
+pub mod calls;
+pub mod laws;

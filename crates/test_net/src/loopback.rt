@@ -1,0 +1,195 @@
+//! Clients of a server of two columns, two rows and two processes: what they are answered, and the sheet at the end.
+
+ghost use Rattle.std.specs.Prelude.{◌≡◌, IfOk};
+
+use crate::serving::{Clients, End, Served, serve_locked, serve_shared};
+use ds_formula::cells::Shape;
+use ds_layout::layout::Layout;
+use ds_state::world::World;
+use std::alloc::{AllocError, Global};
+use std::marker::Brand;
+use std::sync::ledger::Blank;
+use std::test::Fail;
+
+const SHAPE: Shape = Shape {
+    columns: 2,
+    rows: 2,
+};
+
+const LAYOUT: Layout = Layout {
+    shape: SHAPE,
+    processes: 2,
+};
+
+fn world(alloc: Global) -> Result<World, AllocError>
+    ensures { IfOk result (λ w. w.sheet.layout.processes ≡ 2) }
+{
+    World::new(alloc, SHAPE, 2)
+}
+
+// The answers are these, and the sheet is closed with what acts for each process. Of one behind a lock: no pass keeps
+// other values than it, and n edits were done.
+fn is_right(served: &Served, answers: &str, done: u64) -> bool {
+    let is_closed = match &served.end {
+        End::Locked(closed) => closed.world.done == done && closed.stray.is_none(),
+        End::Shared(_) => true,
+        End::Lost => false,
+    };
+    is_closed && served.answers.as_slice() == answers.as_bytes()
+}
+
+// What clients say, one after another, with that number of workers; what they are answered; and how many edits are
+// done.
+#[derive(Clone, Copy)]
+struct LoopbackRow {
+    workers: usize,
+    clients: Clients,
+    answers: &'static str,
+    done: u64,
+}
+
+const FIRST: &[u8] =
+    b"{\"op\":\"join\",\"process\":0}\n{\"op\":\"set\",\"cell\":\"A1\",\"text\":\"=1+2\"}\n{\"op\":\"report\"}\n{\"op\":\"last\"}\n";
+
+const FIRST_ANSWERS: &str =
+    "{\"last\":null,\"ok\":\"join\",\"process\":0}\n{\"number\":0,\"ok\":\"done\"}\n{\"ok\":\"settled\",\"rows\":[[\"3\",\"\"],[\"\",\"\"]]}\n{\"last\":{\"cell\":\"A1\",\"number\":0,\"outcome\":\"done\"},\"ok\":\"last\"}\n";
+
+// A fast client asks for the slow one's process, which is taken; then it gives a cell the numbers from 1 to 20.
+const FAST: &[u8] =
+    b"{\"op\":\"join\",\"process\":1}\n{\"op\":\"join\",\"process\":0}\n{\"op\":\"set\",\"cell\":\"A1\",\"text\":\"1\"}\n{\"op\":\"set\",\"cell\":\"A1\",\"text\":\"2\"}\n{\"op\":\"set\",\"cell\":\"A1\",\"text\":\"3\"}\n{\"op\":\"set\",\"cell\":\"A1\",\"text\":\"4\"}\n{\"op\":\"set\",\"cell\":\"A1\",\"text\":\"5\"}\n{\"op\":\"set\",\"cell\":\"A1\",\"text\":\"6\"}\n{\"op\":\"set\",\"cell\":\"A1\",\"text\":\"7\"}\n{\"op\":\"set\",\"cell\":\"A1\",\"text\":\"8\"}\n{\"op\":\"set\",\"cell\":\"A1\",\"text\":\"9\"}\n{\"op\":\"set\",\"cell\":\"A1\",\"text\":\"10\"}\n{\"op\":\"set\",\"cell\":\"A1\",\"text\":\"11\"}\n{\"op\":\"set\",\"cell\":\"A1\",\"text\":\"12\"}\n{\"op\":\"set\",\"cell\":\"A1\",\"text\":\"13\"}\n{\"op\":\"set\",\"cell\":\"A1\",\"text\":\"14\"}\n{\"op\":\"set\",\"cell\":\"A1\",\"text\":\"15\"}\n{\"op\":\"set\",\"cell\":\"A1\",\"text\":\"16\"}\n{\"op\":\"set\",\"cell\":\"A1\",\"text\":\"17\"}\n{\"op\":\"set\",\"cell\":\"A1\",\"text\":\"18\"}\n{\"op\":\"set\",\"cell\":\"A1\",\"text\":\"19\"}\n{\"op\":\"set\",\"cell\":\"A1\",\"text\":\"20\"}\n";
+
+const FAST_ANSWERS: &str =
+    "{\"last\":null,\"ok\":\"join\",\"process\":1}\n{\"code\":4,\"error\":\"process-taken\"}\n{\"last\":null,\"ok\":\"join\",\"process\":0}\n{\"number\":0,\"ok\":\"done\"}\n{\"number\":1,\"ok\":\"done\"}\n{\"number\":2,\"ok\":\"done\"}\n{\"number\":3,\"ok\":\"done\"}\n{\"number\":4,\"ok\":\"done\"}\n{\"number\":5,\"ok\":\"done\"}\n{\"number\":6,\"ok\":\"done\"}\n{\"number\":7,\"ok\":\"done\"}\n{\"number\":8,\"ok\":\"done\"}\n{\"number\":9,\"ok\":\"done\"}\n{\"number\":10,\"ok\":\"done\"}\n{\"number\":11,\"ok\":\"done\"}\n{\"number\":12,\"ok\":\"done\"}\n{\"number\":13,\"ok\":\"done\"}\n{\"number\":14,\"ok\":\"done\"}\n{\"number\":15,\"ok\":\"done\"}\n{\"number\":16,\"ok\":\"done\"}\n{\"number\":17,\"ok\":\"done\"}\n{\"number\":18,\"ok\":\"done\"}\n{\"number\":19,\"ok\":\"done\"}\n{\"number\":0,\"ok\":\"done\"}\n{\"ok\":\"settled\",\"rows\":[[\"20\",\"21\"],[\"\",\"\"]]}\n";
+
+const ROWS: [LoopbackRow; 6] = [
+    LoopbackRow {
+        workers: 0,
+        clients: Clients::Each(&[FIRST]),
+        answers: FIRST_ANSWERS,
+        done: 1,
+    },
+    // A worker has process 1.
+    LoopbackRow {
+        workers: 1,
+        clients: Clients::Each(&[
+            b"{\"op\":\"join\",\"process\":1}\n{\"op\":\"join\",\"process\":2}\n{\"op\":\"report\"}\n",
+            b"{\"op\":\"join\",\"process\":0}\n{\"op\":\"join\",\"process\":0}\n",
+        ]),
+        answers: "{\"code\":4,\"error\":\"process-taken\"}\n{\"code\":3,\"error\":\"bad-field\"}\n{\"code\":6,\"error\":\"not-joined\"}\n{\"last\":null,\"ok\":\"join\",\"process\":0}\n{\"code\":7,\"error\":\"already-joined\"}\n",
+        done: 0,
+    },
+    // The first client goes in mid-line; its process is free again, and says what it has done.
+    LoopbackRow {
+        workers: 0,
+        clients: Clients::Each(&[
+            b"{\"op\":\"join\",\"process\":0}\n{\"op\":\"set\",\"cell\":\"B2\",\"text\":\"7\"}\n{\"op\":\"set\",\"cell\":\"A1\",\"te",
+            b"{\"op\":\"join\",\"process\":0}\n{\"op\":\"report\"}\n",
+        ]),
+        answers: "{\"last\":null,\"ok\":\"join\",\"process\":0}\n{\"number\":0,\"ok\":\"done\"}\n{\"last\":{\"cell\":\"B2\",\"number\":0,\"outcome\":\"done\"},\"ok\":\"join\",\"process\":0}\n{\"ok\":\"settled\",\"rows\":[[\"\",\"\"],[\"\",\"7\"]]}\n",
+        done: 1,
+    },
+    // Nothing is said, and then nothing that is JSON.
+    LoopbackRow {
+        workers: 0,
+        clients: Clients::Each(&[b"", b"\n{\n\xff\n[]\n"]),
+        answers: "{\"code\":1,\"error\":\"not-json\"}\n{\"code\":1,\"error\":\"not-json\"}\n{\"code\":1,\"error\":\"not-json\"}\n{\"code\":3,\"error\":\"bad-field\"}\n",
+        done: 0,
+    },
+    // While the slow client waits, the fast one makes twenty edits and ends.
+    LoopbackRow {
+        workers: 0,
+        clients: Clients::Beside {
+            first: b"{\"op\":\"join\",\"process\":1}\n",
+            fast: FAST,
+            rest: b"{\"op\":\"set\",\"cell\":\"B1\",\"text\":\"=[.A1]+1\"}\n{\"op\":\"report\"}\n",
+        },
+        answers: FAST_ANSWERS,
+        done: 21,
+    },
+    // The first client reads nothing but the answer to its join. Its process is free again, and its edit stands.
+    LoopbackRow {
+        workers: 0,
+        clients: Clients::Unread {
+            lines: b"{\"op\":\"set\",\"cell\":\"B2\",\"text\":\"7\"}\n{\"op\":\"report\"}\n",
+            join: b"{\"op\":\"join\",\"process\":0}\n",
+            rest: b"{\"op\":\"report\"}\n",
+        },
+        answers: "{\"last\":{\"cell\":\"B2\",\"number\":0,\"outcome\":\"done\"},\"ok\":\"join\",\"process\":0}\n{\"ok\":\"settled\",\"rows\":[[\"\",\"\"],[\"\",\"7\"]]}\n",
+        done: 1,
+    },
+];
+
+#[test]
+fn serve_loopback(rt: HostRuntime) -> Result<(), Fail> {
+    let alloc = rt.alloc();
+    for row in ROWS {
+        let world = world(alloc)?;
+        let served = serve_locked::<Brand, Brand, _>(
+            &rt,
+            alloc,
+            world,
+            Blank::new(2),
+            Blank::new(2),
+            row.workers,
+            row.clients,
+        )?;
+        let got = str::from_utf8(served.answers.as_slice()).unwrap_or("?");
+        assert!(rt; is_right(&served, row.answers, row.done), "{got}");
+    }
+    Ok(())
+}
+
+// All that sessions over the lock say, they say over the sheet that threads share.
+#[test]
+fn serve_shared_loopback(rt: HostRuntime) -> Result<(), Fail> {
+    let alloc = rt.alloc();
+    for row in ROWS {
+        let served = serve_shared(&rt, alloc, LAYOUT, row.workers, row.clients)?;
+        let got = str::from_utf8(served.answers.as_slice()).unwrap_or("?");
+        assert!(rt; is_right(&served, row.answers, row.done), "{got}");
+    }
+    Ok(())
+}
+
+// One of many clients, which makes one edit.
+const ONE: &[u8] =
+    b"{\"op\":\"join\",\"process\":0}\n{\"op\":\"set\",\"cell\":\"A1\",\"text\":\"1\"}\n";
+
+const MANY: [&[u8]; 200] = [ONE; 200];
+
+// 200 clients one after another, each with an edit: all of them are done.
+#[test]
+fn two_hundred_clients(rt: HostRuntime) -> Result<(), Fail> {
+    let alloc = rt.alloc();
+    let world = world(alloc)?;
+    let served = serve_locked::<Brand, Brand, _>(
+        &rt,
+        alloc,
+        world,
+        Blank::new(2),
+        Blank::new(2),
+        1,
+        Clients::Each(&MANY),
+    )?;
+    let is_done = match &served.end {
+        End::Locked(closed) => closed.world.done == 200 && closed.stray.is_none(),
+        _ => false,
+    };
+    assert!(rt; is_done);
+    Ok(())
+}
+
+// The same clients of a sheet that threads share: the last one's edit is the 200th, and the sheet closes.
+#[test]
+fn two_hundred_clients_share(rt: HostRuntime) -> Result<(), Fail> {
+    let alloc = rt.alloc();
+    let served = serve_shared(&rt, alloc, LAYOUT, 1, Clients::Each(&MANY))?;
+    let is_closed = match &served.end {
+        End::Shared(_) => true,
+        _ => false,
+    };
+    assert!(rt; is_closed && served.answers.as_slice().ends_with(LAST_OF_MANY));
+    Ok(())
+}
+
+const LAST_OF_MANY: &[u8] = b"{\"number\":199,\"ok\":\"done\"}\n";

@@ -1,0 +1,123 @@
+#!/usr/bin/env bash
+# Speaks to a server by `dsheet connect`: what it shows is what a script is answered, also after a server that was killed
+# and started again with its store.
+#   tests/connect.sh PROGRAM
+program=$(realpath "$1")
+cd "$(dirname "$0")/.."
+. tests/rows.sh connect
+room=$(mktemp -d)
+server=
+cleanup() {
+    kill -9 $server
+    rm -rf "$room"
+} 2>/dev/null
+evidence() { head -c 2000 "$room"/log "$room"/said 2>/dev/null || true; }
+
+# Starts a server at this port, with its store, and waits until it listens.
+start() {
+    "$program" serve --listen "127.0.0.1:$1" --forever --store "$room/sheet.db" </dev/null >/dev/null 2>"$room/log" 8>&- &
+    server=$!
+    for _ in $(seq 400); do
+        port=$(sed -n 's/^dsheet: listening on 127\.0\.0\.1://p' "$room/log")
+        if [ -n "$port" ]; then
+            return 0
+        fi
+        sleep 0.05
+    done
+    fail "the server does not listen"
+}
+
+# Waits until there are this number of lines of answers.
+lines() {
+    for _ in $(seq 400); do
+        if [ "$(wc -l <"$room/out")" -ge "$1" ]; then
+            return 0
+        fi
+        sleep 0.05
+    done
+    fail "no answer $1: $(cat "$room/out")"
+}
+
+start 0
+
+# The same calls, and the lines that a script is answered.
+printf 'set A1 =1+2\n# a comment\n\nset B1 7\nset A2 =7.5\nset A2 =[.A1]*[.B1]\nlast\nreport\n' >"$room/calls"
+"$program" connect "127.0.0.1:$port" --process 1 <"$room/calls" >"$room/out" 2>"$room/said" || fail "status $?"
+printf 'recover 1\nset 1 A1 =1+2\nset 1 B1 7\nset 1 A2 =7.5\nset 1 A2 =[.A1]*[.B1]\nrecover 1\nsettle 1\nreport 1\n' |
+    "$program" run | grep -v '^clean$' >"$room/wanted"
+cmp "$room/out" "$room/wanted" || fail "other answers: $(cat "$room/out")"
+passed "answers are those of a script"
+
+status=0
+printf 'set A1 1\nwork A1\nset A1 2\n' | "$program" connect "127.0.0.1:$port" >"$room/out" 2>"$room/said" || status=$?
+[ "$status" = 1 ] || fail "a line that is no call: status $status"
+grep -q '^line 2: expected: set CELL TEXT, report or last$' "$room/said" || fail "a line that is no call"
+[ "$(tail -n 1 "$room/out")" = "0 0 done" ] || fail "lines before a fault"
+passed "a line that is no call"
+
+status=0
+"$program" connect "127.0.0.1:$port" --process 7 </dev/null >"$room/out" 2>"$room/said" || status=$?
+[ "$status" = 1 ] || fail "a process that is none of the sheet: status $status"
+passed "a process that is none of the sheet"
+
+# The server is killed, and started again at its port: the client joins anew, and is shown its last edit.
+mkfifo "$room/control"
+"$program" connect "127.0.0.1:$port" --process 0 <"$room/control" >"$room/out" 2>"$room/said" &
+client=$!
+exec 8>"$room/control"
+lines 1
+echo 'set B2 40' >&8
+lines 2
+at=$port
+{
+    kill -9 "$server"
+    wait "$server" || true
+} 2>/dev/null
+start "$at"
+echo 'report' >&8
+lines 6
+exec 8>&-
+wait "$client" || fail "the client: status $?"
+printf '0 last 0 A1 done\n0 1 done\n0 last 1 B2 done\nsettled\n1,7\n7,40\n' >"$room/wanted"
+cmp "$room/out" "$room/wanted" || fail "behind a kill: $(cat "$room/out")"
+passed "a server that is killed and started again"
+
+# A server that breaks off after an edit: the client joins again and shows what its recovery reports; it sends no edit twice.
+python3 -c '
+import json, socket, sys
+listener = socket.create_server(("127.0.0.1", 0))
+print(listener.getsockname()[1], flush=True)
+listener.settimeout(20)
+last = [None, {"cell": "A1", "number": 0, "outcome": "done"}]
+for at in range(2):
+    stream = listener.accept()[0]
+    stream.settimeout(20)
+    for line in stream.makefile("rb"):
+        print(at, line.decode().strip(), file=sys.stderr, flush=True)
+        if json.loads(line)["op"] != "join":
+            break
+        answer = {"last": last[at], "ok": "join", "process": 0}
+        stream.sendall(json.dumps(answer, separators=(",", ":")).encode() + b"\n")
+    stream.shutdown(socket.SHUT_RDWR)
+    stream.close()
+' >"$room/port" 2>"$room/asked" &
+breaking=$!
+for _ in $(seq 400); do
+    [ -s "$room/port" ] && break
+    sleep 0.05
+done
+printf 'set A1 7\n' | timeout 60 "$program" connect "127.0.0.1:$(cat "$room/port")" >"$room/out" 2>"$room/said" || true
+kill "$breaking" 2>/dev/null || true
+wait "$breaking" 2>/dev/null || true
+[ "$(grep -c '"op":"set"' "$room/asked")" = 1 ] || fail "an edit was sent again: $(cat "$room/asked")"
+[ "$(grep -c '^1 .*"op":"join"' "$room/asked")" = 1 ] || fail "it did not join again: $(cat "$room/asked")"
+grep -q '^0 last 0 A1 done$' "$room/out" || fail "what its recovery reported: $(cat "$room/out")"
+passed "a server that breaks off after an edit"
+
+kill "$server"
+wait "$server" 2>/dev/null || true
+status=0
+"$program" connect "127.0.0.1:$port" </dev/null >"$room/out" 2>"$room/said" || status=$?
+[ "$status" = 3 ] || fail "no server: status $status"
+passed "no server"
+server=

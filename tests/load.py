@@ -1,0 +1,163 @@
+#!/usr/bin/env python3
+"""Loads the program as a server: many clients one after another, many at once, many that are killed in mid-line, and
+some after them. Its threads and descriptors at the end have to be those of its start, and its memory, but for 1 MB (16
+of an unproved program, whose checks keep some: --quick). The last line counts the rows.
+    tests/load.py [--quick] PROGRAM
+"""
+import os
+import re
+import socket
+import struct
+import subprocess
+import sys
+import time
+import traceback
+
+AT_ONCE, CLIENTS, CROWD, KILLED = 16, 2000, 200, 100
+JOIN, BUSY = '{"op":"join","process":%d}', '{"code":16,"error":"busy"}'
+passed = 0
+
+
+def pass_row(what):
+    """A row is as it has to be."""
+    global passed
+    passed += 1
+    print(f"load: {what} ... ok", flush=True)
+
+
+class Server:
+    """The program as a server."""
+
+    def __init__(self, program):
+        words = ["serve", "--listen", "127.0.0.1:0", "--forever", "--at-once", str(AT_ONCE), "--processes", "8", "--workers", "1"]
+        pipes = {"stdin": subprocess.PIPE, "stderr": subprocess.PIPE, "text": True, "bufsize": 1}
+        self.process = subprocess.Popen([program, *words], **pipes)
+        said = self.process.stderr.readline()
+        self.port = int(re.fullmatch(r"dsheet: listening on 127\.0\.0\.1:(\d+)\n", said)[1])
+
+    def connect(self):
+        return socket.create_connection(("127.0.0.1", self.port), timeout=20)
+
+    def talk(self, lines):
+        """What a client is answered that says these lines and ends."""
+        answers = b""
+        with self.connect() as client:
+            try:
+                client.sendall("".join(line + "\n" for line in lines).encode())
+                client.shutdown(socket.SHUT_WR)
+            except OSError:
+                pass
+            try:
+                while more := client.recv(65536):
+                    answers += more
+            except ConnectionResetError:
+                pass
+        return answers.decode().splitlines()
+
+    def state(self):
+        """Threads, descriptors, and kilobytes of memory of the server."""
+        with open(f"/proc/{self.process.pid}/status", encoding="utf-8") as it:
+            status = it.read()
+        threads, memory = (int(re.search(rf"^{name}:\s+(\d+)", status, re.M)[1]) for name in ("Threads", "VmRSS"))
+        return threads, len(os.listdir(f"/proc/{self.process.pid}/fd")), memory
+
+    def settled(self, begun):
+        """The same, when no session is left, which takes a moment. Clients are accepted in their order: after one that
+        says nothing and was taken, no earlier one is waiting."""
+        self.talk([])
+        for _ in range(400):
+            if self.state()[:2] == begun[:2]:
+                break
+            time.sleep(0.05)
+        return self.state()
+
+
+def wave(server, what):
+    """A client of each process but the worker's."""
+    for process in range(7):
+        answers = server.talk([JOIN % process, '{"op":"report"}'])
+        assert len(answers) == 2 and '"ok":"join"' in answers[0] and '"ok":"settled"' in answers[1], (what, answers)
+    pass_row(what)
+
+
+def crowd(server):
+    """Many clients at once: as many as --at-once are served, and the others answered that the server is busy."""
+    clients = [server.connect() for _ in range(CROWD)]
+    busy, held = 0, []
+    for client in clients:
+        client.settimeout(0.05 if busy == 0 else 20)
+        try:
+            line = client.recv(100).decode().strip()
+            assert line == BUSY, line
+            busy += 1
+        except TimeoutError:
+            held.append(client)
+    while len(held) > AT_ONCE:
+        for client in list(held):
+            client.settimeout(1)
+            try:
+                assert client.recv(100).decode().strip() == BUSY
+                busy += 1
+                held.remove(client)
+            except TimeoutError:
+                pass
+    assert busy == CROWD - AT_ONCE, busy
+    for client in clients:
+        client.close()
+
+
+def kill_clients(server, begun):
+    """Clients that are gone in mid-line."""
+    for number in range(KILLED):
+        client = server.connect()
+        client.sendall(b'{"op":"jo')
+        client.setsockopt(socket.SOL_SOCKET, socket.SO_LINGER, struct.pack("ii", 1, 0))
+        client.close()
+        if number % AT_ONCE == AT_ONCE - 1:
+            server.settled(begun)
+
+
+def load(server, kilobytes):
+    """All rows; the first that is not as it has to be is an AssertionError."""
+    wave(server, "a first wave")
+    time.sleep(0.3)
+    begun = server.state()
+    for number in range(CLIENTS):
+        answers = server.talk([JOIN % (number % 7), '{"op":"last"}'])
+        assert len(answers) == 2 and '"ok":"last"' in answers[1], (number, answers)
+    pass_row(f"{CLIENTS} clients one after another")
+    crowd(server)
+    server.settled(begun)
+    pass_row(f"{CROWD} clients at once, {AT_ONCE} of them served")
+    kill_clients(server, begun)
+    server.settled(begun)
+    pass_row(f"{KILLED} clients killed in mid-line")
+    wave(server, "a wave after them")
+    ended = server.settled(begun)
+    assert ended[:2] == begun[:2], f"threads and descriptors: wanted {begun[:2]}, came {ended[:2]}"
+    assert ended[2] <= begun[2] + kilobytes, f"memory: wanted {begun[2]} kB and {kilobytes} at most, came {ended[2]} kB"
+    pass_row(f"{ended[0]} threads and {ended[1]} descriptors, as at first; memory too")
+    server.process.stdin.write("stop\n")
+    server.process.stdin.close()
+    status = server.process.wait(timeout=20)
+    assert status == 0, f"its end: wanted status 0, came {status}"
+    pass_row("its end")
+
+
+def main(*words):
+    server, failed = Server(os.path.realpath(words[-1])), 0
+    try:
+        load(server, 16384 if words[0] == "--quick" else 1024)
+    except (AssertionError, OSError, subprocess.TimeoutExpired) as wrong:
+        own = [it for it in traceback.extract_tb(wrong.__traceback__) if it.filename.endswith("load.py")]
+        print(f"tests/load.py:{own[-1].lineno}: {wrong!r}", file=sys.stderr)
+        failed = 1
+    finally:
+        if server.process.poll() is None:
+            server.process.kill()
+    print(f"load: {passed} passed, {failed} failed")
+    return failed
+
+
+if __name__ == "__main__":
+    sys.exit(main(*sys.argv[1:]))

@@ -1,0 +1,345 @@
+#!/usr/bin/env python3
+"""Tries the store of a server: kills it (-9) at drawn moments while four clients edit, starts it again, and holds what
+each client is answered against what it was answered before: each edit that was answered done is there, each last edit is
+reported as it ended, no number comes twice, none is left out. Then what a store may meet beside that: no room on the
+disk, a file that may not be written, is another database, is cut at many places, or is open in another server. The last
+line counts the rows, each kill and each cut one of them.
+    tests/store.py [--quick] PROGRAM [KILLS [CUTS [SEED]]]      200 kills and 100 cuts by a drawn seed, where no numbers
+                                                                are given (10 and 20 of an unproved program, by --quick)
+"""
+import json
+import os
+import random
+import resource
+import shutil
+import signal
+import socket
+import sqlite3
+import subprocess
+import sys
+import tempfile
+import threading
+import time
+import traceback
+
+COLUMNS, ROWS, PROCESSES = 4, 8, 4
+SHAPE = ["--columns", str(COLUMNS), "--rows", str(ROWS), "--processes", str(PROCESSES)]
+
+
+# How many kills and cuts there are, and of an unproved program.
+NUMBERS, QUICK = ("200", "100"), ("10", "20")
+# How many edits of each process come after the last kill: a store has some, however slow the program is.
+MORE = 3
+passed = 0
+
+
+class Failed(Exception):
+    """Something is not as it has to be."""
+
+
+def pass_rows(what, count=1):
+    """As many rows are as they have to be."""
+    global passed
+    passed += count
+    print(f"store: {what} ... ok", flush=True)
+
+
+def start(program, store, limit=None):
+    """Starts a server with this store; returns it and its port."""
+    words = [program, "serve", "--listen", "127.0.0.1:0", "--forever", *SHAPE, "--store", store]
+    bound = None
+    if limit is not None:
+        def bound():
+            signal.signal(signal.SIGXFSZ, signal.SIG_IGN)
+            resource.setrlimit(resource.RLIMIT_FSIZE, (limit, limit))
+    server = subprocess.Popen(words, stdin=subprocess.PIPE, stderr=subprocess.PIPE, text=True, preexec_fn=bound)
+    said = server.stderr.readline()
+    if not said.startswith("dsheet: listening on "):
+        rest = server.stderr.read()
+        server.wait()
+        raise Failed(f"the server does not listen: {said}{rest} (status {server.returncode})")
+    return server, int(said.rsplit(":", 1)[1])
+
+
+class Client:
+    """One process of the sheet, and what it was answered over all lives of the server."""
+
+    def __init__(self, process):
+        self.process = process
+        self.told = []
+        self.asked = None
+        self.full = False
+        self.wrong = None
+
+    def call(self, stream, **call):
+        stream.write(json.dumps(call) + "\n")
+        stream.flush()
+        line = stream.readline()
+        if not line.endswith("\n"):
+            raise ConnectionError
+        return json.loads(line)
+
+    def check_last(self, last):
+        """Holds what a recovery reports against what was answered before."""
+        if last is None:
+            if self.told:
+                raise Failed(f"process {self.process}: {len(self.told)} edits were done, and none is told")
+            return
+        if last["outcome"] != "done":
+            raise Failed(f"process {self.process}: {last}")
+        number = last["number"]
+        if number == len(self.told) and self.asked is not None:
+            # The edit that was not answered was kept.
+            self.told.append(self.asked)
+        if number != len(self.told) - 1 or last["cell"] != self.told[number][0]:
+            raise Failed(f"process {self.process}: {last}, after {len(self.told)} edits")
+
+    def edit(self, stream, draw):
+        """Makes an edit, which has to be answered done; false where the process has spent its edits."""
+        cell, text = f"{chr(65 + self.process)}{draw.randint(1, ROWS)}", str(draw.randint(0, 10**9))
+        self.asked = (cell, text)
+        answer = self.call(stream, op="set", cell=cell, text=text)
+        if answer.get("error") == "records-full":
+            self.asked, self.full = None, True
+            return False
+        if answer.get("ok") != "done" or answer["number"] != len(self.told):
+            raise Failed(f"process {self.process}: {answer}, after {len(self.told)} edits")
+        self.told.append(self.asked)
+        self.asked = None
+        return True
+
+    def life(self, port, draw):
+        """Joins, and edits until the server dies."""
+        try:
+            with socket.create_connection(("127.0.0.1", port), timeout=20) as link:
+                stream = link.makefile("rw")
+                joined = self.call(stream, op="join", process=self.process)
+                self.check_last(joined["last"])
+                self.asked = None
+                while self.edit(stream, draw):
+                    pass
+        except (OSError, ConnectionError, json.JSONDecodeError):
+            pass
+        except Failed as wrong:
+            self.wrong = wrong
+
+    def texts(self):
+        return {cell: text for cell, text in self.told}
+
+
+def check_values(port, clients, draw):
+    """All processes join, make some more edits, and a report shows the last text of each cell."""
+    for client in clients:
+        with socket.create_connection(("127.0.0.1", port), timeout=20) as link:
+            stream = link.makefile("rw")
+            client.check_last(client.call(stream, op="join", process=client.process)["last"])
+            client.asked = None
+            for _ in range(MORE):
+                if not client.edit(stream, draw):
+                    break
+            if client.process + 1 < len(clients):
+                continue
+            report = client.call(stream, op="report")
+            for column, of in enumerate(clients):
+                texts = of.texts()
+                for row in range(ROWS):
+                    wanted = texts.get(f"{chr(65 + column)}{row + 1}", "")
+                    if report["rows"][row][column] != wanted:
+                        raise Failed(f"{chr(65 + column)}{row + 1} shows {report['rows'][row][column]}, and not {wanted}")
+
+
+def stop(server):
+    server.stdin.write("stop\n")
+    server.stdin.flush()
+    server.communicate(timeout=30)
+    if server.returncode != 0:
+        raise Failed(f"a server that was told to stop ended with status {server.returncode}")
+
+
+def one_store(program, folder, kills, draw):
+    """Kills servers over one store until its processes have spent their edits; returns how many kills there were, how
+    many edits were answered, and the store."""
+    store = os.path.join(folder, f"store{draw.randint(0, 10**9)}.db")
+    clients = [Client(process) for process in range(PROCESSES)]
+    done = 0
+    while done < kills and not all(client.full for client in clients):
+        server, port = start(program, store)
+        threads = [threading.Thread(target=client.life, args=(port, draw)) for client in clients]
+        for thread in threads:
+            thread.start()
+        time.sleep(draw.uniform(0.002, 0.12))
+        server.send_signal(signal.SIGTERM if draw.random() < 0.1 else signal.SIGKILL)
+        server.wait()
+        server.stderr.close()
+        server.stdin.close()
+        for thread in threads:
+            thread.join()
+        for client in clients:
+            if client.wrong:
+                raise client.wrong
+        done += 1
+    server, port = start(program, store)
+    check_values(port, clients, draw)
+    stop(server)
+    told = sum(len(client.told) for client in clients)
+    said = run(program, "check", store)
+    if said.returncode != 0 or f"{told} edits count" not in said.stdout:
+        raise Failed(f"check says: {said.stdout}{said.stderr}, of {told} edits")
+    return done, told, store
+
+
+def run(program, *words, **more):
+    return subprocess.run([program, *words], capture_output=True, text=True, timeout=60, **more)
+
+
+def expect(name, said, status, words):
+    if said.returncode != status or words not in said.stdout + said.stderr:
+        came = f"came {said.returncode}: {said.stdout[:300]}{said.stderr[:300]}"
+        raise Failed(f"{name}: wanted status {status} and '{words}', {came}")
+    pass_rows(name)
+
+
+def check_commands(program, folder, store):
+    """Export, import, compact and run agree."""
+    lines = run(program, "export", store).stdout
+    again = os.path.join(folder, "again.db")
+    expect("import", run(program, "import", again, input=lines), 0, "")
+    if run(program, "export", again).stdout != lines:
+        raise Failed("what was exported and imported is another journal")
+    expect("import over a store", run(program, "import", again, input=lines), 1, "already")
+    rows = sqlite3.connect(f"file:{again}?mode=ro", uri=True).execute("SELECT line FROM journal ORDER BY number").fetchall()
+    if [row[0] for row in rows] != lines.splitlines():
+        raise Failed("another SQLite reads other lines")
+    answers = run(program, "run", input=lines).stdout.splitlines()
+    if len(answers) != len(rows) - 1 or not all(answer.endswith(" done") for answer in answers):
+        raise Failed("run does not answer each exported edit done")
+    new = os.path.join(folder, "new.db")
+    expect("compact", run(program, "compact", store, new), 0, "")
+    tail = "settle 0\nreport 0\n"
+    values = [run(program, "run", input=run(program, "export", of).stdout + tail).stdout.split("settled\n")[1] for of in (store, new)]
+    if values[0] != values[1]:
+        raise Failed("a compacted store shows other values")
+    small = os.path.join(folder, "small.db")
+    many = "sheet 26 26 1\n" + "".join(f"set 0 {chr(65 + k % 26)}{k // 26 + 1} 1\n" for k in range(257))
+    expect("more edits than a process has", run(program, "import", small, input=many), 1, "line 258: its process has begun 256 edits")
+    for name, text, words in (
+        ("no sheet", "set 0 A1 1\n", "line 1: the first line is no sheet"),
+        ("a cell beyond", "sheet 2 2 2\nset 0 C1 1\n", "line 2"),
+        ("a process beyond", "sheet 1 1 1\nset 1 A1 5\n", "line 2"),
+        ("no shape", "sheet 0 1 1\n", "line 1"),
+        ("two sheets", "sheet 1 1 1\nsheet 1 1 1\n", "line 2"),
+        ("a begin", "sheet 1 1 1\nbegin 0 set A1 5\n", "line 2: not an edit of the sheet"),
+        ("no edit", "sheet 2 2 2\nset 0 A1 1\ncrash\n", "line 3: not an edit of the sheet"),
+        ("a text with a fault", "sheet 2 2 2\nset 0 A1 =7.5\n", "line 2: its text is refused"),
+    ):
+        expect(name, run(program, "import", os.path.join(folder, f"{name}.db"), input=text), 1, words)
+
+
+def check_files(program, folder, store):
+    """Files that are none, may not be used, or are something else."""
+    expect("no such file", run(program, "check", os.path.join(folder, "none.db")), 3, "none.db")
+    other = os.path.join(folder, "other.db")
+    link = sqlite3.connect(other)
+    link.execute("CREATE TABLE note (id INTEGER PRIMARY KEY, title TEXT)")
+    link.commit()
+    link.close()
+    expect("another database", run(program, "check", other), 1, "something else")
+    text = os.path.join(folder, "text.db")
+    with open(text, "w", encoding="utf-8") as out:
+        out.write("no database " * 1000)
+    expect("no database", run(program, "check", text), 3, "database")
+    gap = os.path.join(folder, "gap.db")
+    shutil.copy(store, gap)
+    link = sqlite3.connect(gap)
+    link.execute("DELETE FROM journal WHERE number = 5")
+    link.commit()
+    link.close()
+    expect("a line that is missing", run(program, "check", gap), 1, "line 5 is missing")
+    link = sqlite3.connect(gap)
+    link.execute("INSERT INTO journal VALUES (5, 'set 0 A1 =')")
+    link.commit()
+    link.close()
+    expect("a line that can not be followed", run(program, "check", gap), 1, "line 5: its text is refused")
+    words = ["serve", "--listen", "127.0.0.1:0", "--columns", "5", "--rows", "8", "--processes", "4", "--store", store]
+    expect("another shape", run(program, *words), 1, "its sheet has 4 columns, 8 rows and 4 processes")
+    server, _port = start(program, store)
+    expect("open in another server", run(program, "check", store), 3, "another program has it open")
+    stop(server)
+    if os.getuid() != 0:
+        os.chmod(store, 0o444)
+        expect("read-only", run(program, "check", store), 3, "unable to open")
+        os.chmod(store, 0o644)
+
+
+def check_full(program, folder):
+    """A disk with no more room: what was answered stands, and the server ends with a fault."""
+    store = os.path.join(folder, "full.db")
+    server, port = start(program, store, limit=60000)
+    client = Client(0)
+    client.life(port, random.Random(1))
+    server.stdin.close()
+    said = server.stderr.read()
+    server.wait(timeout=30)
+    if client.wrong or client.full or server.returncode not in (3, 4):
+        raise Failed(f"no room: status {server.returncode}, {len(client.told)} edits, {client.wrong}: {said}")
+    again, port = start(program, store)
+    with socket.create_connection(("127.0.0.1", port), timeout=20) as link:
+        stream = link.makefile("rw")
+        client.check_last(client.call(stream, op="join", process=0)["last"])
+    stop(again)
+    pass_rows(f"no room after {len(client.told)} edits")
+
+
+def check_cuts(program, folder, store, cuts, draw):
+    """A file that is cut is refused, or has the first of the lines."""
+    whole = run(program, "export", store).stdout.splitlines()
+    size = os.path.getsize(store)
+    refused = 0
+    for _ in range(cuts):
+        cut = os.path.join(folder, "cut.db")
+        for name in (cut, cut + "-wal"):
+            if os.path.exists(name):
+                os.remove(name)
+        shutil.copy(store, cut)
+        os.truncate(cut, draw.randint(1, size - 1))
+        said = run(program, "export", cut)
+        if said.returncode in (1, 3):
+            refused += 1
+        elif said.returncode != 0 or said.stdout.splitlines() != whole[: len(said.stdout.splitlines())]:
+            raise Failed(f"a cut file: status {said.returncode}: {said.stderr}")
+    pass_rows(f"{cuts} cut files, {refused} refused", cuts)
+
+
+def check_all(program, kills, cuts, draw):
+    """All rows; the first that is not as it has to be is a Failed."""
+    left, told, stores, begun = kills, 0, 0, time.monotonic()
+    with tempfile.TemporaryDirectory() as folder:
+        store = None
+        while left > 0:
+            done, edits, store = one_store(program, folder, left, draw)
+            left, told, stores = left - done, told + edits, stores + 1
+        seconds = time.monotonic() - begun
+        pass_rows(f"{kills} kills over {stores} stores, {told} edits answered, 0 lost, in {seconds:.0f} s", kills)
+        check_commands(program, folder, store)
+        check_files(program, folder, store)
+        check_full(program, folder)
+        check_cuts(program, folder, store, cuts, draw)
+
+
+def main(*words):
+    is_quick = words[0] == "--quick"
+    program, *numbers = words[is_quick:]
+    kills, cuts, *seeds = [*numbers, *(QUICK if is_quick else NUMBERS)[len(numbers):]]
+    seed, failed = int(seeds[0]) if seeds else random.randrange(10**6), 0
+    try:
+        check_all(os.path.realpath(program), int(kills), int(cuts), random.Random(seed))
+    except Failed as wrong:
+        frames = [it for it in traceback.extract_tb(wrong.__traceback__) if it.name != "expect"]
+        print(f"tests/store.py:{frames[-1].lineno}: seed {seed}: {wrong}", file=sys.stderr)
+        failed = 1
+    print(f"store: {passed} passed, {failed} failed")
+    return failed
+
+
+if __name__ == "__main__":
+    sys.exit(main(*sys.argv[1:]))
