@@ -24,7 +24,7 @@ SCRIPTS = {
 }
 # How a command is refused that lacks memory: before it does anything, or a work as it reads a text.
 REFUSALS = ("refused 5 NoMemory", "nomemory")
-SAID = ("dsheet: out of memory\n", "dsheet: no memory\n")
+SAID = ("dsheet: out of memory\n", "error: out of memory\n")
 # The answers to each command, with it; the status; what was said; whether a growth was refused.
 Run = namedtuple("Run", "answers status said is_refused")
 
@@ -76,7 +76,8 @@ class Growths:
     def check(self, script, whole, run):
         """What has to hold of a run with one growth refused, where this is the run with all of them."""
         if run.status == 4:
-            expect("what is said of a script that ends without memory", True, run.said in SAID)
+            if run.said not in SAID:
+                raise Failed(f"what is said of a script that ends without memory\n    came   {run.said!r}")
             expect("what was answered before", whole.answers[:len(run.answers)], run.answers)
             return
         expect("the status, and what is said", (0, ""), (run.status, run.said))

@@ -25,7 +25,7 @@ struct Counter<'a, R: Eprint> {
 impl<R: Eprint> Watcher for Counter<'_, R> {
     fn found(&mut self, states: usize) {
         if self.shows && states.is_multiple_of(EACH) {
-            let _told = eprintln!(self.rt; "dsheet: {states} states");
+            let _reported = eprintln!(self.rt; "dsheet: {states} states");
         }
     }
 }
@@ -45,7 +45,7 @@ pub fn explore<R: AllocGlobal + Input + Print + Eprint>(
         return no_memory(rt);
     };
     if let InputEnd::Failed = input.end {
-        let _told = eprintln!(rt; "dsheet: a read failed");
+        let _reported = eprintln!(rt; "dsheet: a read failed");
         return STREAM_FAILED;
     }
     let options = Options {
@@ -60,11 +60,11 @@ pub fn explore<R: AllocGlobal + Input + Print + Eprint>(
     match &end {
         ExploreEnd::Ended => {}
         ExploreEnd::Fault { line, kind } => {
-            let _told = eprintln!(rt; "{end}");
+            let _reported = eprintln!(rt; "{end}");
             show_line(rt, &input.bytes, *line, *kind);
         }
         _ => {
-            let _told = eprintln!(rt; "dsheet: {end}");
+            let _reported = eprintln!(rt; "dsheet: {end}");
         }
     }
     explore_status(&end)

@@ -21,7 +21,7 @@ pub fn trace<R: AllocGlobal + Input + Print + Eprint>(rt: &R) -> u8 {
         return no_memory(rt);
     };
     if let InputEnd::Failed = input.end {
-        let _told = eprintln!(rt; "dsheet: a read failed");
+        let _reported = eprintln!(rt; "dsheet: a read failed");
         return STREAM_FAILED;
     }
     let mut writer = Writing::new(buffered);
@@ -29,11 +29,11 @@ pub fn trace<R: AllocGlobal + Input + Print + Eprint>(rt: &R) -> u8 {
     match &end {
         PictureEnd::Drawn => {}
         PictureEnd::Fault { line, kind } => {
-            let _told = eprintln!(rt; "{end}");
+            let _reported = eprintln!(rt; "{end}");
             show_line(rt, &input.bytes, *line, *kind);
         }
         _ => {
-            let _told = eprintln!(rt; "dsheet: {end}");
+            let _reported = eprintln!(rt; "dsheet: {end}");
         }
     }
     picture_status(&end)

@@ -38,7 +38,7 @@ fn explain(rt: &(impl Print + Eprint), error: &Error) -> u8 {
     } else if error.use_stderr() {
         WRONG_WORDS
     } else if let Err(error) = printed {
-        let _told = eprintln!(rt; "dsheet: standard output: {error}");
+        let _reported = eprintln!(rt; "dsheet: standard output: {error}");
         STREAM_FAILED
     } else {
         0
@@ -72,7 +72,7 @@ fn dispatch<
         Ok(arguments) => arguments,
         Err(error) if error.kind() == io::ErrorKind::OutOfMemory => return no_memory(rt),
         Err(_) => {
-            let _told = eprintln!(rt; "dsheet: an argument is not UTF-8");
+            let _reported = eprintln!(rt; "dsheet: an argument is not UTF-8");
             return WRONG_WORDS;
         }
     };
@@ -96,15 +96,15 @@ fn dispatch<
         Ok(Action::Compact(path, new)) => compact(rt, path, new),
         Err(OptionsFault::CommandLine(error)) => explain(rt, &error),
         Err(OptionsFault::NoFile) => {
-            let _told = eprintln!(rt; "dsheet: no file");
+            let _reported = eprintln!(rt; "dsheet: no file");
             WRONG_WORDS
         }
         Err(OptionsFault::NoCommand) => {
-            let _told = eprintln!(rt; "dsheet: no command");
+            let _reported = eprintln!(rt; "dsheet: no command");
             WRONG_WORDS
         }
         Err(OptionsFault::OutOfLimits(limit)) => {
-            let _told = eprintln!(rt; "dsheet: {limit}");
+            let _reported = eprintln!(rt; "dsheet: {limit}");
             WRONG_WORDS
         }
     }

@@ -25,11 +25,11 @@ fn print_end(rt: &impl Eprint, end: &ScriptEnd, script: &[u8]) {
     }
 }
 
-/// Reports on standard error that there is no memory, and gives the status of that, 4.
+/// Reports on standard error that memory is out, and gives the status of that, 4.
 pub fn no_memory(rt: &impl Eprint) -> u8
     ensures { result ≡ 4 }
 {
-    let _reported = eprintln!(rt; "dsheet: no memory");
+    let _reported = eprintln!(rt; "dsheet: out of memory");
     NO_MEMORY
 }
 

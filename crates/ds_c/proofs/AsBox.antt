@@ -9,7 +9,7 @@ use Rattle.std_heap.proofs.Global.TheLaws as heap
 use Rattle.ds_state.specs.contracts.world.World as World
 use Rattle.ds_state.proofs.world.World.TheLaws as world
 use Rattle.ds_c.specs.contracts.parts.Parts as Parts
-use Rattle.ds_c.specs.contracts.handle.State as State
+use Rattle.ds_c.specs.contracts.handle.BoxedWorld as BoxedWorld
 
 -- a box of a world in memory of the heap
 abbrev pub E : Bx
@@ -21,7 +21,7 @@ FromParts = plain (λ _. Parts.the_row World.the_row Heap.the_row ghosts)
 
 -- the argument of `into_parts`: the state of a handle
 abbrev pub FromState : Slot 0
-FromState = plain (λ _. State.the_row)
+FromState = plain (λ _. BoxedWorld.the_row)
 
 -- the argument of `empty`: the allocator of the heap
 abbrev pub FromHeap : Slot 0

@@ -9,7 +9,7 @@ use Rattle.std_heap.proofs.Global.TheLaws as heap
 use Rattle.ds_c.specs.contracts.held.Held as Held
 use Rattle.ds_c.proofs.held.Held.TheLaws as held
 use Rattle.ds_c.specs.contracts.parts.Parts as Parts
-use Rattle.ds_c.specs.contracts.holder.HeldState as HeldState
+use Rattle.ds_c.specs.contracts.holder.BoxedHeld as BoxedHeld
 
 -- a box of what a holder holds, in memory of the heap
 abbrev pub E : Bx
@@ -21,7 +21,7 @@ FromParts = plain (λ _. Parts.the_row Held.the_row Heap.the_row ghosts)
 
 -- the argument of `into_parts`: the state of a holder
 abbrev pub FromState : Slot 0
-FromState = plain (λ _. HeldState.the_row)
+FromState = plain (λ _. BoxedHeld.the_row)
 
 -- the argument of `empty`: the allocator of the heap
 abbrev pub FromHeap : Slot 0

@@ -18,25 +18,25 @@ pub const HELD: u64 = 0x6473_6865_6574_0001;
 /// A world in a box, or nothing, under a pointer that names no type: no type that owns memory may cross to C.
 #[repr(C)]
 #[derive(Drop)]
-pub struct State {
+pub struct BoxedWorld {
     at: *mut u8,
     alloc: Global,
     pub ghost value: { Option WorldValue } by { world_coded },
 }
 
-impl Model for State {
+impl Model for BoxedWorld {
     ghost also_owns = { λ s. state_owns s.alloc s.at s.value };
 }
 
 // A state goes where its world may go.
-unsafe impl Send for State {}
+unsafe impl Send for BoxedWorld {}
 
-impl State {
-    fn of_parts(parts: Parts<World, Global>) -> State
+impl BoxedWorld {
+    fn of_parts(parts: Parts<World, Global>) -> BoxedWorld
         ensures { result.value ≡ Some parts.value }
     {
         let Parts { ptr, alloc } = parts;
-        State {
+        BoxedWorld {
             at: ptr as *mut u8,
             alloc,
         }
@@ -46,17 +46,17 @@ impl State {
         requires { IsSome self.value }
         ensures { Some result.value ≡ self.value }
     {
-        let State { at, alloc } = self;
+        let BoxedWorld { at, alloc } = self;
         Parts {
             ptr: at as *mut World,
             alloc,
         }
     }
 
-    fn empty(alloc: Global) -> State
+    fn empty(alloc: Global) -> BoxedWorld
         ensures { result.value ≡ None }
     {
-        State {
+        BoxedWorld {
             at: ptr::null_mut(),
             alloc,
         }
@@ -68,7 +68,7 @@ impl State {
 #[derive(Drop)]
 pub struct Handle {
     held: u64,
-    state: State,
+    state: BoxedWorld,
     pub ghost fits: { held ≡ HELD → IsSome state.value },
 }
 
@@ -81,7 +81,7 @@ impl Handle {
     {
         Handle {
             held: HELD,
-            state: State::of_parts(Parts::of(world)),
+            state: BoxedWorld::of_parts(Parts::of(world)),
         }
     }
 
@@ -91,7 +91,7 @@ impl Handle {
     {
         Handle {
             held: 0,
-            state: State::empty(alloc),
+            state: BoxedWorld::empty(alloc),
         }
     }
 

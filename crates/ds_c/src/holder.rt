@@ -17,25 +17,25 @@ pub const FULL: u64 = 0x6473_6865_6574_0002;
 /// What is held, in a box, or nothing, under a pointer that names no type: no type that owns memory may cross to C.
 #[repr(C)]
 #[derive(Drop)]
-pub struct HeldState {
+pub struct BoxedHeld {
     at: *mut u8,
     alloc: Global,
     pub ghost value: { Option Held } by { held_coded },
 }
 
-impl Model for HeldState {
+impl Model for BoxedHeld {
     ghost also_owns = { λ s. held_owns s.alloc s.at s.value };
 }
 
 // A state goes where what is held may go.
-unsafe impl Send for HeldState {}
+unsafe impl Send for BoxedHeld {}
 
-impl HeldState {
-    fn of_parts(parts: Parts<Held, Global>) -> HeldState
+impl BoxedHeld {
+    fn of_parts(parts: Parts<Held, Global>) -> BoxedHeld
         ensures { result.value ≡ Some parts.value }
     {
         let Parts { ptr, alloc } = parts;
-        HeldState {
+        BoxedHeld {
             at: ptr as *mut u8,
             alloc,
         }
@@ -45,17 +45,17 @@ impl HeldState {
         requires { IsSome self.value }
         ensures { Some result.value ≡ self.value }
     {
-        let HeldState { at, alloc } = self;
+        let BoxedHeld { at, alloc } = self;
         Parts {
             ptr: at as *mut Held,
             alloc,
         }
     }
 
-    fn empty(alloc: Global) -> HeldState
+    fn empty(alloc: Global) -> BoxedHeld
         ensures { result.value ≡ None }
     {
-        HeldState {
+        BoxedHeld {
             at: ptr::null_mut(),
             alloc,
         }
@@ -68,7 +68,7 @@ impl HeldState {
 #[derive(Drop)]
 pub struct Holder {
     held: u64,
-    state: HeldState,
+    state: BoxedHeld,
     pub ghost fits: { held ≡ FULL → IsSome state.value },
 }
 
@@ -81,7 +81,7 @@ impl Holder {
     {
         Holder {
             held: FULL,
-            state: HeldState::of_parts(Parts::of(held)),
+            state: BoxedHeld::of_parts(Parts::of(held)),
         }
     }
 
@@ -91,7 +91,7 @@ impl Holder {
     {
         Holder {
             held: 0,
-            state: HeldState::empty(alloc),
+            state: BoxedHeld::empty(alloc),
         }
     }
 

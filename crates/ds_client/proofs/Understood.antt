@@ -10,7 +10,7 @@ use Rattle.ds_layout.specs.declared.place.Place.TheVariants as place
 use Rattle.ds_state.specs.declared.recovery.LastEdit.{LastEdit}
 use Rattle.ds_script.specs.ScriptTexts.{counts_text}
 use Rattle.ds_server.specs.LineRequests.{call_of, join_by, or_bad_field}
-use Rattle.ds_server.specs.declared.board.CallRefusal.TheVariants as refusal
+use Rattle.ds_server.specs.declared.desk.CallRefusal.TheVariants as refusal
 use Rattle.ds_server.specs.declared.request.LineFault.TheVariants as fault
 use Rattle.ds_server.specs.Replies.{Said, Joined, Done, Overtaken, Settled, Unsettled, Tells, Left, Refused, Faulted}
 use Rattle.ds_server.specs.SessionTexts.{said_data, outcome_text}

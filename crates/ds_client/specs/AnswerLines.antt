@@ -10,8 +10,8 @@ use Rattle.ds_state.specs.declared.recovery.LastEdit.{LastEdit}
 use Rattle.ds_state.specs.declared.refusal.Refusal.TheVariants as state
 use Rattle.ds_script_io.specs.AnswerTexts.{done_text, refused_text, settled_text}
 use Rattle.ds_script.specs.ScriptTexts.{last_text, overtaken_text, unsettled_text, word_line}
-use Rattle.ds_server.specs.declared.board.CallRefusal.{CallRefusal}
-use Rattle.ds_server.specs.declared.board.CallRefusal.TheVariants as refusal
+use Rattle.ds_server.specs.declared.desk.CallRefusal.{CallRefusal}
+use Rattle.ds_server.specs.declared.desk.CallRefusal.TheVariants as refusal
 use Rattle.ds_server.specs.declared.request.LineFault.{LineFault}
 use Rattle.ds_server.specs.declared.request.LineFault.TheVariants as fault
 use Rattle.ds_server.specs.Replies.{Said, Joined, Done, Overtaken, Settled, Unsettled, Tells, Left, Refused, Faulted}

@@ -5,8 +5,8 @@ use Rattle.serde_json.specs.Written.{compact_text}
 use Rattle.ds_formula.specs.declared.cells.Shape.{Shape}
 use Rattle.ds_formula.specs.Names.{cell_named}
 use Rattle.ds_script_io.specs.Fields.{◌>>=◌}
-use Rattle.ds_server.specs.BoardCalls.{Call}
-use Rattle.ds_server.specs.BoardCalls as calls
+use Rattle.ds_server.specs.DeskCalls.{Call}
+use Rattle.ds_server.specs.DeskCalls as calls
 use Rattle.ds_server.specs.SessionTexts.{number_data, text_data}
 use Rattle.ds_client.specs.Asks.{Wish, Join, Set, Report, Last}
 

@@ -2,7 +2,7 @@
 
 ghost use Rattle.std.specs.Prelude.{◌≡◌, ℕ, List, Some, None, Ok};
 ghost use Rattle.ds_formula.specs.declared.cells.Shape.{Shape};
-ghost use Rattle.ds_server.specs.BoardCalls.{Last as LastCall, Report as AskedReport};
+ghost use Rattle.ds_server.specs.DeskCalls.{Last as LastCall, Report as AskedReport};
 ghost use Rattle.ds_server.specs.LineRequests.{call_of, join_by, or_bad_field};
 ghost use Rattle.ds_server.specs.Replies.{Said};
 ghost use Rattle.ds_server.specs.SessionTexts.{said_data};

@@ -132,7 +132,7 @@ fn show<R: AllocGlobal + Print + Eprint>(rt: &R, process: usize, said: &Json) ->
         return Err(no_memory(rt));
     };
     let Some(lines) = lines else {
-        let _told = eprintln!(rt; "dsheet: the server says what no client knows");
+        let _reported = eprintln!(rt; "dsheet: the server says what no client knows");
         return Err(STREAM_FAILED);
     };
     if print!(rt; "{lines}").is_err() {
@@ -143,7 +143,7 @@ fn show<R: AllocGlobal + Print + Eprint>(rt: &R, process: usize, said: &Json) ->
 
 // What is wrong with the connection, and the status.
 fn tell_error(rt: &impl Eprint, connecting: Connecting, error: &io::Error) -> u8 {
-    let _told = eprintln!(rt; "dsheet: {}: {error}", connecting.server);
+    let _reported = eprintln!(rt; "dsheet: {}: {error}", connecting.server);
     if error.kind() == ErrorKind::OutOfMemory {
         NO_MEMORY
     } else {
@@ -186,7 +186,7 @@ fn call_anew<R: AllocGlobal + Print + Eprint + Clock + Net<Stream = TcpStream>>(
     stream: &mut TcpStream,
     ask: Ask<'_>,
 ) -> Result<(), u8> {
-    let _told = eprintln!(rt; "dsheet: the connection is broken; joining anew");
+    let _reported = eprintln!(rt; "dsheet: the connection is broken; joining anew");
     let said = renew(rt, connecting, stream)?;
     show(rt, connecting.process, &said)?;
     match ask {
@@ -227,7 +227,7 @@ fn obey<R: AllocGlobal + Print + Eprint + Clock + Net<Stream = TcpStream>>(
     match read_ask(line.text) {
         Ok(ask) => call(rt, connecting, stream, ask),
         Err(fault) => {
-            let _told = eprintln!(rt; "line {}: {fault}", line.number);
+            let _reported = eprintln!(rt; "line {}: {fault}", line.number);
             if prompts { Ok(()) } else { Err(REFUSED) }
         }
     }

@@ -20,12 +20,12 @@ use Rattle.ds_state.specs.declared.situation.Situation.TheVariants.{Idle}
 use Rattle.ds_state.specs.World.{PlainWorld}
 use Rattle.ds_state.proofs.New.{new_sound}
 use Rattle.ds_drives.specs.declared.board.Seated.{Seated}
-use Rattle.ds_drives.specs.declared.board.Told.{Told}
+use Rattle.ds_drives.specs.declared.board.CallEvent.{CallEvent}
 use Rattle.ds_drives.specs.declared.board.View.{View}
 use Rattle.ds_drives.specs.Table.{two_sided}
 use Rattle.ds_drives.specs.Views.{In, second_rest, lone, newcomer, newcomers_from, first_now, first_seen, first_view, seen_so_far, headed, tailed, united, nobody, bygone, HasRest}
 use Rattle.ds_drives.specs.declared.board.HistoryEntry.{HistoryEntry}
-use Rattle.ds_drives.specs.Rule.{put, Behind, Start, IsBare, IsOrigin, all_of, HasSeen, IsPast, world_on, IsSecond, Stands, Fits, AreTrue, Ruled, Closes}
+use Rattle.ds_drives.specs.Rule.{put, Witness, Start, IsBare, IsOrigin, all_of, HasSeen, IsPast, world_on, IsSecond, Stands, Fits, AreTrue, Ruled, Closes}
 use Rattle.ds_words.specs.Memory.{Memory}
 use Rattle.ds_layout.specs.declared.place.Place.{Place}
 use Rattle.std.specs.Prelude.{nat_lt, if◌then◌else◌}
@@ -72,7 +72,7 @@ swapped_else f other id q n = rw (ne_eqb (f q) other n)
 was : {A : Type 0} (l : List A) (i j : ℕ) (a b : A) → ¬ (j ≡ i) → get_elem? (set l i a) j ≡ some b → get_elem? l j ≡ some b
 was l i j a b n e = ⊎_elim (λ t. absurd (n t.0)) (λ t. t.1) (at_set l i j a b e)
 
-owned : (layout : Layout) (words : List ℕ) (b : Behind) (f g : ℕ → ℕ) (i j : ℕ) (e : Seated) → Fits layout words b f i e → g e.process ≡ j → Fits layout words b g j e
+owned : (layout : Layout) (words : List ℕ) (b : Witness) (f g : ℕ → ℕ) (i j : ℕ) (e : Seated) → Fits layout words b f i e → g e.process ≡ j → Fits layout words b g j e
 owned layout words b f g i j e h mine = record { low = h.low; mine = mine; stands = h.stands }
 
 module _ {S : Type 0} (layout : Layout) (start : Start) where
@@ -83,7 +83,7 @@ module _ {S : Type 0} (layout : Layout) (start : Start) where
       let rest : View = record { entries = es; past = past } in
       let last : ℕ = length (set s.views id rest) in
       let mine = h.knows id v at e (inl refl) in record {
-        behind = h.behind;
+        witness = h.witness;
         owner = put h.owner e.process last;
         sound = h.sound;
         second = h.second;
@@ -106,7 +106,7 @@ module _ {S : Type 0} (layout : Layout) (start : Start) where
             owned _ _ _ _ _ _ _ _ f (put_else h.owner e.process last x.process (λ same. b.0 (sym f.mine ∙ (ap h.owner same ∙ mine.mine))) ∙ f.mine))
             (at_set s.views id j rest u t.1))
             (λ (t : (j ≡ last) × (lone e ≡ u)). ⊎_elim
-            (λ (same : e ≡ x). subst (λ (z : ℕ × Seated). Fits layout s.words h.behind (put h.owner e.process last) z.0 z.1) (λ i. (sym t.0 i, same i))
+            (λ (same : e ≡ x). subst (λ (z : ℕ × Seated). Fits layout s.words h.witness (put h.owner e.process last) z.0 z.1) (λ i. (sym t.0 i, same i))
             (owned _ _ _ _ _ _ _ _ mine (put_here h.owner e.process last e.process refl)))
             (λ none. absurd none)
             (subst (λ (z : View). In z.entries x) (sym t.1) inside))
@@ -121,12 +121,12 @@ module _ {S : Type 0} (layout : Layout) (start : Start) where
       }
 
   -- what a view knows is true
-  known_true : (s : State S View) (h : Ruled layout start s) (j : ℕ) (v : View) → get_elem? s.views j ≡ some v → (x : Seated) → In (v.past ++ v.entries) x → IsPast layout s.words h.behind x
+  known_true : (s : State S View) (h : Ruled layout start s) (j : ℕ) (v : View) → get_elem? s.views j ≡ some v → (x : Seated) → In (v.past ++ v.entries) x → IsPast layout s.words h.witness x
   known_true s h j v at x inside = ⊎_elim
       (λ (a : In v.past x). h.past j v at x a)
       (λ (b : In v.entries x). let k = (h.knows j v at x b).stands in record {
-        told = k.told;
-        was = record { since = []; stretch = h.behind.happened; before = h.behind.origin.older; parts = refl; told = k.deeds };
+        call_events = k.call_events;
+        was = record { since = []; stretch = h.witness.happened; before = h.witness.origin.older; parts = refl; call_events = k.deeds };
         saw = λ seen is. (k.saw seen is).begins;
       })
       (in_append v.past v.entries x inside)
@@ -135,7 +135,7 @@ module _ {S : Type 0} (layout : Layout) (start : Start) where
   pub remembers : (id : ℕ) (v : View) → Splits (Ruled {S = S} layout start) id v v (bygone v)
   remembers id v s h at =
       let last : ℕ = length (set s.views id v) in record {
-        behind = h.behind;
+        witness = h.witness;
         owner = h.owner;
         sound = h.sound;
         second = h.second;
@@ -149,7 +149,7 @@ module _ {S : Type 0} (layout : Layout) (start : Start) where
         all = λ p low. seated_more (set s.views id v) (bygone v) p (seated_set s.views id v at p v (λ k. k) (h.all p low));
         knows = λ j u there x inside. ⊎_elim
             (λ (t : (j < last) × (get_elem? (set s.views id v) j ≡ some u)). ⊎_elim
-            (λ (a : (j ≡ id) × (v ≡ u)). subst (λ (n : ℕ). Fits layout s.words h.behind h.owner n x) (sym a.0) (h.knows id v at x (subst (λ (z : View). In z.entries x) (sym a.1) inside)))
+            (λ (a : (j ≡ id) × (v ≡ u)). subst (λ (n : ℕ). Fits layout s.words h.witness h.owner n x) (sym a.0) (h.knows id v at x (subst (λ (z : View). In z.entries x) (sym a.1) inside)))
             (λ (b : (j ≢ id) × (get_elem? s.views j ≡ some u)). h.knows j u b.1 x inside)
             (at_set s.views id j v u t.1))
             (λ (t : (j ≡ last) × (bygone v ≡ u)). absurd (subst (λ (z : View). In z.entries x) (sym t.1) inside))
@@ -165,7 +165,7 @@ module _ {S : Type 0} (layout : Layout) (start : Start) where
 
   pub joins : (id other : ℕ) (v w : View) → Joins (Ruled {S = S} layout start) id v other w (united v w) nobody
   joins id other v w s h at apart there = record {
-    behind = h.behind;
+    witness = h.witness;
     owner = swapped h.owner other id;
     sound = h.sound;
     second = h.second;
@@ -207,14 +207,14 @@ pub record IsNewSeat (s : Situation) (seen : Option (List HistoryEntry)) (low hi
   pub below : x.process < high
   pub now : x.now ≡ s
   pub buffer : x.buffer ≡ []
-  pub told : x.deeds.told ≡ []
+  pub call_events : x.deeds.call_events ≡ []
   pub seen_is : x.deeds.seen ≡ seen
 
 pub all_new : (s : Situation) (seen : Option (List HistoryEntry)) (p n : ℕ) (x : Seated) → In (newcomers_from s seen p n) x → IsNewSeat s seen p (p + n) x
 all_new s seen p zero x t = absurd t
 all_new s seen p (suc n) x t = ⊎_elim
-    (λ (e : newcomer s seen p ≡ x). subst (IsNewSeat s seen p (p + suc n)) e (record { above = le_refl p; below = omega arith; now = refl; buffer = refl; told = refl; seen_is = refl }))
-    (λ h. let r = all_new s seen (suc p) n x h in record { above = (let a = r.above in omega arith); below = (let a = r.below in omega arith); now = r.now; buffer = r.buffer; told = r.told; seen_is = r.seen_is }) t
+    (λ (e : newcomer s seen p ≡ x). subst (IsNewSeat s seen p (p + suc n)) e (record { above = le_refl p; below = omega arith; now = refl; buffer = refl; call_events = refl; seen_is = refl }))
+    (λ h. let r = all_new s seen (suc p) n x h in record { above = (let a = r.above in omega arith); below = (let a = r.below in omega arith); now = r.now; buffer = r.buffer; call_events = r.call_events; seen_is = r.seen_is }) t
 
 -- of a new sheet each process has seen all that has happened, which is nothing; one of a sheet that is opened again has not looked
 first_saw : (stopped : Bool) (all : List Happened) (p : ℕ) (seen : List HistoryEntry) → (stopped ≡ false → all ≡ []) → first_seen stopped ≡ Some seen → HasSeen all p seen
@@ -228,11 +228,11 @@ zeros (suc n) (suc i) = zeros n i
 
 -- a table opens with a sound world, in the second layout, in which each process of the sheet does the same, and has
 -- flushed nothing, and what was answered before is true of it
-pub opens : {S : Type 0} (layout : Layout) (words : List ℕ) (b : Behind) (stopped : Bool) (past : List Seated) → IsSound (world_on layout words b) → IsSecond (world_on layout words b) → Run b.origin.opened b.happened (world_on layout words b) → IsBare layout b → Stood b.happened → IsOrigin b.origin → (stopped ≡ false → all_of b ≡ []) → length words ≡ 8 * words_of layout
+pub opens : {S : Type 0} (layout : Layout) (words : List ℕ) (b : Witness) (stopped : Bool) (past : List Seated) → IsSound (world_on layout words b) → IsSecond (world_on layout words b) → Run b.origin.opened b.happened (world_on layout words b) → IsBare layout b → Stood b.happened → IsOrigin b.origin → (stopped ≡ false → all_of b ≡ []) → length words ≡ 8 * words_of layout
     → ((p : ℕ) → p < layout.processes → b.situation p ≡ first_now stopped) → ((p : ℕ) → p < layout.processes → b.buffer p ≡ []) → AreTrue layout words b past
     → Ruled {S = S} layout (record { stopped = stopped; words = words }) (opening words [] (first_view stopped layout.processes past))
 opens layout words b stopped past sound second run bare stood from made long now buffer true_then = record {
-  behind = afresh;
+  witness = afresh;
   owner = λ q. 0;
   sound = sound;
   second = second;
@@ -248,7 +248,7 @@ opens layout words b stopped past sound second run bare stood from made long now
   past = one_past;
 }
   where
-    afresh : Behind
+    afresh : Witness
     afresh = record b { origin = record { first = b.origin.first; older = all_of b; opened = world_on layout words b }; happened = [] }
 
     one_seat : (j : ℕ) (v : View) → get_elem? (first_view stopped layout.processes past ∷ []) j ≡ some v → (x : Seated) → In v.entries x → Fits layout words afresh (λ q. 0) j x
@@ -261,15 +261,15 @@ opens layout words b stopped past sound second run bare stood from made long now
           stands = record {
             now = now x.process low ∙ sym r.now;
             buffer = buffer x.process low ∙ sym r.buffer;
-            told = λ u t. absurd (subst (λ (l : List Told). In l u) r.told t);
-            deeds = r.told;
+            call_events = λ u t. absurd (subst (λ (l : List CallEvent). In l u) r.call_events t);
+            deeds = r.call_events;
             saw = λ seen is. first_saw stopped (all_of b) x.process seen made (sym r.seen_is ∙ is);
           };
         }
     one_seat (suc j) v at x inside = absurd (some-ne-none v (sym at))
 
     one_past : (j : ℕ) (v : View) → get_elem? (first_view stopped layout.processes past ∷ []) j ≡ some v → AreTrue layout words afresh v.past
-    one_past zero v at x inside = let k = true_then x (subst (λ (z : View). In z.past x) (sym (some-injective (first_view stopped layout.processes past) v at)) inside) in record { told = k.told; was = k.was; saw = k.saw }
+    one_past zero v at x inside = let k = true_then x (subst (λ (z : View). In z.past x) (sym (some-injective (first_view stopped layout.processes past) v at)) inside) in record { call_events = k.call_events; was = k.was; saw = k.saw }
     one_past (suc j) v at x inside = absurd (some-ne-none v (sym at))
 
 -- what each process does at first
@@ -293,7 +293,7 @@ first_world : Layout → List ℕ → PlainWorld
 first_world layout words = record { layout = layout; memory = first_memory layout words; situation = first_situation layout; counted = []; open_edits = λ p. None }
 
 -- nothing has happened
-blank : Layout → List ℕ → Behind
+blank : Layout → List ℕ → Witness
 blank layout words = record { situation = first_situation layout; buffer = λ p. []; counted = []; open_edits = λ p. None; origin = record { first = first_world layout words; older = []; opened = first_world layout words }; happened = [] }
 
 -- the words of a new sheet: the version's word says the second layout on both sides, all others are zero
@@ -340,7 +340,7 @@ module _ (layout : Layout) (count at : ℕ) (is : count ≡ 8 * words_of layout)
   pub opens_new : {S : Type 0} → Ruled {S = S} layout (record { stopped = false; words = first_words count at }) (opening (first_words count at) [] (first_view false layout.processes []))
   unfolding blank first_world first_memory
   opens_new =
-      let b : Behind = blank layout (first_words count at) in
+      let b : Witness = blank layout (first_words count at) in
       let w : PlainWorld = world_on layout (first_words count at) b in
       let new : IsNew w = record { edition = Second; memory = new_words; situation = first_low layout; counted = refl; open_edits = λ p. refl } in
       let second : IsSecond w = record { cached = new_words.seen; persisted = new_words.kept; settled = λ q low moving. subst IsMoving (first_low layout q low) moving } in
@@ -374,20 +374,20 @@ may_split s seen layout start id p past v h f = subst (λ (u : View). Splits (Ru
 pub ended : (layout : Layout) (start : Start) (id : ℕ) (v : View) (ws xs : List ℕ) → Final (Seen (Ruled {S = ℕ} layout start) id v) ws xs → Closes layout start ws (In v.entries) (v.past ++ v.entries)
 ended layout start id v ws xs f =
     let h = f.1.0 in
-    let ran : Run h.behind.origin.opened h.behind.happened (world_on layout ws h.behind) = subst (λ (l : List ℕ). Run h.behind.origin.opened h.behind.happened (world_on layout l h.behind)) f.2 h.run in
-    let stops = rests layout ws h.behind (subst (λ (l : List ℕ). IsSound (world_on layout l h.behind)) f.2 h.sound) (subst (λ (l : List ℕ). IsSecond (world_on layout l h.behind)) f.2 h.second) ran h.bare h.stood h.from in record {
-      last = h.behind;
-      sound = subst (λ (l : List ℕ). IsSound (world_on layout l h.behind)) f.2 h.sound;
-      second = subst (λ (l : List ℕ). IsSecond (world_on layout l h.behind)) f.2 h.second;
+    let ran : Run h.witness.origin.opened h.witness.happened (world_on layout ws h.witness) = subst (λ (l : List ℕ). Run h.witness.origin.opened h.witness.happened (world_on layout l h.witness)) f.2 h.run in
+    let stops = rests layout ws h.witness (subst (λ (l : List ℕ). IsSound (world_on layout l h.witness)) f.2 h.sound) (subst (λ (l : List ℕ). IsSecond (world_on layout l h.witness)) f.2 h.second) ran h.bare h.stood h.from in record {
+      last = h.witness;
+      sound = subst (λ (l : List ℕ). IsSound (world_on layout l h.witness)) f.2 h.sound;
+      second = subst (λ (l : List ℕ). IsSecond (world_on layout l h.witness)) f.2 h.second;
       run = ran;
       bare = h.bare;
       stood = h.stood;
       from = h.from;
       opens = h.opens;
       made = h.made;
-      stands = λ e t. subst (λ (l : List ℕ). Stands layout l h.behind e) f.2 (h.knows id v f.1.1 e t).stands;
-      behind = stops.behind;
+      stands = λ e t. subst (λ (l : List ℕ). Stands layout l h.witness e) f.2 (h.knows id v f.1.1 e t).stands;
+      witness = stops.witness;
       stops = stops.by;
       rests = stops.rests;
-      told = λ e t. stops.told e (subst (λ (l : List ℕ). IsPast layout l h.behind e) f.2 (known_true {S = ℕ} layout start f.0 h id v f.1.1 e t));
+      call_events = λ e t. stops.call_events e (subst (λ (l : List ℕ). IsPast layout l h.witness e) f.2 (known_true {S = ℕ} layout start f.0 h id v f.1.1 e t));
     }

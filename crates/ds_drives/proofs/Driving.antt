@@ -20,11 +20,11 @@ use Rattle.std.specs.Prelude.{Some}
 use Rattle.ds_core.specs.declared.event.Event.{Event}
 use Rattle.ds_core.specs.declared.reply.Reply.{Reply}
 use Rattle.ds_drives.specs.declared.board.HistoryEntry.{HistoryEntry}
-use Rattle.ds_drives.specs.declared.board.Told.{Told}
-use Rattle.ds_drives.specs.declared.board.Told.TheVariants.{Began}
+use Rattle.ds_drives.specs.declared.board.CallEvent.{CallEvent}
+use Rattle.ds_drives.specs.declared.board.CallEvent.TheVariants.{Began}
 use Rattle.ds_drives.specs.Views.{In, lone, deeds_at}
 use Rattle.ds_drives.specs.Machines.{Grows}
-use Rattle.ds_drives.specs.Rule.{IsTold, Serves, Ready, Poised, class_in}
+use Rattle.ds_drives.specs.Rule.{IsAnswered, Serves, Ready, Poised, class_in}
 use Rattle.ds_drives.proofs.Histories.{grows_none}
 use Rattle.ds_state.specs.World.{PlainWorld}
 
@@ -64,12 +64,12 @@ room layout (Flush n) x s = s
 room layout Back x s = tt
 
 -- a seat that is poised has looked: it grew by nothing until now
-pub grows_poised : (layout : Layout) (begins : List Told) (me : Me ℕ View) (p : ℕ) (s : Situation) (x : List (BufferEntry ℕ)) → Poised layout begins me p s x → Grows p (deeds_at me) (deeds_at me) 0
+pub grows_poised : (layout : Layout) (begins : List CallEvent) (me : Me ℕ View) (p : ℕ) (s : Situation) (x : List (BufferEntry ℕ)) → Poised layout begins me p s x → Grows p (deeds_at me) (deeds_at me) 0
 grows_poised layout begins me p s x h = grows_none p (deeds_at me) h.seen (ap (λ (z : Me ℕ View). (deeds_at z).seen) h.at ∙ h.looked)
 
 -- a seat with one process, which may begin a call
-pub sits : (layout : Layout) (begins : List Told) (me : Me ℕ View) (seat : Seated) (q : ℕ) (now : Situation) → me ≡ (lone seat, []) → seat.process ≡ q → ((seen : List HistoryEntry) × (seat.deeds.seen ≡ Some seen))
-    → ((w : PlainWorld) (r : ℕ) (t : Told) → In begins t → IsTold w r t) → Ready layout seat q now [] begins → Poised layout begins me q now []
+pub sits : (layout : Layout) (begins : List CallEvent) (me : Me ℕ View) (seat : Seated) (q : ℕ) (now : Situation) → me ≡ (lone seat, []) → seat.process ≡ q → ((seen : List HistoryEntry) × (seat.deeds.seen ≡ Some seen))
+    → ((w : PlainWorld) (r : ℕ) (t : CallEvent) → In begins t → IsAnswered w r t) → Ready layout seat q now [] begins → Poised layout begins me q now []
 sits layout begins me seat q now alone own looked known ready = record {
   seat = seat;
   at = alone;
@@ -81,8 +81,8 @@ sits layout begins me seat q now alone own looked known ready = record {
 }
 
 -- that a call begins is reported, and says nothing of the world
-pub begins_known : (event : Event) (reply : Reply) (w : PlainWorld) (q : ℕ) (t : Told) → In (Began event reply ∷ []) t → IsTold w q t
-begins_known event reply w q t (inl is) = subst (IsTold w q) is tt
+pub begins_known : (event : Event) (reply : Reply) (w : PlainWorld) (q : ℕ) (t : CallEvent) → In (Began event reply ∷ []) t → IsAnswered w q t
+begins_known event reply w q t (inl is) = subst (IsAnswered w q) is tt
 begins_known event reply w q t (inr none) = absurd none
 
 -- ---- fuses

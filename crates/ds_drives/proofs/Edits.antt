@@ -37,17 +37,17 @@ use Rattle.ds_edit.proofs.Truth.{answer_true}
 use Rattle.ds_edit.proofs.Possible.{can_perform}
 use Rattle.ds_drives.specs.declared.board.Seated.{Seated}
 use Rattle.ds_drives.specs.declared.board.Deeds.{Deeds}
-use Rattle.ds_drives.specs.declared.board.Told.{Told}
-use Rattle.ds_drives.specs.declared.board.Told.TheVariants.{Edited}
+use Rattle.ds_drives.specs.declared.board.CallEvent.{CallEvent}
+use Rattle.ds_drives.specs.declared.board.CallEvent.TheVariants.{Edited}
 use Rattle.ds_drives.specs.Views.{second_rest, seated}
-use Rattle.ds_drives.specs.Rule.{put, Behind, world_on, IsSecond, IsTold, IsTrueTold, After, Ready}
+use Rattle.ds_drives.specs.Rule.{put, Witness, world_on, IsSecond, IsAnswered, IsTrueOutcome, After, Ready}
 use Rattle.ds_drives.specs.Machines.{Lawful}
 use Rattle.ds_drives.specs.EditRules.{IsGoing, landed_at, edit_rules}
 use Rattle.ds_drives.proofs.Words.{put_here, put_else}
 use Rattle.ds_drives.proofs.Seconds.{version_grows, noted_second}
-use Rattle.ds_drives.specs.History.{edit, edit_told}
-use Rattle.ds_drives.proofs.Histories.{told_own, told_else, begun_own, begun_else}
-use Rattle.ds_drives.proofs.Behinds.{Does, after_none, after_left, written, answered, kept_back, performed, serves, nothing_kept, came_to, Ends}
+use Rattle.ds_drives.specs.History.{edit, edit_answered}
+use Rattle.ds_drives.proofs.Histories.{answered_own, answered_else, begun_own, begun_else}
+use Rattle.ds_drives.proofs.Witnesses.{Does, after_none, after_left, written, answered, kept_back, performed, serves, nothing_kept, came_to, Ends}
 use Rattle.ds_drives.proofs.Machines.{lawful}
 
 after_going : (e : PlainEditCall) (s : Stage) (word : ℕ) → IsGoing s → after e s word ≡ Editing (record e { stage = edit_steps.next_at e s word })
@@ -59,7 +59,7 @@ landed_going e (Answer how) x held g = absurd g
 landed_going e _ x held g = refl
 
 -- a step that goes on reports nothing
-silent : (e : PlainEditCall) (s : Stage) → IsGoing s → edit_told e s ≡ []
+silent : (e : PlainEditCall) (s : Stage) → IsGoing s → edit_answered e s ≡ []
 silent e (Answer how) g = absurd g
 silent e _ g = refl
 
@@ -72,12 +72,12 @@ counted_own e (Swap noted) word d h = one (word == noted) h
     one false k = absurd (let l = k.1 in omega arith)
 counted_own e _ word d h = absurd (let l = h.1 in omega arith)
 
-true_told : (w : PlainWorld) (e : PlainEdit) (since : ℕ) (how : Outcome) → IsTrueOf w e since how → IsTrueTold w.counted e how
-true_told w e since Done h = h
-true_told w e since (Overtaken noted seen) h = h.0
+true_answered : (w : PlainWorld) (e : PlainEdit) (since : ℕ) (how : Outcome) → IsTrueOf w e since how → IsTrueOutcome w.counted e how
+true_answered w e since Done h = h
+true_answered w e since (Overtaken noted seen) h = h.0
 
 module _ (layout : Layout) where
-  module _ (words : List ℕ) (b : Behind) (e : PlainEditCall) (x : List (BufferEntry ℕ)) (long : length words ≡ 8 * words_of layout)
+  module _ (words : List ℕ) (b : Witness) (e : PlainEditCall) (x : List (BufferEntry ℕ)) (long : length words ≡ 8 * words_of layout)
       (sound : IsSound (world_on layout words b)) (low : e.process < layout.processes) (at : b.situation e.process ≡ Editing e) (same : b.buffer e.process ≡ x) where
     abbrev word : ℕ
     word = answered layout words (edit_steps.access_at e e.stage) x
@@ -85,14 +85,14 @@ module _ (layout : Layout) where
     abbrev said : Reply
     said = edit_reply (turn_at layout.processes e.number e.stage)
 
-    abbrev behind : Behind
-    behind = came_to layout b e.process (after e e.stage word) (kept_back layout words (edit_steps.access_at e e.stage) x) (b.counted ++ counted_at (edit_of e) e.stage word) (put b.open_edits e.process (open_edit_at (b.open_edits e.process) e.stage)) (record { before = world_on layout words b; event = Step e.process; reply = said })
+    abbrev witness : Witness
+    witness = came_to layout b e.process (after e e.stage word) (kept_back layout words (edit_steps.access_at e e.stage) x) (b.counted ++ counted_at (edit_of e) e.stage word) (put b.open_edits e.process (open_edit_at (b.open_edits e.process) e.stage)) (record { before = world_on layout words b; event = Step e.process; reply = said })
 
     abbrev old : PlainWorld
     old = world_on layout words b
 
     abbrev new : PlainWorld
-    new = world_on layout (written layout words (edit_steps.access_at e e.stage) x) behind
+    new = world_on layout (written layout words (edit_steps.access_at e e.stage) x) witness
 
     steps : Steps e word old new
     steps = record {
@@ -105,35 +105,35 @@ module _ (layout : Layout) where
       others_open_edits = λ q n. put_else b.open_edits e.process (open_edit_at (b.open_edits e.process) e.stage) q n;
     }
 
-    does : IsGoing e.stage → Does layout words (written layout words (edit_steps.access_at e e.stage) x) b behind e.process []
+    does : IsGoing e.stage → Does layout words (written layout words (edit_steps.access_at e e.stage) x) b witness e.process []
     does going = record {
       event = Step e.process;
       reply = said;
       moves = (low, edit (record { edit = e; mine = refl; at = at; word = word; steps = steps; is = refl }));
       origin = refl;
       happened = refl;
-      own = told_own e.process old said (Editing e) [] at (silent e e.stage going);
-      others = λ q n. told_else e.process q old said n;
+      own = answered_own e.process old said (Editing e) [] at (silent e e.stage going);
+      others = λ q n. answered_else e.process q old said n;
       low = low;
       open_others = steps.others_open_edits;
     }
 
     pub edit_step : IsGoing e.stage
-        → (b' : Behind) × After layout words (written layout words (edit_steps.access_at e e.stage) x) b b' e.process (Editing (edit_steps.got_at e word)) (kept_back layout words (edit_steps.access_at e e.stage) x) []
+        → (b' : Witness) × After layout words (written layout words (edit_steps.access_at e e.stage) x) b b' e.process (Editing (edit_steps.got_at e word)) (kept_back layout words (edit_steps.access_at e e.stage) x) []
     edit_step going = (
-      behind,
-      after_left layout words (written layout words (edit_steps.access_at e e.stage) x) b behind e.process (Editing (edit_steps.got_at e word)) (kept_back layout words (edit_steps.access_at e e.stage) x) []
+      witness,
+      after_left layout words (written layout words (edit_steps.access_at e e.stage) x) b witness e.process (Editing (edit_steps.got_at e word)) (kept_back layout words (edit_steps.access_at e e.stage) x) []
           (edit_leaves e word old new sound low at steps) (steps.situation ∙ after_going e e.stage word going) (put_here b.buffer e.process _ e.process refl) (λ q n. put_else b.buffer e.process _ q n)
           (version_grows old new.memory e.process (edit_steps.access_at e e.stage) word sound low steps.memory) (λ moving. moving) (does going),
     )
 
   -- the answer's step
-  ends : (s : Stage) (words : List ℕ) (b : Behind) (e : PlainEditCall) (x : List (BufferEntry ℕ)) → IsSound (world_on layout words b) → IsSecond (world_on layout words b) → e.process < layout.processes
+  ends : (s : Stage) (words : List ℕ) (b : Witness) (e : PlainEditCall) (x : List (BufferEntry ℕ)) → IsSound (world_on layout words b) → IsSecond (world_on layout words b) → e.process < layout.processes
       → b.situation e.process ≡ Editing (record e { stage = s }) → b.buffer e.process ≡ x → Ends layout words b e.process (landed_at e s x)
   ends (Answer how) words b e x sound second low at same =
       let e' : PlainEditCall = record e { stage = Answer how } in
       let noted : rest_behind e' ≡ second_rest (e.number + 1) = knows (e.number + 1) (noted_second (world_on layout words b) e.edition second (subst (λ (z : Situation). LayoutFits (world_on layout words b) e.process z) at (sound.layouts e.process low))) in
-      let b' : Behind = record b {
+      let b' : Witness = record b {
         situation = put b.situation e.process (Idle (second_rest (e.number + 1)));
         open_edits = put b.open_edits e.process None;
         happened = record { before = world_on layout words b; event = Step e.process; reply = edit_reply (turn_at layout.processes e.number (Answer how)) } ∷ b.happened;
@@ -149,35 +149,35 @@ module _ (layout : Layout) where
         open_edits = put_here b.open_edits e.process None e.process refl;
         others_open_edits = λ q n. put_else b.open_edits e.process None q n;
       } in
-      let told_now = answer_true e' how w sound low refl at in
+      let answered_now = answer_true e' how w sound low refl at in
       let does_so : Does layout words words b b' e.process (Edited e' how ∷ []) = record {
         event = Step e.process;
         reply = edit_reply (turn_at layout.processes e.number (Answer how));
         moves = (low, edit (record { edit = e'; mine = refl; at = at; word = 0; steps = t; is = refl }));
         origin = refl;
         happened = refl;
-        own = told_own e.process w (edit_reply (turn_at layout.processes e.number (Answer how))) (Editing e') (Edited e' how ∷ []) at refl;
-        others = λ q n. told_else e.process q w (edit_reply (turn_at layout.processes e.number (Answer how))) n;
+        own = answered_own e.process w (edit_reply (turn_at layout.processes e.number (Answer how))) (Editing e') (Edited e' how ∷ []) at refl;
+        others = λ q n. answered_else e.process q w (edit_reply (turn_at layout.processes e.number (Answer how))) n;
         low = low;
         open_others = t.others_open_edits;
       } in
       let aft : After layout words words b b' e.process (Idle (second_rest (e.number + 1))) x (Edited e' how ∷ []) = after_left layout words words b b' e.process (Idle (second_rest (e.number + 1))) x (Edited e' how ∷ []) (edit_leaves e' 0 w w' sound low at t) (put_here b.situation e.process (Idle (second_rest (e.number + 1))) e.process refl) same (λ q n. refl) (le_refl _) (λ moving. moving) does_so in
       record {
-        behind = b';
+        witness = b';
         now = Idle (second_rest (e.number + 1));
         buffer = x;
         more = Edited e' how ∷ [];
         after = aft;
         lands = λ held. refl;
-        told = λ u inside. elim inside [
-          | inl new ↦ subst (λ (z : Told). IsTold w' e.process z) new (record { own = refl; spent = answer_law w e' how sound low at refl; holds = true_told w (edit_of e) told_now.since how told_now.holds })
+        call_events = λ u inside. elim inside [
+          | inl new ↦ subst (λ (z : CallEvent). IsAnswered w' e.process z) new (record { own = refl; spent = answer_law w e' how sound low at refl; holds = true_answered w (edit_of e) answered_now.since how answered_now.holds })
           | inr none ↦ absurd none
         ];
       }
     where
       knows : (number : ℕ) → e.edition ≡ Second → (let r : Rest = record { number = number; edition = e.edition } in r) ≡ second_rest number
       knows number is = ap (λ (d : Edition). (let r : Rest = record { number = number; edition = d } in r)) is
-  ends s words b e x sound second low at same = record { behind = b; now = _; buffer = x; more = []; after = after_none layout words b e.process _ x sound at same; lands = λ held. refl; told = λ u none. absurd none }
+  ends s words b e x sound second low at same = record { witness = b; now = _; buffer = x; more = []; after = after_none layout words b e.process _ x sound at same; lands = λ held. refl; call_events = λ u none. absurd none }
 
   apart : (s : Stage) (how : Outcome) → IsGoing s → s ≡ Answer how → ⊥
   apart s how go is = subst IsGoing is go
@@ -200,7 +200,7 @@ module _ (layout : Layout) where
   pub edit_begins : (seat : Seated) (e : PlainEditCall) → seat.now ≡ Idle (second_rest e.number) → e.edition ≡ Second → IsEdit e → IsSheetOf layout e → HasRefs layout.shape e.text e.refs → RefersTo layout.shape e.text e.refs → e.stage ≡ StoreHeader → Ready layout seat e.process (Editing e) [] (edit_rules.begins layout e ∷ [])
   edit_begins seat e idle edition is sheet refs only first words b sound second low at same =
       let asked : PlainRequest = record { process = e.process; cell = cell_at layout.shape e.cell; text = e.text } in
-      let b' : Behind = record b {
+      let b' : Witness = record b {
         situation = put b.situation e.process (Editing e);
         open_edits = put b.open_edits e.process (Some (record { edit = edit_of e; since = length b.counted }));
         happened = record { before = world_on layout words b; event = BeginEdit asked; reply = Begun e.number } ∷ b.happened;
@@ -218,8 +218,8 @@ module _ (layout : Layout) where
         open_edits = put_here b.open_edits e.process (Some (record { edit = edit_of e; since = length b.counted })) e.process refl;
         others_open_edits = λ q n. put_else b.open_edits e.process (Some (record { edit = edit_of e; since = length b.counted })) q n;
       } in
-      let told : List Told = edit_rules.begins layout e ∷ [] in
-      let does_so : Does layout words words b b' e.process told = record {
+      let returned : List CallEvent = edit_rules.begins layout e ∷ [] in
+      let does_so : Does layout words words b b' e.process call_events = record {
         event = BeginEdit asked;
         reply = Begun e.number;
         moves = (
@@ -233,11 +233,11 @@ module _ (layout : Layout) where
         );
         origin = refl;
         happened = refl;
-        own = begun_own e.process told;
-        others = λ q n. begun_else e.process q told n;
+        own = begun_own e.process returned;
+        others = λ q n. begun_else e.process q returned n;
         low = low;
         open_others = begins.others_open_edits;
       } in (
         b',
-        after_left layout words words b b' e.process (Editing e) [] told (begin_leaves e (world_on layout words b) (world_on layout words b') sound is sheet refs begins) begins.situation (nothing_kept layout (b.buffer e.process) fits.buffer) (λ q n. refl) (le_refl _) (λ moving. moving) does_so,
+        after_left layout words words b b' e.process (Editing e) [] returned (begin_leaves e (world_on layout words b) (world_on layout words b') sound is sheet refs begins) begins.situation (nothing_kept layout (b.buffer e.process) fits.buffer) (λ q n. refl) (le_refl _) (λ moving. moving) does_so,
       )

@@ -1,7 +1,7 @@
 pub mod Words
 pub mod Seconds
 pub mod Histories
-pub mod Behinds
+pub mod Witnesses
 pub mod Seating
 pub mod Machines
 pub mod Resting

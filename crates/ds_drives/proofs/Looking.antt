@@ -13,7 +13,7 @@ use Rattle.ds_drives.specs.declared.board.Seated.{Seated}
 use Rattle.ds_drives.specs.declared.board.View.{View}
 use Rattle.ds_drives.specs.History.{Happened, Extends, history_of}
 use Rattle.ds_drives.specs.Looks.{looking, looked, Looks}
-use Rattle.ds_drives.specs.Rule.{Behind, Start, all_of, IsBeginning, HasSeen, Fits, Ruled}
+use Rattle.ds_drives.specs.Rule.{Witness, Start, all_of, IsBeginning, HasSeen, Fits, Ruled}
 use Rattle.ds_drives.specs.Views.{In, newcomer, newcomers_from, seen_so_far}
 use Rattle.ds_drives.proofs.Seating.{looked_has, seated_set}
 use Rattle.ds_drives.proofs.Histories.{history_both, calls_are, seen_all}
@@ -39,25 +39,25 @@ newcomers_look s was seen p zero = refl
 newcomers_look s was seen p (suc n) = ap (λ (l : List Seated). looking seen (newcomer s was p) ∷ l) (newcomers_look s was seen (suc p) n)
 
 module _ (layout : Layout) (start : Start) where
-  sees_all : (words : List ℕ) (b : Behind) (f : ℕ → ℕ) (i : ℕ) (e : Seated) → Fits layout words b f i e → Fits layout words b f i (looking (history_of (all_of b)) e)
+  sees_all : (words : List ℕ) (b : Witness) (f : ℕ → ℕ) (i : ℕ) (e : Seated) → Fits layout words b f i e → Fits layout words b f i (looking (history_of (all_of b)) e)
   sees_all words b f i e h = record {
     low = h.low;
     mine = h.mine;
     stands = record {
       now = h.stands.now;
       buffer = h.stands.buffer;
-      told = h.stands.told;
+      call_events = h.stands.call_events;
       deeds = h.stands.deeds;
       saw = λ seen is. subst (HasSeen (all_of b) e.process) (ap seen_so_far is) (seen_all (all_of b) e.process);
     };
   }
 
   still_ruled : (s : State ℕ View) (h : Ruled layout start s) (id : ℕ) (v : View) (kept : List Seated) → ((e : Seated) → In kept e → In v.past e) → get_elem? s.views id ≡ some v
-      → Ruled layout start (record { words = s.words; homes = s.homes; views = set s.views id (record { entries = looked (history_of (all_of h.behind)) v.entries; past = kept }) })
+      → Ruled layout start (record { words = s.words; homes = s.homes; views = set s.views id (record { entries = looked (history_of (all_of h.witness)) v.entries; past = kept }) })
   still_ruled s h id v kept fewer at =
-      let seen : List HistoryEntry = history_of (all_of h.behind) in
+      let seen : List HistoryEntry = history_of (all_of h.witness) in
       let new : View = record { entries = looked seen v.entries; past = kept } in record {
-        behind = h.behind;
+        witness = h.witness;
         owner = h.owner;
         sound = h.sound;
         second = h.second;
@@ -72,7 +72,7 @@ module _ (layout : Layout) (start : Start) where
         knows = λ j u there x inside. ⊎_elim
             (λ (t : (j ≡ id) × (new ≡ u)).
             let w = was_in seen v.entries x (subst (λ (z : View). In z.entries x) (sym t.1) inside) in
-            subst (λ (z : ℕ × Seated). Fits layout s.words h.behind h.owner z.0 z.1) (λ i. (sym t.0 i, w.is i)) (sees_all s.words h.behind h.owner id w.e (h.knows id v at w.e w.there)))
+            subst (λ (z : ℕ × Seated). Fits layout s.words h.witness h.owner z.0 z.1) (λ i. (sym t.0 i, w.is i)) (sees_all s.words h.witness h.owner id w.e (h.knows id v at w.e w.there)))
             (λ (t : (j ≢ id) × (get_elem? s.views j ≡ some u)). h.knows j u t.1 x inside)
             (at_set s.views id j new u there);
         past = λ j u there x inside. ⊎_elim
@@ -84,7 +84,7 @@ module _ (layout : Layout) (start : Start) where
   -- the rule allows a look, after which the seat remembers these others of those that it did before
   pub looks : (slots id : ℕ) (v : View) (kept : List Seated) → ((e : Seated) → In kept e → In v.past e) → Allows (Ruled {S = ℕ} layout start) slots id (v, []) 0 (λ n. n) (λ n m'. (m'.1 ≡ []) × Looks v kept m'.0)
   looks slots id v kept fewer s h homes at small =
-      let b : Behind = h.behind in
+      let b : Witness = h.witness in
       let seen : List HistoryEntry = history_of (all_of b) in
       let new : View = record { entries = looked seen v.entries; past = kept } in (
         new,

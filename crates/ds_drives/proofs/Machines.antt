@@ -14,37 +14,37 @@ use Rattle.ds_state.specs.Sound.{IsSound}
 use Rattle.ds_state.specs.World.{PlainWorld}
 use Rattle.ds_drives.specs.declared.board.Seated.{Seated}
 use Rattle.ds_drives.specs.declared.board.Deeds.{Deeds}
-use Rattle.ds_drives.specs.declared.board.Told.{Told}
+use Rattle.ds_drives.specs.declared.board.CallEvent.{CallEvent}
 use Rattle.ds_drives.specs.declared.board.View.{View}
-use Rattle.ds_drives.specs.Table.{word_of, change, answer, told, oldest_of}
-use Rattle.ds_drives.specs.Views.{In, lone, seated, steps_later, told_more, deeds_at, seen_so_far}
+use Rattle.ds_drives.specs.Table.{word_of, change, answer, returned, oldest_of}
+use Rattle.ds_drives.specs.Views.{In, lone, seated, steps_later, answered_more, deeds_at, seen_so_far}
 use Rattle.ds_drives.specs.Rules.{Rules, Came, still, turns}
-use Rattle.ds_drives.specs.Rule.{Origin, OpensWith, Start, IsOrigin, Behind, world_on, all_of, IsSecond, HasSeen, Fits, Ruled, IsTold, class_in, After, Ready, Poised}
+use Rattle.ds_drives.specs.Rule.{Origin, OpensWith, Start, IsOrigin, Witness, world_on, all_of, IsSecond, HasSeen, Fits, Ruled, IsAnswered, class_in, After, Ready, Poised}
 use Rattle.ds_drives.specs.Machines.{asked, due, stepped, left, IsServed, MayStep, Drives, IsBroken, unbegun, within, Lawful}
 use Rattle.ds_drives.specs.declared.board.HistoryEntry.{HistoryEntry}
-use Rattle.ds_drives.specs.History.{Happened, Run, Stood, told_by, history_of}
-use Rattle.ds_drives.proofs.Histories.{run_both, told_both, stood_both, seen_still, seen_all, grown}
-use Rattle.ds_drives.proofs.Words.{answer_told, buffer_told}
+use Rattle.ds_drives.specs.History.{Happened, Run, Stood, answered_by, history_of}
+use Rattle.ds_drives.proofs.Histories.{run_both, answered_both, stood_both, seen_still, seen_all, grown}
+use Rattle.ds_drives.proofs.Words.{answer_answered, buffer_answered}
 use Rattle.ds_drives.proofs.Seating.{seated_set}
-use Rattle.ds_drives.proofs.Behinds.{told_on, past_on, all_on, after_both, read, written, answered, kept_back, Ends}
+use Rattle.ds_drives.proofs.Witnesses.{answered_on, past_on, all_on, after_both, read, written, answered, kept_back, Ends}
 
 -- a seat that has the one process goes from e to e', as the world does
-turns_to : {S : Type 0} (layout : Layout) (start : Start) (s : State S View) (h : Ruled layout start s) (b : Behind) (id i n : ℕ) (e e' : Seated) (ts : List Told) → get_elem? s.views id ≡ some (lone e) → After layout s.words (set s.words i n) h.behind b e.process e'.now e'.buffer ts → e'.process ≡ e.process → e'.deeds.told ≡ ts ++ e.deeds.told
-    → ((t : Told) → In e'.deeds.told t → IsTold (world_on layout (set s.words i n) b) e.process t)
+turns_to : {S : Type 0} (layout : Layout) (start : Start) (s : State S View) (h : Ruled layout start s) (b : Witness) (id i n : ℕ) (e e' : Seated) (ts : List CallEvent) → get_elem? s.views id ≡ some (lone e) → After layout s.words (set s.words i n) h.witness b e.process e'.now e'.buffer ts → e'.process ≡ e.process → e'.deeds.call_events ≡ ts ++ e.deeds.call_events
+    → ((t : CallEvent) → In e'.deeds.call_events t → IsAnswered (world_on layout (set s.words i n) b) e.process t)
     → ((seen : List HistoryEntry) → e'.deeds.seen ≡ Some seen → HasSeen (all_of b) e.process seen)
     → Ruled layout start record { words = set s.words i n; homes = s.homes; views = set s.views id (lone e') }
-turns_to layout start s h b id i n e e' ts at after own deeds_now told_now saw_now = let mine : Fits layout s.words h.behind h.owner id e = h.knows id (lone e) at e (inl refl) in record {
-  behind = b;
+turns_to layout start s h b id i n e e' ts at after own deeds_now answered_now saw_now = let mine : Fits layout s.words h.witness h.owner id e = h.knows id (lone e) at e (inl refl) in record {
+  witness = b;
   owner = h.owner;
   sound = after.sound;
   long = length-set s.words i n ∙ h.long;
   run = subst (λ (z : Origin × List Happened). Run z.0.opened z.1 (world_on layout (set s.words i n) b)) (λ k. (sym after.origin k, sym after.happened k))
-      (run_both h.behind.origin.opened (world_on layout s.words h.behind) (world_on layout (set s.words i n) b) h.behind.happened after.more h.run after.run);
+      (run_both h.witness.origin.opened (world_on layout s.words h.witness) (world_on layout (set s.words i n) b) h.witness.happened after.more h.run after.run);
   from = subst IsOrigin (sym after.origin) h.from;
   opens = subst (OpensWith layout start.words) (sym after.origin) h.opens;
   made = λ new. ap (λ (o : Origin). o.older) after.origin ∙ h.made new;
   bare = after.bare h.bare;
-  stood = subst Stood (sym after.happened) (stood_both after.more h.behind.happened (after.stood h.sound h.bare) h.stood);
+  stood = subst Stood (sym after.happened) (stood_both after.more h.witness.happened (after.stood h.sound h.bare) h.stood);
   second = after.second h.second;
   all = λ p low. seated_set s.views id (lone e) at p (lone e') (λ k. (e', inl refl, own ∙ (⊎_elim (λ same. ap (λ (x : Seated). x.process) same ∙ k.2) (λ none. absurd none) k.1))) (h.all p low);
   knows = λ j v there x inside. ⊎_elim
@@ -56,8 +56,8 @@ turns_to layout start s h b id i n e e' ts at after own deeds_now told_now saw_n
         stands = record {
           now = ap b.situation own ∙ after.now;
           buffer = ap b.buffer own ∙ after.buffer;
-          told = λ u here. subst (λ (p : ℕ). IsTold (world_on layout (set s.words i n) b) p u) (sym own) (told_now u here);
-          deeds = deeds_now ∙ (λ k. sym after.own k ++ mine.stands.deeds k) ∙ sym (told_both e.process after.more h.behind.happened) ∙ (λ k. told_by (sym own k) (sym after.happened k));
+          call_events = λ u here. subst (λ (p : ℕ). IsAnswered (world_on layout (set s.words i n) b) p u) (sym own) (answered_now u here);
+          deeds = deeds_now ∙ (λ k. sym after.own k ++ mine.stands.deeds k) ∙ sym (answered_both e.process after.more h.witness.happened) ∙ (λ k. answered_by (sym own k) (sym after.happened k));
           saw = λ seen is. subst (λ (p : ℕ). HasSeen (all_of b) p seen) (sym own) (saw_now seen is);
         };
       }))
@@ -71,87 +71,87 @@ turns_to layout start s h b id i n e e' ts at after own deeds_now told_now saw_n
         stands = record {
           now = after.others x.process other ∙ f.stands.now;
           buffer = after.other_buffers x.process other ∙ f.stands.buffer;
-          told = λ u here. told_on layout s.words (set s.words i n) h.behind b e.process e'.now e'.buffer ts after x.process u (f.stands.told u here);
-          deeds = f.stands.deeds ∙ (λ k. sym (after.others_told x.process other) k ++ told_by x.process h.behind.happened) ∙ sym (told_both x.process after.more h.behind.happened) ∙ ap (told_by x.process) (sym after.happened);
-          saw = λ seen is. seen_still after.more (all_of h.behind) (all_of b) x.process seen (all_on layout s.words (set s.words i n) h.behind b e.process e'.now e'.buffer ts after) (after.others_told x.process other) (f.stands.saw seen is);
+          call_events = λ u here. answered_on layout s.words (set s.words i n) h.witness b e.process e'.now e'.buffer ts after x.process u (f.stands.call_events u here);
+          deeds = f.stands.deeds ∙ (λ k. sym (after.others_answered x.process other) k ++ answered_by x.process h.witness.happened) ∙ sym (answered_both x.process after.more h.witness.happened) ∙ ap (answered_by x.process) (sym after.happened);
+          saw = λ seen is. seen_still after.more (all_of h.witness) (all_of b) x.process seen (all_on layout s.words (set s.words i n) h.witness b e.process e'.now e'.buffer ts after) (after.others_answered x.process other) (f.stands.saw seen is);
         };
       })
       (at_set s.views id j (lone e') v there);
   past = λ j v there x inside. ⊎_elim
       (λ (t : (j ≡ id) × (lone e' ≡ v)). absurd (subst (λ (z : View). In z.past x) (sym t.1) inside))
-      (λ (t : (j ≢ id) × (get_elem? s.views j ≡ some v)). past_on layout s.words (set s.words i n) h.behind b e.process e'.now e'.buffer ts after x (h.past j v t.1 x inside))
+      (λ (t : (j ≢ id) × (get_elem? s.views j ≡ some v)). past_on layout s.words (set s.words i n) h.witness b e.process e'.now e'.buffer ts after x (h.past j v t.1 x inside))
       (at_set s.views id j (lone e') v there);
 }
 
 -- what stands in two lists together is known where it is in each
-in_both : (xs ys : List Told) (P : Told → Type 0) → ((t : Told) → In xs t → P t) → ((t : Told) → In ys t → P t) → (t : Told) → In (xs ++ ys) t → P t
+in_both : (xs ys : List CallEvent) (P : CallEvent → Type 0) → ((t : CallEvent) → In xs t → P t) → ((t : CallEvent) → In ys t → P t) → (t : CallEvent) → In (xs ++ ys) t → P t
 in_both [] ys P one two t inside = two t inside
 in_both (x ∷ xs) ys P one two t inside = ⊎_elim (λ is. one t (inl is)) (λ later. in_both xs ys P (λ u here. one u (inr here)) two t later) inside
 
 module _ {C E : Type 0} (r : Rules C E) (layout : Layout)
     (same : (c : C) (n : ℕ) → r.process (r.next c n) ≡ r.process c)
-    (step : (words : List ℕ) (b : Behind) (c : C) (x : List (BufferEntry ℕ)) → length words ≡ 8 * words_of layout → IsSound (world_on layout words b) → r.process c < layout.processes
+    (step : (words : List ℕ) (b : Witness) (c : C) (x : List (BufferEntry ℕ)) → length words ≡ 8 * words_of layout → IsSound (world_on layout words b) → r.process c < layout.processes
     → b.situation (r.process c) ≡ r.doing c → b.buffer (r.process c) ≡ x → r.fits layout c → r.goes c
-    → (b' : Behind) × After layout words (written layout words (r.access layout c) x) b b' (r.process c) (r.doing (r.next c (answered layout words (r.access layout c) x))) (kept_back layout words (r.access layout c) x) [])
-    (turn : (words : List ℕ) (b : Behind) (c d : C) (x : List (BufferEntry ℕ)) → IsSound (world_on layout words b) → r.process c < layout.processes → b.situation (r.process c) ≡ r.doing c → b.buffer (r.process c) ≡ x → r.turns layout c d
-    → (b' : Behind) × After layout words words b b' (r.process c) (r.doing d) x [])
+    → (b' : Witness) × After layout words (written layout words (r.access layout c) x) b b' (r.process c) (r.doing (r.next c (answered layout words (r.access layout c) x))) (kept_back layout words (r.access layout c) x) [])
+    (turn : (words : List ℕ) (b : Witness) (c d : C) (x : List (BufferEntry ℕ)) → IsSound (world_on layout words b) → r.process c < layout.processes → b.situation (r.process c) ≡ r.doing c → b.buffer (r.process c) ≡ x → r.turns layout c d
+    → (b' : Witness) × After layout words words b b' (r.process c) (r.doing d) x [])
     (kin : (c d : C) → r.turns layout c d → r.process d ≡ r.process c)
     (kept : (first c : C) (n : ℕ) → r.stays first c → r.stays first (r.next c n))
     (own : (first c : C) → r.stays first c → r.process c ≡ r.process first)
-    (lands : (words : List ℕ) (b : Behind) (c0 c : C) (n : ℕ) (x : List (BufferEntry ℕ)) → r.fits layout c0 → r.goes c0 → c ≡ r.next c0 n → IsSound (world_on layout words b) → IsSecond (world_on layout words b) → r.process c < layout.processes
+    (lands : (words : List ℕ) (b : Witness) (c0 c : C) (n : ℕ) (x : List (BufferEntry ℕ)) → r.fits layout c0 → r.goes c0 → c ≡ r.next c0 n → IsSound (world_on layout words b) → IsSecond (world_on layout words b) → r.process c < layout.processes
     → b.situation (r.process c) ≡ r.doing c → b.buffer (r.process c) ≡ x → Ends layout words b (r.process c) (r.land c x))
     (going : (c d : C) (x : List (BufferEntry ℕ)) (ts : Deeds) → r.turns layout c d → r.goes d → r.land c x ts ≡ seated (r.process c) (r.doing c) x ts)
     (over : (c d : C) (end : E) → r.turns layout c d → r.ends d end → c ≡ d)
     (apart : (c : C) (end : E) → r.goes c → r.ends c end → ⊥)
-    (can : (words : List ℕ) (b : Behind) (c : C) (x : List (BufferEntry ℕ)) → IsSound (world_on layout words b) → r.process c < layout.processes
+    (can : (words : List ℕ) (b : Witness) (c : C) (x : List (BufferEntry ℕ)) → IsSound (world_on layout words b) → r.process c < layout.processes
     → b.situation (r.process c) ≡ r.doing c → b.buffer (r.process c) ≡ x → r.fits layout c → IsServed r layout c x) where
-  may_step : (start : Start) (slots id : ℕ) (begins : List Told) (seat : Seated) (c : C) (x : List (BufferEntry ℕ)) → r.fits layout c → r.goes c → seat.process ≡ r.process c → (seen : List HistoryEntry) → seat.deeds.seen ≡ Some seen
-      → ((w : PlainWorld) (q : ℕ) (t : Told) → In begins t → IsTold w q t) → Ready layout seat (r.process c) (r.doing c) x begins
+  may_step : (start : Start) (slots id : ℕ) (begins : List CallEvent) (seat : Seated) (c : C) (x : List (BufferEntry ℕ)) → r.fits layout c → r.goes c → seat.process ≡ r.process c → (seen : List HistoryEntry) → seat.deeds.seen ≡ Some seen
+      → ((w : PlainWorld) (q : ℕ) (t : CallEvent) → In begins t → IsAnswered w q t) → Ready layout seat (r.process c) (r.doing c) x begins
       → MayStep r layout start slots id begins (lone seat, []) c x
   may_step start slots id begins seat c x fits go own_process seen looked known ready s h homes at small =
       let p : ℕ = r.process c in
       let a : Access ℕ = asked r layout c in
-      let fit : Fits layout s.words h.behind h.owner id seat = h.knows id (lone seat) at seat (inl refl) in
+      let fit : Fits layout s.words h.witness h.owner id seat = h.knows id (lone seat) at seat (inl refl) in
       let low : p < layout.processes = subst (λ (q : ℕ). q < layout.processes) own_process fit.low in
-      let begun = ready s.words h.behind h.sound h.second low (ap h.behind.situation (sym own_process) ∙ fit.stands.now) (ap h.behind.buffer (sym own_process) ∙ fit.stands.buffer) in
+      let begun = ready s.words h.witness h.sound h.second low (ap h.witness.situation (sym own_process) ∙ fit.stands.now) (ap h.witness.buffer (sym own_process) ∙ fit.stands.buffer) in
       let n : ℕ = read layout s.words (r.access layout c) x in
-      let k : ℕ = told a (oldest_of x) n in
+      let k : ℕ = returned a (oldest_of x) n in
       let words2 : List ℕ = written layout s.words (r.access layout c) x in
       let taken = step s.words begun.0 c x h.long begun.1.sound low begun.1.now begun.1.buffer fits go in
-      let b2 : Behind = taken.0 in
+      let b2 : Witness = taken.0 in
       let c2 : C = stepped r layout c k in
       let x2 : List (BufferEntry ℕ) = left r layout c x k in
       let p2 : r.process c2 ≡ p = same c (answer a k) in
-      let both = after_both layout s.words s.words words2 h.behind begun.0 b2 p (r.doing c) (r.doing (r.next c (answer a n))) x (kept_back layout s.words (r.access layout c) x) begins [] begun.1 taken.1 in
+      let both = after_both layout s.words s.words words2 h.witness begun.0 b2 p (r.doing c) (r.doing (r.next c (answer a n))) x (kept_back layout s.words (r.access layout c) x) begins [] begun.1 taken.1 in
       let low2 : r.process c2 < layout.processes = subst (λ (q : ℕ). q < layout.processes) (sym p2) low in
-      let now2 : b2.situation (r.process c2) ≡ r.doing c2 = ap b2.situation p2 ∙ (taken.1.now ∙ ap (λ (m : ℕ). r.doing (r.next c m)) (sym (answer_told a x n))) in
-      let buffer2 : b2.buffer (r.process c2) ≡ x2 = ap b2.buffer p2 ∙ (taken.1.buffer ∙ sym (buffer_told (class_in layout) a x n)) in
+      let now2 : b2.situation (r.process c2) ≡ r.doing c2 = ap b2.situation p2 ∙ (taken.1.now ∙ ap (λ (m : ℕ). r.doing (r.next c m)) (sym (answer_answered a x n))) in
+      let buffer2 : b2.buffer (r.process c2) ≡ x2 = ap b2.buffer p2 ∙ (taken.1.buffer ∙ sym (buffer_answered (class_in layout) a x n)) in
       let end = lands words2 b2 c c2 (answer a k) x2 fits go refl taken.1.sound (both.second h.second) low2 now2 buffer2 in
-      let b3 : Behind = end.behind in
-      let deeds2 : Deeds = steps_later (told_more seat.deeds begins) 1 (history_of (all_of b3)) in
-      let e' : Seated = seated p end.now end.buffer (told_more deeds2 end.more) in
-      let lands_so : r.land c2 x2 deeds2 ≡ e' = end.lands deeds2 ∙ ap (λ (q : ℕ). seated q end.now end.buffer (told_more deeds2 end.more)) p2 in
+      let b3 : Witness = end.witness in
+      let deeds2 : Deeds = steps_later (answered_more seat.deeds begins) 1 (history_of (all_of b3)) in
+      let e' : Seated = seated p end.now end.buffer (answered_more deeds2 end.more) in
+      let lands_so : r.land c2 x2 deeds2 ≡ e' = end.lands deeds2 ∙ ap (λ (q : ℕ). seated q end.now end.buffer (answered_more deeds2 end.more)) p2 in
       let last : After layout words2 words2 b2 b3 p end.now end.buffer end.more = subst (λ (q : ℕ). After layout words2 words2 b2 b3 q end.now end.buffer end.more) p2 end.after in
-      let whole : After layout s.words words2 h.behind b3 p end.now end.buffer (end.more ++ begins) = after_both layout s.words words2 words2 h.behind b2 b3 p (r.doing (r.next c (answer a n))) end.now (kept_back layout s.words (r.access layout c) x) end.buffer begins end.more both last in
-      let deeds_now : e'.deeds.told ≡ (end.more ++ begins) ++ seat.deeds.told = sym (append_assoc end.more begins seat.deeds.told) in
-      let told_now : (u : Told) → In e'.deeds.told u → IsTold (world_on layout words2 b3) seat.process u =
-      in_both end.more (begins ++ seat.deeds.told) (IsTold (world_on layout words2 b3) seat.process)
-      (λ u here. subst (λ (q : ℕ). IsTold (world_on layout words2 b3) q u) (p2 ∙ sym own_process) (end.told u here))
-      (in_both begins seat.deeds.told (IsTold (world_on layout words2 b3) seat.process) (known (world_on layout words2 b3) seat.process)
-      (λ u here. told_on layout s.words words2 h.behind b3 p end.now end.buffer (end.more ++ begins) whole seat.process u (fit.stands.told u here))) in
+      let whole : After layout s.words words2 h.witness b3 p end.now end.buffer (end.more ++ begins) = after_both layout s.words words2 words2 h.witness b2 b3 p (r.doing (r.next c (answer a n))) end.now (kept_back layout s.words (r.access layout c) x) end.buffer begins end.more both last in
+      let deeds_now : e'.deeds.call_events ≡ (end.more ++ begins) ++ seat.deeds.call_events = sym (append_assoc end.more begins seat.deeds.call_events) in
+      let answered_now : (u : CallEvent) → In e'.deeds.call_events u → IsAnswered (world_on layout words2 b3) seat.process u =
+      in_both end.more (begins ++ seat.deeds.call_events) (IsAnswered (world_on layout words2 b3) seat.process)
+      (λ u here. subst (λ (q : ℕ). IsAnswered (world_on layout words2 b3) q u) (p2 ∙ sym own_process) (end.call_events u here))
+      (in_both begins seat.deeds.call_events (IsAnswered (world_on layout words2 b3) seat.process) (known (world_on layout words2 b3) seat.process)
+      (λ u here. answered_on layout s.words words2 h.witness b3 p end.now end.buffer (end.more ++ begins) whole seat.process u (fit.stands.call_events u here))) in
       let saw_now : (late : List HistoryEntry) → e'.deeds.seen ≡ Some late → HasSeen (all_of b3) seat.process late =
       λ late is. subst (HasSeen (all_of b3) seat.process) (ap seen_so_far is) (seen_all (all_of b3) seat.process) in
-      let before : HasSeen (all_of h.behind) p seen = subst (λ (q : ℕ). HasSeen (all_of h.behind) q seen) own_process (fit.stands.saw seen looked) in (
+      let before : HasSeen (all_of h.witness) p seen = subst (λ (q : ℕ). HasSeen (all_of h.witness) q seen) own_process (fit.stands.saw seen looked) in (
         lone e',
         keeps,
         tt,
-        turns_to layout start s h b3 id (word_of a (oldest_of x)) (change a (oldest_of x) n) seat e' (end.more ++ begins) at (subst (λ (q : ℕ). After layout s.words words2 h.behind b3 q end.now end.buffer (end.more ++ begins)) (sym own_process) whole) (sym own_process) deeds_now told_now saw_now,
+        turns_to layout start s h b3 id (word_of a (oldest_of x)) (change a (oldest_of x) n) seat e' (end.more ++ begins) at (subst (λ (q : ℕ). After layout s.words words2 h.witness b3 q end.now end.buffer (end.more ++ begins)) (sym own_process) whole) (sym own_process) deeds_now answered_now saw_now,
         (
           refl,
           record {
             seen = history_of (all_of b3);
             at = ap lone (sym lands_so);
-            grows = grown p seat.deeds e'.deeds whole.more (all_of h.behind) (all_of b3) (end.more ++ begins) seen 1 looked before (all_on layout s.words words2 h.behind b3 p end.now end.buffer (end.more ++ begins) whole) whole.own refl deeds_now refl;
+            grows = grown p seat.deeds e'.deeds whole.more (all_of h.witness) (all_of b3) (end.more ++ begins) seen 1 looked before (all_on layout s.words words2 h.witness b3 p end.now end.buffer (end.more ++ begins) whole) whole.own refl deeds_now refl;
             serves = λ d turned good.
                 let next = turn words2 b2 c2 d x2 taken.1.sound low2 now2 buffer2 turned in
                 let q : r.process d ≡ r.process c2 = kin c2 d turned in
@@ -160,7 +160,7 @@ module _ {C E : Type 0} (r : Rules C E) (layout : Layout)
         ),
       )
 
-  on_poised : (start : Start) (slots id : ℕ) (begins : List Told) (me : Me ℕ View) (c : C) (x : List (BufferEntry ℕ)) → r.fits layout c → r.goes c → Poised layout begins me (r.process c) (r.doing c) x → MayStep r layout start slots id begins me c x
+  on_poised : (start : Start) (slots id : ℕ) (begins : List CallEvent) (me : Me ℕ View) (c : C) (x : List (BufferEntry ℕ)) → r.fits layout c → r.goes c → Poised layout begins me (r.process c) (r.doing c) x → MayStep r layout start slots id begins me c x
   on_poised start slots id begins me c x fits go p =
       subst (λ (z : Me ℕ View). MayStep r layout start slots id begins z c x) (sym p.at) (may_step start slots id begins p.seat c x fits go p.own p.seen p.looked p.known p.ready)
 
@@ -188,10 +188,10 @@ module _ {C E : Type 0} (r : Rules C E) (layout : Layout)
         }))
   ]
 
-  holds_so : (first : C) (old : Me ℕ View) (held : Deeds) (begun : Bool) (me : Me ℕ View) (d : C) (x : List (BufferEntry ℕ)) → r.goes d → Drives r layout first old held begun me d x → told_more (deeds_at me) (due r layout begun d) ≡ held
+  holds_so : (first : C) (old : Me ℕ View) (held : Deeds) (begun : Bool) (me : Me ℕ View) (d : C) (x : List (BufferEntry ℕ)) → r.goes d → Drives r layout first old held begun me d x → answered_more (deeds_at me) (due r layout begun d) ≡ held
   holds_so first old held begun me d x go by = elim by [
-    | inl t ↦ (λ i. told_more (deeds_at (t.3 i)) (due r layout (t.4 i) (t.2 i))) ∙ t.5
-    | inr t ↦ (λ i. told_more (deeds_at (at_going held me t.0 d x t.1 t.2 go i)) (due r layout (t.5 i) d))
+    | inl t ↦ (λ i. answered_more (deeds_at (t.3 i)) (due r layout (t.4 i) (t.2 i))) ∙ t.5
+    | inr t ↦ (λ i. answered_more (deeds_at (at_going held me t.0 d x t.1 t.2 go i)) (due r layout (t.5 i) d))
   ]
 
   has_come : (first : C) (old : Me ℕ View) (held : Deeds) (begun : Bool) (me : Me ℕ View) (d : C) (x : List (BufferEntry ℕ)) → Drives r layout first old held begun me d x → Came r layout first d

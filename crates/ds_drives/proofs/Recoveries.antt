@@ -37,10 +37,10 @@ use Rattle.ds_recover.proofs.RecoveryRank.{each_falls}
 use Rattle.ds_state.specs.RecoverStages.{IsRecovery}
 use Rattle.ds_drives.specs.declared.board.Seated.{Seated}
 use Rattle.ds_drives.specs.declared.board.Deeds.{Deeds}
-use Rattle.ds_drives.specs.declared.board.Told.{Told}
-use Rattle.ds_drives.specs.declared.board.Told.TheVariants.{Began, Recovered}
+use Rattle.ds_drives.specs.declared.board.CallEvent.{CallEvent}
+use Rattle.ds_drives.specs.declared.board.CallEvent.TheVariants.{Began, Recovered}
 use Rattle.ds_drives.specs.Views.{second_rest, seated}
-use Rattle.ds_drives.specs.Rule.{put, Behind, world_on, IsSecond, IsTold, CountsAs, After, Ready}
+use Rattle.ds_drives.specs.Rule.{put, Witness, world_on, IsSecond, IsAnswered, CountsAs, After, Ready}
 use Rattle.ds_drives.specs.Machines.{Lawful}
 use Rattle.ds_drives.specs.RecoverRules.{IsGoing, IsRecoveryOn, landed_at, recover_rules}
 use Rattle.ds_drives.proofs.Words.{put_here, put_else}
@@ -49,9 +49,9 @@ use Rattle.ds_core.specs.RecoveryEvents.{recovery_reply}
 use Rattle.ds_core.specs.declared.event.Event.TheVariants.{BeginRecover, Step}
 use Rattle.ds_core.specs.declared.reply.Reply.{Reply}
 use Rattle.ds_core.specs.declared.reply.Reply.TheVariants.{Entered}
-use Rattle.ds_drives.specs.History.{recovery as step_recovery, recovery_told}
-use Rattle.ds_drives.proofs.Histories.{told_own, told_else, begun_own, begun_else}
-use Rattle.ds_drives.proofs.Behinds.{Does, after_none, after_left, after_both, written, answered, kept_back, performed, serves, came_to, Ends}
+use Rattle.ds_drives.specs.History.{recovery as step_recovery, recovery_answered}
+use Rattle.ds_drives.proofs.Histories.{answered_own, answered_else, begun_own, begun_else}
+use Rattle.ds_drives.proofs.Witnesses.{Does, after_none, after_left, after_both, written, answered, kept_back, performed, serves, came_to, Ends}
 use Rattle.ds_drives.proofs.Resting.{stopped, stops, still}
 use Rattle.ds_drives.proofs.Machines.{lawful}
 
@@ -64,11 +64,11 @@ landed_going e (Answer how) x held g = absurd g
 landed_going e _ x held g = refl
 
 -- a step that goes on reports nothing
-silent : (e : PlainRecoverCall) (s : RecoverStage) → IsGoing s → recovery_told e s ≡ []
+silent : (e : PlainRecoverCall) (s : RecoverStage) → IsGoing s → recovery_answered e s ≡ []
 silent e (Answer how) g = absurd g
 silent e _ g = refl
 
-silent_end : (e : PlainRecoverCall) (how : Option Bool) → recovery_told (record e { stage = Answer how }) (Answer how) ≡ Recovered (record e { stage = Answer how }) (end_of e how) ∷ []
+silent_end : (e : PlainRecoverCall) (how : Option Bool) → recovery_answered (record e { stage = Answer how }) (Answer how) ≡ Recovered (record e { stage = Answer how }) (end_of e how) ∷ []
 silent_end e None = refl
 silent_end e (Some k) = refl
 
@@ -91,9 +91,9 @@ same_announced e word (Some a) = same _ _ refl refl refl
 
 same_spread : (e : PlainRecoverCall) (cell : ℕ) (s : Spread) (word : ℕ) → Same e (recovery.spread_next e cell s word)
 same_spread e cell (spreads.LoadRow part) word = same _ _ refl refl refl
-same_spread e cell (spreads.OrTold d) word = same _ _ refl refl refl
-same_spread e cell (spreads.FlushTold d) word = same _ _ refl refl refl
-same_spread e cell (spreads.BackTold d) word = same _ _ refl refl refl
+same_spread e cell (spreads.OrAnswered d) word = same _ _ refl refl refl
+same_spread e cell (spreads.FlushAnswered d) word = same _ _ refl refl refl
+same_spread e cell (spreads.BackAnswered d) word = same _ _ refl refl refl
 
 -- a step of a recovery leaves its process and its sheet
 pub next_same : (e : PlainRecoverCall) (s : RecoverStage) (word : ℕ) → Same e (recovery.next_at e s word)
@@ -165,7 +165,7 @@ spent_by : (w : PlainWorld) (p n word : ℕ) (how : Bool) → Tells word how →
 spent_by w p n word true t there is = let k = t.is in omega (arith, there, k, is)
 spent_by w p n word false t there is = let k = t.is in omega (arith, there, k, is)
 
-tells : (e : PlainRecoverCall) (how : Option Bool) (w : PlainWorld) → RecoveryFits w e.process (record e { stage = Answer how }) → RepeatsAs w e.process (end_of e how) → IsTold w e.process (Recovered (record e { stage = Answer how }) (end_of e how))
+tells : (e : PlainRecoverCall) (how : Option Bool) (w : PlainWorld) → RecoveryFits w e.process (record e { stage = Answer how }) → RepeatsAs w e.process (end_of e how) → IsAnswered w e.process (Recovered (record e { stage = Answer how }) (end_of e how))
 tells e None w fits says = tt
 tells e (Some how) w fits says = record {
   spent = spent_by w e.process (number_of e) e.announcement how fits.resolved.2 fits.resolved.1 refl;
@@ -173,7 +173,7 @@ tells e (Some how) w fits says = record {
 }
 
 module _ (layout : Layout) where
-  module _ (words : List ℕ) (b : Behind) (e : PlainRecoverCall) (x : List (BufferEntry ℕ)) (long : length words ≡ 8 * words_of layout)
+  module _ (words : List ℕ) (b : Witness) (e : PlainRecoverCall) (x : List (BufferEntry ℕ)) (long : length words ≡ 8 * words_of layout)
       (sound : IsSound (world_on layout words b)) (low : e.process < layout.processes) (at : b.situation e.process ≡ Recovering e) (same : b.buffer e.process ≡ x) where
     abbrev word : ℕ
     word = answered layout words (recovery.access_at e e.stage) x
@@ -181,14 +181,14 @@ module _ (layout : Layout) where
     abbrev said : Reply
     said = recovery_reply (recovery.effect_at e e.stage)
 
-    abbrev behind : Behind
-    behind = came_to layout b e.process (after e e.stage word) (kept_back layout words (recovery.access_at e e.stage) x) b.counted (put b.open_edits e.process (recovery.open_edit_at (b.open_edits e.process) e.stage)) (record { before = world_on layout words b; event = Step e.process; reply = said })
+    abbrev witness : Witness
+    witness = came_to layout b e.process (after e e.stage word) (kept_back layout words (recovery.access_at e e.stage) x) b.counted (put b.open_edits e.process (recovery.open_edit_at (b.open_edits e.process) e.stage)) (record { before = world_on layout words b; event = Step e.process; reply = said })
 
     abbrev old : PlainWorld
     old = world_on layout words b
 
     abbrev new : PlainWorld
-    new = world_on layout (written layout words (recovery.access_at e e.stage) x) behind
+    new = world_on layout (written layout words (recovery.access_at e e.stage) x) witness
 
     steps : Steps e word old new
     steps = record {
@@ -201,35 +201,35 @@ module _ (layout : Layout) where
       others_open_edits = λ q n. put_else b.open_edits e.process (recovery.open_edit_at (b.open_edits e.process) e.stage) q n;
     }
 
-    does : IsGoing e.stage → Does layout words (written layout words (recovery.access_at e e.stage) x) b behind e.process []
+    does : IsGoing e.stage → Does layout words (written layout words (recovery.access_at e e.stage) x) b witness e.process []
     does going = record {
       event = Step e.process;
       reply = said;
       moves = (low, step_recovery (record { recovery = e; mine = refl; at = at; word = word; steps = steps; is = refl }));
       origin = refl;
       happened = refl;
-      own = told_own e.process old said (Recovering e) [] at (silent e e.stage going);
-      others = λ q n. told_else e.process q old said n;
+      own = answered_own e.process old said (Recovering e) [] at (silent e e.stage going);
+      others = λ q n. answered_else e.process q old said n;
       low = low;
       open_others = steps.others_open_edits;
     }
 
     pub recovery_step : IsGoing e.stage
-        → (b' : Behind) × After layout words (written layout words (recovery.access_at e e.stage) x) b b' e.process (Recovering (recovery.got_at e word)) (kept_back layout words (recovery.access_at e e.stage) x) []
+        → (b' : Witness) × After layout words (written layout words (recovery.access_at e e.stage) x) b b' e.process (Recovering (recovery.got_at e word)) (kept_back layout words (recovery.access_at e e.stage) x) []
     recovery_step going = (
-      behind,
-      after_left layout words (written layout words (recovery.access_at e e.stage) x) b behind e.process (Recovering (recovery.got_at e word)) (kept_back layout words (recovery.access_at e e.stage) x) []
+      witness,
+      after_left layout words (written layout words (recovery.access_at e e.stage) x) b witness e.process (Recovering (recovery.got_at e word)) (kept_back layout words (recovery.access_at e e.stage) x) []
           (recovery_leaves e word old new sound low at steps) (steps.situation ∙ after_going e e.stage word going) (put_here b.buffer e.process _ e.process refl) (λ q n. put_else b.buffer e.process _ q n)
           (version_grows old new.memory e.process (recovery.access_at e e.stage) word sound low steps.memory) (λ moving. moving) (does going),
     )
 
-  ends : (s : RecoverStage) (words : List ℕ) (b : Behind) (e : PlainRecoverCall) (x : List (BufferEntry ℕ)) → IsSound (world_on layout words b) → IsSecond (world_on layout words b) → e.process < layout.processes
+  ends : (s : RecoverStage) (words : List ℕ) (b : Witness) (e : PlainRecoverCall) (x : List (BufferEntry ℕ)) → IsSound (world_on layout words b) → IsSecond (world_on layout words b) → e.process < layout.processes
       → b.situation e.process ≡ Recovering (record e { stage = s }) → b.buffer e.process ≡ x → Ends layout words b e.process (landed_at e s x)
   ends (Answer how) words b e x sound second low at same =
       let e' : PlainRecoverCall = record e { stage = Answer how } in
       let s' : Situation = Idle (second_rest (next_number e.announcement how)) in
       let noted : rest_after e' how ≡ second_rest (next_number e.announcement how) = knows (noted_second (world_on layout words b) e.edition second (subst (λ (z : Situation). LayoutFits (world_on layout words b) e.process z) at (sound.layouts e.process low))) in
-      let b' : Behind = record b {
+      let b' : Witness = record b {
         situation = put b.situation e.process s';
         open_edits = put b.open_edits e.process None;
         happened = record { before = world_on layout words b; event = Step e.process; reply = recovery_reply (recovery.effect_at e' (Answer how)) } ∷ b.happened;
@@ -245,28 +245,28 @@ module _ (layout : Layout) where
         open_edits = put_here b.open_edits e.process None e.process refl;
         others_open_edits = λ q n. put_else b.open_edits e.process None q n;
       } in
-      let says : IsTold w' e.process (Recovered e' (end_of e how)) = same_told how (tells e how w (laws.fits_of e' w sound low at) (laws.repeated e' how w sound low at refl)) in
+      let says : IsAnswered w' e.process (Recovered e' (end_of e how)) = same_answered how (tells e how w (laws.fits_of e' w sound low at) (laws.repeated e' how w sound low at refl)) in
       let does_so : Does layout words words b b' e.process (Recovered e' (end_of e how) ∷ []) = record {
         event = Step e.process;
         reply = recovery_reply (recovery.effect_at e' (Answer how));
         moves = (low, step_recovery (record { recovery = e'; mine = refl; at = at; word = 0; steps = t; is = refl }));
         origin = refl;
         happened = refl;
-        own = told_own e.process w (recovery_reply (recovery.effect_at e' (Answer how))) (Recovering e') (Recovered e' (end_of e how) ∷ []) at (silent_end e how);
-        others = λ q n. told_else e.process q w (recovery_reply (recovery.effect_at e' (Answer how))) n;
+        own = answered_own e.process w (recovery_reply (recovery.effect_at e' (Answer how))) (Recovering e') (Recovered e' (end_of e how) ∷ []) at (silent_end e how);
+        others = λ q n. answered_else e.process q w (recovery_reply (recovery.effect_at e' (Answer how))) n;
         low = low;
         open_others = t.others_open_edits;
       } in
       let aft : After layout words words b b' e.process s' x (Recovered e' (end_of e how) ∷ []) = after_left layout words words b b' e.process s' x (Recovered e' (end_of e how) ∷ []) (recovery_leaves e' 0 w w' sound low at t) (put_here b.situation e.process s' e.process refl) same (λ q n. refl) (le_refl _) (λ moving. moving) does_so in
       record {
-        behind = b';
+        witness = b';
         now = s';
         buffer = x;
         more = Recovered e' (end_of e how) ∷ [];
         after = aft;
         lands = λ held. refl;
-        told = λ u inside. elim inside [
-          | inl new ↦ subst (λ (z : Told). IsTold w' e.process z) new says
+        call_events = λ u inside. elim inside [
+          | inl new ↦ subst (λ (z : CallEvent). IsAnswered w' e.process z) new says
           | inr none ↦ absurd none
         ];
       }
@@ -274,11 +274,11 @@ module _ (layout : Layout) where
       knows : e.edition ≡ Second → rest_after e how ≡ second_rest (next_number e.announcement how)
       knows noted = ap (λ (d : Edition). (let r : Rest = record { number = next_number e.announcement how; edition = d } in r)) noted
 
-      same_told : (o : Option Bool) → IsTold (world_on layout words b) e.process (Recovered (record e { stage = Answer how }) (end_of e o))
-          → IsTold (world_on layout words (record b { situation = put b.situation e.process (Idle (second_rest (next_number e.announcement how))); open_edits = put b.open_edits e.process None; happened = record { before = world_on layout words b; event = Step e.process; reply = recovery_reply (recovery.effect_at (record e { stage = Answer how }) (Answer how)) } ∷ b.happened })) e.process (Recovered (record e { stage = Answer how }) (end_of e o))
-      same_told None h = tt
-      same_told (Some k) h = record { spent = h.spent; holds = h.holds }
-  ends s words b e x sound second low at same = record { behind = b; now = _; buffer = x; more = []; after = after_none layout words b e.process _ x sound at same; lands = λ held. refl; told = λ u none. absurd none }
+      same_answered : (o : Option Bool) → IsAnswered (world_on layout words b) e.process (Recovered (record e { stage = Answer how }) (end_of e o))
+          → IsAnswered (world_on layout words (record b { situation = put b.situation e.process (Idle (second_rest (next_number e.announcement how))); open_edits = put b.open_edits e.process None; happened = record { before = world_on layout words b; event = Step e.process; reply = recovery_reply (recovery.effect_at (record e { stage = Answer how }) (Answer how)) } ∷ b.happened })) e.process (Recovered (record e { stage = Answer how }) (end_of e o))
+      same_answered None h = tt
+      same_answered (Some k) h = record { spent = h.spent; holds = h.holds }
+  ends s words b e x sound second low at same = record { witness = b; now = _; buffer = x; more = []; after = after_none layout words b e.process _ x sound at same; lands = λ held. refl; call_events = λ u none. absurd none }
 
   apart : (s : RecoverStage) (how : Option Bool) → IsGoing s → s ≡ Answer how → ⊥
   apart s how go is = subst IsGoing is go
@@ -300,11 +300,11 @@ module _ (layout : Layout) where
   -- ---- the beginning
 
   -- a process in no call begins
-  begins : (words : List ℕ) (b : Behind) (p : ℕ) → IsSound (world_on layout words b) → IsSecond (world_on layout words b) → p < layout.processes → MayRecover (b.situation p) → b.buffer p ≡ []
-      → (b' : Behind) × After layout words words b b' p (Recovering (fresh p (cells_of layout) layout.processes)) [] (Began (BeginRecover p) Entered ∷ [])
+  begins : (words : List ℕ) (b : Witness) (p : ℕ) → IsSound (world_on layout words b) → IsSecond (world_on layout words b) → p < layout.processes → MayRecover (b.situation p) → b.buffer p ≡ []
+      → (b' : Witness) × After layout words words b b' p (Recovering (fresh p (cells_of layout) layout.processes)) [] (Began (BeginRecover p) Entered ∷ [])
   begins words b p sound second low free empty =
       let s : Situation = Recovering (fresh p (cells_of layout) layout.processes) in
-      let b' : Behind = record b { situation = put b.situation p s; happened = record { before = world_on layout words b; event = BeginRecover p; reply = Entered } ∷ b.happened } in
+      let b' : Witness = record b { situation = put b.situation p s; happened = record { before = world_on layout words b; event = BeginRecover p; reply = Entered } ∷ b.happened } in
       let t : IsBegun (world_on layout words b) p (world_on layout words b') = record {
         free = free;
         alone = λ q inside other. second.settled q inside;
@@ -317,23 +317,23 @@ module _ (layout : Layout) where
           open_edits = λ q. refl;
         };
       } in
-      let told : List Told = Began (BeginRecover p) Entered ∷ [] in
-      let does_so : Does layout words words b b' p told = record {
+      let returned : List CallEvent = Began (BeginRecover p) Entered ∷ [] in
+      let does_so : Does layout words words b b' p call_events = record {
         event = BeginRecover p;
         reply = Entered;
         moves = (low, t);
         origin = refl;
         happened = refl;
-        own = begun_own p told;
-        others = λ q n. begun_else p q told n;
+        own = begun_own p returned;
+        others = λ q n. begun_else p q returned n;
         low = low;
         open_others = λ q n. refl;
       } in
-      (b', after_left layout words words b b' p s [] told (begin_leaves p (world_on layout words b) (world_on layout words b') sound low t) t.begins.situation empty (λ q n. refl) (le_refl _) (λ moving. moving) does_so)
+      (b', after_left layout words words b b' p s [] returned (begin_leaves p (world_on layout words b) (world_on layout words b') sound low t) t.begins.situation empty (λ q n. refl) (le_refl _) (λ moving. moving) does_so)
 
   -- a process that runs stops first
-  begins_after : (words : List ℕ) (b c : Behind) (p : ℕ) → IsSecond (world_on layout words b) → p < layout.processes → After layout words words b c p Stopped [] []
-      → (b' : Behind) × After layout words words b b' p (Recovering (fresh p (cells_of layout) layout.processes)) [] (Began (BeginRecover p) Entered ∷ [])
+  begins_after : (words : List ℕ) (b c : Witness) (p : ℕ) → IsSecond (world_on layout words b) → p < layout.processes → After layout words words b c p Stopped [] []
+      → (b' : Witness) × After layout words words b b' p (Recovering (fresh p (cells_of layout) layout.processes)) [] (Began (BeginRecover p) Entered ∷ [])
   begins_after words b c p second low f =
       let g = begins words c p f.sound (f.second second) low (subst MayRecover (sym f.now) tt) f.buffer in
       (g.0, after_both layout words words words b c g.0 p Stopped (Recovering (fresh p (cells_of layout) layout.processes)) [] [] [] (Began (BeginRecover p) Entered ∷ []) f g.1)
@@ -341,7 +341,7 @@ module _ (layout : Layout) where
   pub recovery_begins : (seat : Seated) (p : ℕ) → Ready layout seat p (Recovering (fresh p (cells_of layout) layout.processes)) [] (Began (BeginRecover p) Entered ∷ [])
   recovery_begins seat p words b sound second low at same = by (b.situation p) refl
     where
-      by : (s : Situation) → b.situation p ≡ s → (b' : Behind) × After layout words words b b' p (Recovering (fresh p (cells_of layout) layout.processes)) [] (Began (BeginRecover p) Entered ∷ [])
+      by : (s : Situation) → b.situation p ≡ s → (b' : Witness) × After layout words words b b' p (Recovering (fresh p (cells_of layout) layout.processes)) [] (Began (BeginRecover p) Entered ∷ [])
       by Stopped is = begins_after words b b p second low (still layout words b p sound low is)
       by (Idle n) is = begins_after words b (stopped layout words b p) p second low (stops layout words b p sound low (λ e. cc))
       by (Editing e) is = begins_after words b (stopped layout words b p) p second low (stops layout words b p sound low (λ e'. cc))

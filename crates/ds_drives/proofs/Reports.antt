@@ -25,10 +25,10 @@ use Rattle.ds_show.proofs.ShowLaws as laws
 use Rattle.ds_show.proofs.ShowMiddles.{step_leaves, begin_leaves}
 use Rattle.ds_drives.specs.declared.board.Seated.{Seated}
 use Rattle.ds_drives.specs.declared.board.Deeds.{Deeds}
-use Rattle.ds_drives.specs.declared.board.Told.{Told}
-use Rattle.ds_drives.specs.declared.board.Told.TheVariants.{Began, Reported}
+use Rattle.ds_drives.specs.declared.board.CallEvent.{CallEvent}
+use Rattle.ds_drives.specs.declared.board.CallEvent.TheVariants.{Began, Reported}
 use Rattle.ds_drives.specs.Views.{second_rest, seated}
-use Rattle.ds_drives.specs.Rule.{put, Behind, world_on, IsSecond, IsTold, After, Ready}
+use Rattle.ds_drives.specs.Rule.{put, Witness, world_on, IsSecond, IsAnswered, After, Ready}
 use Rattle.ds_drives.specs.Machines.{Lawful}
 use Rattle.ds_drives.specs.ShowRules.{IsGoing, IsShowOn, IsOfOne, landed_at, show_rules}
 use Rattle.ds_drives.proofs.Words.{put_here, put_else}
@@ -37,9 +37,9 @@ use Rattle.ds_core.specs.ShowEvents.{show_reply}
 use Rattle.ds_core.specs.declared.event.Event.TheVariants.{BeginShow, Step}
 use Rattle.ds_core.specs.declared.reply.Reply.{Reply}
 use Rattle.ds_core.specs.declared.reply.Reply.TheVariants.{Entered}
-use Rattle.ds_drives.specs.History.{report as step_show, show_told}
-use Rattle.ds_drives.proofs.Histories.{told_own, told_else, begun_own, begun_else}
-use Rattle.ds_drives.proofs.Behinds.{Does, after_none, after_left, written, answered, kept_back, performed, serves, nothing_kept, came_to, Ends}
+use Rattle.ds_drives.specs.History.{report as step_show, show_answered}
+use Rattle.ds_drives.proofs.Histories.{answered_own, answered_else, begun_own, begun_else}
+use Rattle.ds_drives.proofs.Witnesses.{Does, after_none, after_left, written, answered, kept_back, performed, serves, nothing_kept, came_to, Ends}
 use Rattle.ds_drives.proofs.Machines.{lawful}
 
 after_going : (e : PlainShowCall) (s : ShowStage) (word : ℕ) → IsGoing s → after e s word ≡ Showing (report.next_at e s word)
@@ -51,7 +51,7 @@ landed_going e (Answer end) x held g = absurd g
 landed_going e _ x held g = refl
 
 -- a step that goes on reports nothing
-silent : (e : PlainShowCall) (s : ShowStage) → IsGoing s → show_told e s ≡ []
+silent : (e : PlainShowCall) (s : ShowStage) → IsGoing s → show_answered e s ≡ []
 silent e (Answer end) g = absurd g
 silent e _ g = refl
 
@@ -82,7 +82,7 @@ next_same e (AgainAnnounce i) word = same_if e (word == noted e.announcements i)
 next_same e (Answer end) word = same _ _ refl refl refl refl
 
 module _ (layout : Layout) where
-  module _ (words : List ℕ) (b : Behind) (e : PlainShowCall) (x : List (BufferEntry ℕ)) (long : length words ≡ 8 * words_of layout)
+  module _ (words : List ℕ) (b : Witness) (e : PlainShowCall) (x : List (BufferEntry ℕ)) (long : length words ≡ 8 * words_of layout)
       (sound : IsSound (world_on layout words b)) (low : e.process < layout.processes) (is : b.situation e.process ≡ Showing e) (same : b.buffer e.process ≡ x) where
     abbrev word : ℕ
     word = answered layout words (report.access_at e.stage) x
@@ -90,14 +90,14 @@ module _ (layout : Layout) where
     abbrev said : Reply
     said = show_reply (report.effect_at e.stage)
 
-    abbrev behind : Behind
-    behind = came_to layout b e.process (after e e.stage word) (kept_back layout words (report.access_at e.stage) x) b.counted b.open_edits (record { before = world_on layout words b; event = Step e.process; reply = said })
+    abbrev witness : Witness
+    witness = came_to layout b e.process (after e e.stage word) (kept_back layout words (report.access_at e.stage) x) b.counted b.open_edits (record { before = world_on layout words b; event = Step e.process; reply = said })
 
     abbrev old : PlainWorld
     old = world_on layout words b
 
     abbrev new : PlainWorld
-    new = world_on layout (written layout words (report.access_at e.stage) x) behind
+    new = world_on layout (written layout words (report.access_at e.stage) x) witness
 
     steps : Steps e word old new
     steps = record {
@@ -109,34 +109,34 @@ module _ (layout : Layout) where
       open_edits = λ q. refl;
     }
 
-    does : IsGoing e.stage → Does layout words (written layout words (report.access_at e.stage) x) b behind e.process []
+    does : IsGoing e.stage → Does layout words (written layout words (report.access_at e.stage) x) b witness e.process []
     does going = record {
       event = Step e.process;
       reply = said;
       moves = (low, step_show (record { report = e; mine = refl; at = is; word = word; steps = steps; is = refl }));
       origin = refl;
       happened = refl;
-      own = told_own e.process old said (Showing e) [] is (silent e e.stage going);
-      others = λ q n. told_else e.process q old said n;
+      own = answered_own e.process old said (Showing e) [] is (silent e e.stage going);
+      others = λ q n. answered_else e.process q old said n;
       low = low;
       open_others = λ q n. refl;
     }
 
     pub show_step : IsGoing e.stage
-        → (b' : Behind) × After layout words (written layout words (report.access_at e.stage) x) b b' e.process (Showing (report.got_at e word)) (kept_back layout words (report.access_at e.stage) x) []
+        → (b' : Witness) × After layout words (written layout words (report.access_at e.stage) x) b b' e.process (Showing (report.got_at e word)) (kept_back layout words (report.access_at e.stage) x) []
     show_step going = (
-      behind,
-      after_left layout words (written layout words (report.access_at e.stage) x) b behind e.process (Showing (report.got_at e word)) (kept_back layout words (report.access_at e.stage) x) []
+      witness,
+      after_left layout words (written layout words (report.access_at e.stage) x) b witness e.process (Showing (report.got_at e word)) (kept_back layout words (report.access_at e.stage) x) []
           (step_leaves e word old new sound low is steps) (steps.situation ∙ after_going e e.stage word going) (put_here b.buffer e.process _ e.process refl) (λ q n. put_else b.buffer e.process _ q n)
           (version_grows old new.memory e.process (report.access_at e.stage) word sound low steps.memory) (λ moving. moving) (does going),
     )
 
-  ends : (s : ShowStage) (words : List ℕ) (b : Behind) (e : PlainShowCall) (x : List (BufferEntry ℕ)) → IsSound (world_on layout words b) → IsSecond (world_on layout words b) → e.process < layout.processes
+  ends : (s : ShowStage) (words : List ℕ) (b : Witness) (e : PlainShowCall) (x : List (BufferEntry ℕ)) → IsSound (world_on layout words b) → IsSecond (world_on layout words b) → e.process < layout.processes
       → b.situation e.process ≡ Showing (record e { stage = s }) → b.buffer e.process ≡ x → Ends layout words b e.process (landed_at e s x)
   ends (Answer end) words b e x sound second low is same =
       let e' : PlainShowCall = record e { stage = Answer end } in
       let noted : rest_of e' ≡ second_rest e.next = knows (noted_second (world_on layout words b) e.edition second (subst (λ (z : Situation). LayoutFits (world_on layout words b) e.process z) is (sound.layouts e.process low))) in
-      let b' : Behind = record b {
+      let b' : Witness = record b {
         situation = put b.situation e.process (Idle (second_rest e.next));
         happened = record { before = world_on layout words b; event = Step e.process; reply = show_reply (report.effect_at (Answer end)) } ∷ b.happened;
       } in
@@ -156,28 +156,28 @@ module _ (layout : Layout) where
         moves = (low, step_show (record { report = e'; mine = refl; at = is; word = 0; steps = t; is = refl }));
         origin = refl;
         happened = refl;
-        own = told_own e.process w (show_reply (report.effect_at (Answer end))) (Showing e') (Reported e' end ∷ []) is refl;
-        others = λ q n. told_else e.process q w (show_reply (report.effect_at (Answer end))) n;
+        own = answered_own e.process w (show_reply (report.effect_at (Answer end))) (Showing e') (Reported e' end ∷ []) is refl;
+        others = λ q n. answered_else e.process q w (show_reply (report.effect_at (Answer end))) n;
         low = low;
         open_others = λ q n. refl;
       } in
       let aft : After layout words words b b' e.process (Idle (second_rest e.next)) x (Reported e' end ∷ []) = after_left layout words words b b' e.process (Idle (second_rest e.next)) x (Reported e' end ∷ []) (step_leaves e' 0 w w' sound low is t) (put_here b.situation e.process (Idle (second_rest e.next)) e.process refl) same (λ q n. refl) (le_refl _) (λ moving. moving) does_so in
       record {
-        behind = b';
+        witness = b';
         now = Idle (second_rest e.next);
         buffer = x;
         more = Reported e' end ∷ [];
         after = aft;
         lands = λ held. refl;
-        told = λ u inside. elim inside [
-          | inl new ↦ subst (λ (z : Told). IsTold w' e.process z) new tt
+        call_events = λ u inside. elim inside [
+          | inl new ↦ subst (λ (z : CallEvent). IsAnswered w' e.process z) new tt
           | inr none ↦ absurd none
         ];
       }
     where
       knows : e.edition ≡ Second → rest_of e ≡ second_rest e.next
       knows noted = ap (λ (d : Edition). (let r : Rest = record { number = e.next; edition = d } in r)) noted
-  ends s words b e x sound second low is same = record { behind = b; now = _; buffer = x; more = []; after = after_none layout words b e.process _ x sound is same; lands = λ held. refl; told = λ u none. absurd none }
+  ends s words b e x sound second low is same = record { witness = b; now = _; buffer = x; more = []; after = after_none layout words b e.process _ x sound is same; lands = λ held. refl; call_events = λ u none. absurd none }
 
   pub shows_lawful : Lawful show_rules layout
   shows_lawful = lawful show_rules layout
@@ -197,7 +197,7 @@ module _ (layout : Layout) where
   pub show_begins : (seat : Seated) (p next : ℕ) → seat.now ≡ Idle (second_rest next) → Ready layout seat p (Showing (fresh p (second_rest next) (cells_of layout) layout.processes)) [] (Began (BeginShow p) Entered ∷ [])
   show_begins seat p next idle words b sound second low is same =
       let s : Situation = Showing (fresh p (second_rest next) (cells_of layout) layout.processes) in
-      let b' : Behind = record b { situation = put b.situation p s; happened = record { before = world_on layout words b; event = BeginShow p; reply = Entered } ∷ b.happened } in
+      let b' : Witness = record b { situation = put b.situation p s; happened = record { before = world_on layout words b; event = BeginShow p; reply = Entered } ∷ b.happened } in
       let w : PlainWorld = world_on layout words b in
       let w' : PlainWorld = world_on layout words b' in
       let fits : IdleFits w p (second_rest next) = subst (λ (z : Situation). CallFits w p z) (is ∙ idle) (sound.calls p low) in
@@ -210,19 +210,19 @@ module _ (layout : Layout) where
         counted = refl;
         open_edits = λ q. refl;
       } in
-      let told : List Told = Began (BeginShow p) Entered ∷ [] in
-      let does_so : Does layout words words b b' p told = record {
+      let returned : List CallEvent = Began (BeginShow p) Entered ∷ [] in
+      let does_so : Does layout words words b b' p call_events = record {
         event = BeginShow p;
         reply = Entered;
         moves = (low, record { next = second_rest next; begins = t });
         origin = refl;
         happened = refl;
-        own = begun_own p told;
-        others = λ q n. begun_else p q told n;
+        own = begun_own p returned;
+        others = λ q n. begun_else p q returned n;
         low = low;
         open_others = λ q n. refl;
       } in
-      (b', after_left layout words words b b' p s [] told (begin_leaves p (second_rest next) w w' sound low t) t.situation (nothing_kept layout (b.buffer p) fits.buffer) (λ q n. refl) (le_refl _) (λ moving. moving) does_so)
+      (b', after_left layout words words b b' p s [] returned (begin_leaves p (second_rest next) w w' sound low t) t.situation (nothing_kept layout (b.buffer p) fits.buffer) (λ q n. refl) (le_refl _) (λ moving. moving) does_so)
 
 -- ---- one step
 

@@ -15,16 +15,16 @@ use Rattle.ds_core.specs.declared.reply.Reply.TheVariants as reply
 use Rattle.ds_drives.specs.declared.board.Seated.{Seated}
 use Rattle.ds_drives.specs.History.{Run, Stood}
 use Rattle.ds_drives.proofs.Histories.{stood_both}
-use Rattle.ds_drives.specs.Rule.{put, Behind, IsBare, world_on, IsSecond, IsPast, IsOrigin, After, AtRest, Stops, none, stop}
+use Rattle.ds_drives.specs.Rule.{put, Witness, IsBare, world_on, IsSecond, IsPast, IsOrigin, After, AtRest, Stops, none, stop}
 use Rattle.ds_drives.proofs.Words.{put_here, put_else}
-use Rattle.ds_drives.proofs.Behinds.{Does, past_on, ran_on, after_none, after_left, nothing_kept}
+use Rattle.ds_drives.proofs.Witnesses.{Does, past_on, ran_on, after_none, after_left, nothing_kept}
 
 module _ (layout : Layout) (words : List ℕ) where
-  abbrev pub stopped : Behind → ℕ → Behind
+  abbrev pub stopped : Witness → ℕ → Witness
   stopped b p = record b { situation = put b.situation p Stopped; buffer = put b.buffer p []; happened = record { before = world_on layout words b; event = Stop p; reply = reply.Stopped } ∷ b.happened }
 
   -- a process that runs stops
-  pub stops_in : (b : Behind) (p : ℕ) → b.situation p ≢ Stopped → StopsIn p (world_on layout words b) (world_on layout words (stopped b p))
+  pub stops_in : (b : Witness) (p : ℕ) → b.situation p ≢ Stopped → StopsIn p (world_on layout words b) (world_on layout words (stopped b p))
   stops_in b p runs = record {
     runs = runs;
     layout = refl;
@@ -40,7 +40,7 @@ module _ (layout : Layout) (words : List ℕ) where
     open_edits = λ q. refl;
   }
 
-  pub stops : (b : Behind) (p : ℕ) → IsSound (world_on layout words b) → p < layout.processes → b.situation p ≢ Stopped → After layout words words b (stopped b p) p Stopped [] []
+  pub stops : (b : Witness) (p : ℕ) → IsSound (world_on layout words b) → p < layout.processes → b.situation p ≢ Stopped → After layout words words b (stopped b p) p Stopped [] []
   stops b p sound low runs =
       let t : StopsIn p (world_on layout words b) (world_on layout words (stopped b p)) = stops_in b p runs in
       let does_so : Does layout words words b (stopped b p) p [] = record {
@@ -57,26 +57,26 @@ module _ (layout : Layout) (words : List ℕ) where
       after_left layout words words b (stopped b p) p Stopped [] [] (stop_leaves p (world_on layout words b) (world_on layout words (stopped b p)) sound low t) t.situation (put_here b.buffer p [] p refl) (λ q n. put_else b.buffer p [] q n) (le_refl _) (λ moving. moving) does_so
 
   -- a process that has stopped has an empty buffer
-  pub still : (b : Behind) (p : ℕ) → IsSound (world_on layout words b) → p < layout.processes → b.situation p ≡ Stopped → After layout words words b b p Stopped [] []
+  pub still : (b : Witness) (p : ℕ) → IsSound (world_on layout words b) → p < layout.processes → b.situation p ≡ Stopped → After layout words words b b p Stopped [] []
   still b p sound low at =
       let fits : StoppedFits (world_on layout words b) p = subst (λ (s : Situation). CallFits (world_on layout words b) p s) at (sound.calls p low) in
       after_none layout words b p Stopped [] sound at (nothing_kept layout (b.buffer p) fits.buffer)
 
   -- it comes to rest: by a stop, or it has stopped
-  record Rested (first b : Behind) (p : ℕ) : Type 0 where
-    behind : Behind
-    after : After layout words words b behind p Stopped [] []
-    by : Stops layout words first behind
+  record Rested (first b : Witness) (p : ℕ) : Type 0 where
+    witness : Witness
+    after : After layout words words b witness p Stopped [] []
+    by : Stops layout words first witness
 
   -- whatever it does
-  comes_to_rest : (first b : Behind) (p : ℕ) → Stops layout words first b → IsSound (world_on layout words b) → p < layout.processes → Rested first b p
+  comes_to_rest : (first b : Witness) (p : ℕ) → Stops layout words first b → IsSound (world_on layout words b) → p < layout.processes → Rested first b p
   comes_to_rest first b p so_far sound low = by_stop (b.situation p) refl
     where
       runs : b.situation p ≢ Stopped → Rested first b p
-      runs r = record { behind = stopped b p; after = stops b p sound low r; by = stop b (stopped b p) p so_far (stops_in b p r) }
+      runs r = record { witness = stopped b p; after = stops b p sound low r; by = stop b (stopped b p) p so_far (stops_in b p r) }
 
       by_stop : (s : Situation) → b.situation p ≡ s → Rested first b p
-      by_stop Stopped at = record { behind = b; after = still b p sound low at; by = so_far }
+      by_stop Stopped at = record { witness = b; after = still b p sound low at; by = so_far }
       by_stop (Idle n) at = runs (λ e. cc)
       by_stop (Editing e) at = runs (λ e'. cc)
       by_stop (Working e) at = runs (λ e'. cc)
@@ -85,47 +85,47 @@ module _ (layout : Layout) (words : List ℕ) where
       by_stop (Migrating e) at = runs (λ e'. cc)
 
   -- the first n processes have stopped, and what was answered stayed true
-  pub record Rest (b : Behind) (n : ℕ) : Type 0 where
-    pub behind : Behind
-    pub by : Stops layout words b behind
-    pub sound : IsSound (world_on layout words behind)
-    pub second : IsSecond (world_on layout words behind)
-    pub now : (p : ℕ) → p < n → behind.situation p ≡ Stopped
-    pub buffer : (p : ℕ) → p < n → behind.buffer p ≡ []
-    pub told : (e : Seated) → IsPast layout words b e → IsPast layout words behind e
-    pub run : Run behind.origin.opened behind.happened (world_on layout words behind)
-    pub bare : IsBare layout behind
-    pub stood : Stood behind.happened
-    pub from : IsOrigin behind.origin
+  pub record Rest (b : Witness) (n : ℕ) : Type 0 where
+    pub witness : Witness
+    pub by : Stops layout words b witness
+    pub sound : IsSound (world_on layout words witness)
+    pub second : IsSecond (world_on layout words witness)
+    pub now : (p : ℕ) → p < n → witness.situation p ≡ Stopped
+    pub buffer : (p : ℕ) → p < n → witness.buffer p ≡ []
+    pub call_events : (e : Seated) → IsPast layout words b e → IsPast layout words witness e
+    pub run : Run witness.origin.opened witness.happened (world_on layout words witness)
+    pub bare : IsBare layout witness
+    pub stood : Stood witness.happened
+    pub from : IsOrigin witness.origin
 
-  first_rest : (b : Behind) (n : ℕ) → n ≤ layout.processes → IsSound (world_on layout words b) → IsSecond (world_on layout words b) → Run b.origin.opened b.happened (world_on layout words b) → IsBare layout b → Stood b.happened → IsOrigin b.origin → Rest b n
-  first_rest b zero few sound second run bare stood from = record { behind = b; by = none; sound = sound; second = second; now = λ p low. absurd (omega arith); buffer = λ p low. absurd (omega arith); told = λ e h. h; run = run; bare = bare; stood = stood; from = from }
+  first_rest : (b : Witness) (n : ℕ) → n ≤ layout.processes → IsSound (world_on layout words b) → IsSecond (world_on layout words b) → Run b.origin.opened b.happened (world_on layout words b) → IsBare layout b → Stood b.happened → IsOrigin b.origin → Rest b n
+  first_rest b zero few sound second run bare stood from = record { witness = b; by = none; sound = sound; second = second; now = λ p low. absurd (omega arith); buffer = λ p low. absurd (omega arith); call_events = λ e h. h; run = run; bare = bare; stood = stood; from = from }
   first_rest b (suc n) few sound second run bare stood from =
       let r : Rest b n = first_rest b n (omega arith) sound second run bare stood from in
-      let one : Rested b r.behind n = comes_to_rest b r.behind n r.by r.sound (omega arith) in record {
-        behind = one.behind;
+      let one : Rested b r.witness n = comes_to_rest b r.witness n r.by r.sound (omega arith) in record {
+        witness = one.witness;
         by = one.by;
         sound = one.after.sound;
         second = one.after.second r.second;
-        now = λ p low. dite (ℕ_discrete p n) (λ e. ap one.behind.situation e ∙ one.after.now) (λ ne. one.after.others p ne ∙ r.now p (omega arith));
-        buffer = λ p low. dite (ℕ_discrete p n) (λ e. ap one.behind.buffer e ∙ one.after.buffer) (λ ne. one.after.other_buffers p ne ∙ r.buffer p (omega arith));
-        told = λ e h. past_on layout words words r.behind one.behind n Stopped [] [] one.after e (r.told e h);
-        run = ran_on layout words words r.behind one.behind n Stopped [] [] one.after r.run;
+        now = λ p low. dite (ℕ_discrete p n) (λ e. ap one.witness.situation e ∙ one.after.now) (λ ne. one.after.others p ne ∙ r.now p (omega arith));
+        buffer = λ p low. dite (ℕ_discrete p n) (λ e. ap one.witness.buffer e ∙ one.after.buffer) (λ ne. one.after.other_buffers p ne ∙ r.buffer p (omega arith));
+        call_events = λ e h. past_on layout words words r.witness one.witness n Stopped [] [] one.after e (r.call_events e h);
+        run = ran_on layout words words r.witness one.witness n Stopped [] [] one.after r.run;
         bare = one.after.bare r.bare;
-        stood = subst Stood (sym one.after.happened) (stood_both one.after.more r.behind.happened (one.after.stood r.sound r.bare) r.stood);
+        stood = subst Stood (sym one.after.happened) (stood_both one.after.more r.witness.happened (one.after.stood r.sound r.bare) r.stood);
         from = subst IsOrigin (sym one.after.origin) r.from;
       }
 
-  pub record Rests (b : Behind) : Type 0 where
-    pub behind : Behind
-    pub by : Stops layout words b behind
-    pub rests : AtRest layout words behind
-    pub told : (e : Seated) → IsPast layout words b e → IsPast layout words behind e
+  pub record Rests (b : Witness) : Type 0 where
+    pub witness : Witness
+    pub by : Stops layout words b witness
+    pub rests : AtRest layout words witness
+    pub call_events : (e : Seated) → IsPast layout words b e → IsPast layout words witness e
 
-  pub rests : (b : Behind) → IsSound (world_on layout words b) → IsSecond (world_on layout words b) → Run b.origin.opened b.happened (world_on layout words b) → IsBare layout b → Stood b.happened → IsOrigin b.origin → Rests b
+  pub rests : (b : Witness) → IsSound (world_on layout words b) → IsSecond (world_on layout words b) → Run b.origin.opened b.happened (world_on layout words b) → IsBare layout b → Stood b.happened → IsOrigin b.origin → Rests b
   rests b sound second run bare stood from = let r = first_rest b layout.processes (le_refl layout.processes) sound second run bare stood from in record {
-    behind = r.behind;
+    witness = r.witness;
     by = r.by;
     rests = record { sound = r.sound; second = r.second; run = r.run; bare = r.bare; stood = r.stood; from = r.from; stopped = r.now; buffer = r.buffer };
-    told = r.told;
+    call_events = r.call_events;
   }

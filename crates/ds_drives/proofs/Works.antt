@@ -35,10 +35,10 @@ use Rattle.ds_work.proofs.Ranks.{each_falls, lacking_falls, offer_falls}
 use Rattle.ds_work.proofs.Turning.{falls_plain, reading_less}
 use Rattle.ds_drives.specs.declared.board.Seated.{Seated}
 use Rattle.ds_drives.specs.declared.board.Deeds.{Deeds}
-use Rattle.ds_drives.specs.declared.board.Told.{Told}
-use Rattle.ds_drives.specs.declared.board.Told.TheVariants.{Worked}
+use Rattle.ds_drives.specs.declared.board.CallEvent.{CallEvent}
+use Rattle.ds_drives.specs.declared.board.CallEvent.TheVariants.{Worked}
 use Rattle.ds_drives.specs.Views.{second_rest, seated}
-use Rattle.ds_drives.specs.Rule.{put, Behind, world_on, IsSecond, IsTold, After, Ready}
+use Rattle.ds_drives.specs.Rule.{put, Witness, world_on, IsSecond, IsAnswered, After, Ready}
 use Rattle.ds_drives.specs.Machines.{Lawful}
 use Rattle.ds_drives.specs.WorkRules.{IsGoing, IsWorkOn, Turned, IsOfOne, stays, reads, takes, landed_at, work_rules}
 use Rattle.ds_drives.proofs.Words.{put_here, put_else}
@@ -70,9 +70,9 @@ use Rattle.ds_core.specs.WorkEvents.{work_reply}
 use Rattle.ds_core.specs.declared.event.Event.{Event}
 use Rattle.ds_core.specs.declared.event.Event.TheVariants.{BeginWork, Step, Offer}
 use Rattle.ds_core.specs.declared.reply.Reply.TheVariants.{Entered, Stepped}
-use Rattle.ds_drives.specs.History.{Moves, work as step_work, work_told, told_from}
-use Rattle.ds_drives.proofs.Histories.{told_own, told_else, begun_own, begun_else}
-use Rattle.ds_drives.proofs.Behinds.{Does, after_none, after_left, written, answered, kept_back, performed, serves, nothing_kept, came_to, Ends}
+use Rattle.ds_drives.specs.History.{Moves, work as step_work, work_answered, answered_from}
+use Rattle.ds_drives.proofs.Histories.{answered_own, answered_else, begun_own, begun_else}
+use Rattle.ds_drives.proofs.Witnesses.{Does, after_none, after_left, written, answered, kept_back, performed, serves, nothing_kept, came_to, Ends}
 use Rattle.ds_drives.proofs.Machines.{lawful}
 
 after_going : (e : PlainWorkCall) (s : WorkStage) (word : ℕ) → IsGoing s → after e s word ≡ Working (work.next_at e s word)
@@ -84,7 +84,7 @@ landed_going e (Answer end) x held na = absurd (na end refl)
 landed_going e _ x held na = refl
 
 -- a step that does not answer reports nothing
-silent : (e : PlainWorkCall) (s : WorkStage) → ((end : WorkEnd) → s ≡ Answer end → ⊥) → work_told e s ≡ []
+silent : (e : PlainWorkCall) (s : WorkStage) → ((end : WorkEnd) → s ≡ Answer end → ⊥) → work_answered e s ≡ []
 silent e (Answer end) none = absurd (none end refl)
 silent e _ none = refl
 
@@ -122,19 +122,19 @@ reading_process shape e f (inl h) = ap (λ (z : PlainWorkCall). z.process) h.aft
 reading_process shape e f (inr h) = ap (λ (z : PlainWorkCall). z.process) h
 
 module _ (layout : Layout) where
-  module _ (words : List ℕ) (b : Behind) (e : PlainWorkCall) (x : List (BufferEntry ℕ)) (long : length words ≡ 8 * words_of layout)
+  module _ (words : List ℕ) (b : Witness) (e : PlainWorkCall) (x : List (BufferEntry ℕ)) (long : length words ≡ 8 * words_of layout)
       (sound : IsSound (world_on layout words b)) (low : e.process < layout.processes) (is : b.situation e.process ≡ Working e) (same : b.buffer e.process ≡ x) where
     abbrev word : ℕ
     word = answered layout words (work.access_at layout.shape e e.stage) x
 
-    abbrev behind : Behind
-    behind = came_to layout b e.process (after e e.stage word) (kept_back layout words (work.access_at layout.shape e e.stage) x) b.counted b.open_edits (record { before = world_on layout words b; event = Step e.process; reply = Stepped })
+    abbrev witness : Witness
+    witness = came_to layout b e.process (after e e.stage word) (kept_back layout words (work.access_at layout.shape e e.stage) x) b.counted b.open_edits (record { before = world_on layout words b; event = Step e.process; reply = Stepped })
 
     abbrev old : PlainWorld
     old = world_on layout words b
 
     abbrev new : PlainWorld
-    new = world_on layout (written layout words (work.access_at layout.shape e e.stage) x) behind
+    new = world_on layout (written layout words (work.access_at layout.shape e e.stage) x) witness
 
     steps : IsPlainStep e.stage → StepsAt e e.stage word old new
     steps plain = record {
@@ -147,36 +147,36 @@ module _ (layout : Layout) where
       open_edits = λ q. refl;
     }
 
-    does_on : IsWork e → IsGoing e.stage → Does layout words (written layout words (work.access_at layout.shape e e.stage) x) b behind e.process []
+    does_on : IsWork e → IsGoing e.stage → Does layout words (written layout words (work.access_at layout.shape e e.stage) x) b witness e.process []
     does_on good going = record {
       event = Step e.process;
       reply = Stepped;
       moves = (low, step_work (record { what = does.GoesOn; work = e; mine = refl; at = is; good = good; turn = turns_on word (steps (plain_going e.stage going)) (not_ended e.stage going); is = refl }));
       origin = refl;
       happened = refl;
-      own = told_own e.process old Stepped (Working e) [] is (silent e e.stage (not_ended e.stage going));
-      others = λ q n. told_else e.process q old Stepped n;
+      own = answered_own e.process old Stepped (Working e) [] is (silent e e.stage (not_ended e.stage going));
+      others = λ q n. answered_else e.process q old Stepped n;
       low = low;
       open_others = λ q n. refl;
     }
 
     pub work_step : IsWork e → IsGoing e.stage
-        → (b' : Behind) × After layout words (written layout words (work.access_at layout.shape e e.stage) x) b b' e.process (Working (work.next_at e e.stage word)) (kept_back layout words (work.access_at layout.shape e e.stage) x) []
+        → (b' : Witness) × After layout words (written layout words (work.access_at layout.shape e e.stage) x) b b' e.process (Working (work.next_at e e.stage word)) (kept_back layout words (work.access_at layout.shape e e.stage) x) []
     work_step good going = let t = steps (plain_going e.stage going) in (
-      behind,
-      after_left layout words (written layout words (work.access_at layout.shape e e.stage) x) b behind e.process (Working (work.next_at e e.stage word)) (kept_back layout words (work.access_at layout.shape e e.stage) x) []
+      witness,
+      after_left layout words (written layout words (work.access_at layout.shape e e.stage) x) b witness e.process (Working (work.next_at e e.stage word)) (kept_back layout words (work.access_at layout.shape e e.stage) x) []
           (work_leaves e e.stage word old new sound low is t) (t.situation ∙ after_going e e.stage word going) (put_here b.buffer e.process _ e.process refl) (λ q n. put_else b.buffer e.process _ q n)
           (version_grows old new.memory e.process (work.access_at layout.shape e e.stage) word sound low t.memory) (λ moving. moving) (does_on good going),
     )
 
   -- ---- what touches no word
 
-  module _ (words : List ℕ) (b : Behind) (e : PlainWorkCall) (x : List (BufferEntry ℕ))
+  module _ (words : List ℕ) (b : Witness) (e : PlainWorkCall) (x : List (BufferEntry ℕ))
       (sound : IsSound (world_on layout words b)) (low : e.process < layout.processes) (is : b.situation e.process ≡ Working e) (same : b.buffer e.process ≡ x) where
     abbrev was : PlainWorld
     was = world_on layout words b
 
-    abbrev turned : Event → PlainWorkCall → Behind
+    abbrev turned : Event → PlainWorkCall → Witness
     turned event f = record b { situation = put b.situation e.process (Working f); happened = record { before = world_on layout words b; event = event; reply = Stepped } ∷ b.happened }
 
     turns : (event : Event) (f : PlainWorkCall) → Turns e f was (world_on layout words (turned event f))
@@ -189,7 +189,7 @@ module _ (layout : Layout) where
       open_edits = λ q. refl;
     }
 
-    turned_after : (event : Event) (f : PlainWorkCall) → Moves was event Stepped (world_on layout words (turned event f)) → ((q : ℕ) → told_from q was event Stepped ≡ []) → Leaves e.process was (world_on layout words (turned event f)) → (b' : Behind) × After layout words words b b' e.process (Working f) x []
+    turned_after : (event : Event) (f : PlainWorkCall) → Moves was event Stepped (world_on layout words (turned event f)) → ((q : ℕ) → answered_from q was event Stepped ≡ []) → Leaves e.process was (world_on layout words (turned event f)) → (b' : Witness) × After layout words words b b' e.process (Working f) x []
     turned_after event f moves quiet k = (
       turned event f,
       after_left layout words words b (turned event f) e.process (Working f) x [] k (turns event f).situation same (λ q n. refl) (le_refl _) (λ moving. moving)
@@ -201,25 +201,25 @@ module _ (layout : Layout) where
     stepped f good turn = (low, step_work (record { what = does.GoesOn; work = e; mine = refl; at = is; good = good; turn = turn; is = refl }))
 
     -- by a step that does not answer nothing is reported
-    quiet : ((end : WorkEnd) → e.stage ≡ Answer end → ⊥) → (q : ℕ) → told_from q was (Step e.process) Stepped ≡ []
+    quiet : ((end : WorkEnd) → e.stage ≡ Answer end → ⊥) → (q : ℕ) → answered_from q was (Step e.process) Stepped ≡ []
     quiet none q = dite (ℕ_discrete q e.process)
-        (λ same. ap (λ (n : ℕ). told_from n was (Step e.process) Stepped) same ∙ told_own e.process was Stepped (Working e) [] is (silent e e.stage none))
-        (λ other. told_else e.process q was Stepped other)
+        (λ same. ap (λ (n : ℕ). answered_from n was (Step e.process) Stepped) same ∙ answered_own e.process was Stepped (Working e) [] is (silent e e.stage none))
+        (λ other. answered_else e.process q was Stepped other)
 
     at_stage : (s : WorkStage) → e.stage ≡ s → b.situation e.process ≡ Working (record e { stage = s })
     at_stage s here = is ∙ ap (λ (z : WorkStage). Working (record e { stage = z })) here
 
-    by_reading : (f : PlainWorkCall) → IsWork e → e.stage ≡ Read → IsReading layout.shape e f → (b' : Behind) × After layout words words b b' e.process (Working f) x []
+    by_reading : (f : PlainWorkCall) → IsWork e → e.stage ≡ Read → IsReading layout.shape e f → (b' : Witness) × After layout words words b b' e.process (Working f) x []
     by_reading f good here (inl h) =
         let g : PlainWorkCall = read_from e h.content h.inputs in
         let t : ReadsAt e h.content h.inputs was (world_on layout words (turned (Step e.process) g)) = record { turn = turns (Step e.process) g; is = h.is } in
-        subst (λ (z : PlainWorkCall). (b' : Behind) × After layout words words b b' e.process (Working z) x []) (sym h.after)
+        subst (λ (z : PlainWorkCall). (b' : Witness) × After layout words words b b' e.process (Working z) x []) (sym h.after)
         (turned_after (Step e.process) g (stepped g good (turns_reads h.content h.inputs here t)) (quiet (λ end over. cc)) (read_leaves e h.content h.inputs was (world_on layout words (turned (Step e.process) g)) sound low (at_stage Read here) t))
     by_reading f good here (inr h) =
-        subst (λ (z : PlainWorkCall). (b' : Behind) × After layout words words b b' e.process (Working z) x []) (sym h)
+        subst (λ (z : PlainWorkCall). (b' : Witness) × After layout words words b b' e.process (Working z) x []) (sym h)
         (turned_after (Step e.process) (lacks e) (stepped (lacks e) good (turns_lacked here (turns (Step e.process) (lacks e)))) (quiet (λ end over. cc)) (lack_leaves e was (world_on layout words (turned (Step e.process) (lacks e))) sound low (at_stage Read here) (turns (Step e.process) (lacks e))))
 
-    pub work_turn : (f : PlainWorkCall) → Turned layout e f → (b' : Behind) × After layout words words b b' e.process (Working f) x []
+    pub work_turn : (f : PlainWorkCall) → Turned layout e f → (b' : Witness) × After layout words words b b' e.process (Working f) x []
     work_turn f (stays plain) = (b, after_none layout words b e.process (Working e) x sound is same)
     work_turn f (reads g good here r) = by_reading g good here r
     work_turn f (takes here) =
@@ -232,7 +232,7 @@ module _ (layout : Layout) where
 
   -- a work that answers after a step is one of a sheet
   at_answer : (e : PlainWorkCall) (end : WorkEnd) → IsWork e → IsWork (record e { stage = Answer end })
-  at_answer e end h = record { process = h.process; processes = h.processes; cell = h.cell; cells = h.cells; young = h.young; short = h.short; fits = h.fits; text = h.text; possible = h.possible; height = h.height; claim = tt; stage = tt; told = tt }
+  at_answer e end h = record { process = h.process; processes = h.processes; cell = h.cell; cells = h.cells; young = h.young; short = h.short; fits = h.fits; text = h.text; possible = h.possible; height = h.height; claim = tt; stage = tt; call_events = tt }
 
   abbrev IsNoAnswer : WorkStage → Type 0
   IsNoAnswer (Answer end) = ⊥
@@ -245,15 +245,15 @@ module _ (layout : Layout) where
   if_no true f g x y = x
   if_no false f g x y = y
 
-  told_no : (e : PlainWorkCall) (o : Option ℕ) → IsNoAnswer (work.told e o).stage
-  told_no e None = tt
-  told_no e (Some d) = tt
+  answered_no : (e : PlainWorkCall) (o : Option ℕ) → IsNoAnswer (work.call_events e o).stage
+  answered_no e None = tt
+  answered_no e (Some d) = tt
 
   spread_no : (e : PlainWorkCall) (s : Spread) (word : ℕ) → IsNoAnswer (work.spread_next e s word).stage
-  spread_no e (spreads.LoadRow part) word = if_no (nat_lt (part + 1) (work.parts_of (record e { row = e.row ++ word ∷ [] }))) _ _ tt (told_no (record e { row = e.row ++ word ∷ [] }) _)
-  spread_no e (spreads.OrTold d) word = tt
-  spread_no e (spreads.FlushTold d) word = tt
-  spread_no e (spreads.BackTold d) word = told_no e _
+  spread_no e (spreads.LoadRow part) word = if_no (nat_lt (part + 1) (work.parts_of (record e { row = e.row ++ word ∷ [] }))) _ _ tt (answered_no (record e { row = e.row ++ word ∷ [] }) _)
+  spread_no e (spreads.OrAnswered d) word = tt
+  spread_no e (spreads.FlushAnswered d) word = tt
+  spread_no e (spreads.BackAnswered d) word = answered_no e _
 
   text_no : (e : PlainWorkCall) (part : ℕ) → IsNoAnswer (work.text_from e part).stage
   text_no e part = if_no (nat_lt part (work.text_parts e)) _ _ tt tt
@@ -311,12 +311,12 @@ module _ (layout : Layout) where
   answered_good : (e : PlainWorkCall) (word : ℕ) → IsGoing e.stage → IsWork e → (end : WorkEnd) → (work.next_at e e.stage word).stage ≡ Answer end → IsWork (work.next_at e e.stage word)
   answered_good e word go good end is = answered_at e e.stage word end go good is
 
-  ends : (s : WorkStage) (words : List ℕ) (b : Behind) (e : PlainWorkCall) (x : List (BufferEntry ℕ)) → ((end : WorkEnd) → s ≡ Answer end → IsWork (record e { stage = s })) → IsSound (world_on layout words b) → IsSecond (world_on layout words b) → e.process < layout.processes
+  ends : (s : WorkStage) (words : List ℕ) (b : Witness) (e : PlainWorkCall) (x : List (BufferEntry ℕ)) → ((end : WorkEnd) → s ≡ Answer end → IsWork (record e { stage = s })) → IsSound (world_on layout words b) → IsSecond (world_on layout words b) → e.process < layout.processes
       → b.situation e.process ≡ Working (record e { stage = s }) → b.buffer e.process ≡ x → Ends layout words b e.process (landed_at e s x)
   ends (Answer end) words b e x good sound second low is same =
       let e' : PlainWorkCall = record e { stage = Answer end } in
       let noted : rest_of e' ≡ second_rest e.next = knows (noted_second (world_on layout words b) e.edition second (subst (λ (z : Situation). LayoutFits (world_on layout words b) e.process z) is (sound.layouts e.process low))) in
-      let b' : Behind = record b {
+      let b' : Witness = record b {
         situation = put b.situation e.process (Idle (second_rest e.next));
         happened = record { before = world_on layout words b; event = Step e.process; reply = work_reply (does.Answers end) } ∷ b.happened;
       } in
@@ -337,28 +337,28 @@ module _ (layout : Layout) where
         moves = (low, step_work (record { what = does.Answers end; work = e'; mine = refl; at = is; good = good end refl; turn = turns_answers end refl t; is = refl }));
         origin = refl;
         happened = refl;
-        own = told_own e.process w (work_reply (does.Answers end)) (Working e') (Worked e' end ∷ []) is refl;
-        others = λ q n. told_else e.process q w (work_reply (does.Answers end)) n;
+        own = answered_own e.process w (work_reply (does.Answers end)) (Working e') (Worked e' end ∷ []) is refl;
+        others = λ q n. answered_else e.process q w (work_reply (does.Answers end)) n;
         low = low;
         open_others = λ q n. refl;
       } in
       let aft : After layout words words b b' e.process (Idle (second_rest e.next)) x (Worked e' end ∷ []) = after_left layout words words b b' e.process (Idle (second_rest e.next)) x (Worked e' end ∷ []) (work_leaves e' (Answer end) 0 w w' sound low is t) (put_here b.situation e.process (Idle (second_rest e.next)) e.process refl) same (λ q n. refl) (le_refl _) (λ moving. moving) does_so in
       record {
-        behind = b';
+        witness = b';
         now = Idle (second_rest e.next);
         buffer = x;
         more = Worked e' end ∷ [];
         after = aft;
         lands = λ held. refl;
-        told = λ u inside. elim inside [
-          | inl new ↦ subst (λ (z : Told). IsTold w' e.process z) new tt
+        call_events = λ u inside. elim inside [
+          | inl new ↦ subst (λ (z : CallEvent). IsAnswered w' e.process z) new tt
           | inr none ↦ absurd none
         ];
       }
     where
       knows : e.edition ≡ Second → rest_of e ≡ second_rest e.next
       knows noted = ap (λ (d : Edition). (let r : Rest = record { number = e.next; edition = d } in r)) noted
-  ends s words b e x good sound second low is same = record { behind = b; now = _; buffer = x; more = []; after = after_none layout words b e.process _ x sound is same; lands = λ held. refl; told = λ u none. absurd none }
+  ends s words b e x good sound second low is same = record { witness = b; now = _; buffer = x; more = []; after = after_none layout words b e.process _ x sound is same; lands = λ held. refl; call_events = λ u none. absurd none }
 
   turned_kin : (e f : PlainWorkCall) → Turned layout e f → f.process ≡ e.process
   turned_kin e f (stays plain) = refl
@@ -405,7 +405,7 @@ module _ (layout : Layout) where
   pub work_begins : (seat : Seated) (next : ℕ) (index : ℕ) (e : PlainWorkCall) → seat.now ≡ Idle (second_rest next) → IsAskedFor layout e.process (second_rest next) index e → Ready layout seat e.process (Working e) [] (work_rules.begins layout e ∷ [])
   work_begins seat next index e idle asked words b sound second low is same =
       let cell = cell_at layout.shape e.cell in
-      let b' : Behind = record b { situation = put b.situation e.process (Working e); happened = record { before = world_on layout words b; event = BeginWork e.process cell; reply = Entered } ∷ b.happened } in
+      let b' : Witness = record b { situation = put b.situation e.process (Working e); happened = record { before = world_on layout words b; event = BeginWork e.process cell; reply = Entered } ∷ b.happened } in
       let w : PlainWorld = world_on layout words b in
       let w' : PlainWorld = world_on layout words b' in
       let fits : IdleFits w e.process (second_rest next) = subst (λ (s : Situation). CallFits w e.process s) (is ∙ idle) (sound.calls e.process low) in
@@ -424,8 +424,8 @@ module _ (layout : Layout) where
         processes = asked.processes;
         cell = asked.inside;
       } in
-      let told : List Told = work_rules.begins layout e ∷ [] in
-      let does_so : Does layout words words b b' e.process told = record {
+      let returned : List CallEvent = work_rules.begins layout e ∷ [] in
+      let does_so : Does layout words words b b' e.process call_events = record {
         event = BeginWork e.process cell;
         reply = Entered;
         moves = (
@@ -435,12 +435,12 @@ module _ (layout : Layout) where
         );
         origin = refl;
         happened = refl;
-        own = begun_own e.process told;
-        others = λ q n. begun_else e.process q told n;
+        own = begun_own e.process returned;
+        others = λ q n. begun_else e.process q returned n;
         low = low;
         open_others = λ q n. refl;
       } in
-      (b', after_left layout words words b b' e.process (Working e) [] told (begin_leaves (second_rest next) e w w' sound low t) (put_here b.situation e.process (Working e) e.process refl) (nothing_kept layout (b.buffer e.process) fits.buffer) (λ q n. refl) (le_refl _) (λ moving. moving) does_so)
+      (b', after_left layout words words b b' e.process (Working e) [] returned (begin_leaves (second_rest next) e w w' sound low t) (put_here b.situation e.process (Working e) e.process refl) (nothing_kept layout (b.buffer e.process) fits.buffer) (λ q n. refl) (le_refl _) (λ moving. moving) does_so)
 
 -- ---- one step, and what goes with it
 
@@ -517,5 +517,5 @@ module _ (layout : Layout) (e f g : PlainWorkCall) (word : ℕ) (is : f ≡ work
   pub fewer_left : IsWorkOn layout e → IsGoing e.stage → steps_left g.cells g < steps_left e.cells e
   fewer_left on go =
       let first : steps_left e.cells (work.next_at e e.stage word) < steps_left e.cells e = falls_plain e.cells e (work.next_at e e.stage word) e.stage (each_falls e.cells word e on.is) on.plain (not_ended e.stage go) in
-      let behind : steps_left e.cells g ≤ steps_left e.cells (work.next_at e e.stage word) = turned_left layout (work.next_at e e.stage word) g e.cells on.cells turned_next in
-      subst (λ (n : ℕ). steps_left n g < steps_left e.cells e) (sym both.cells) (omega (arith, first, behind))
+      let witness : steps_left e.cells g ≤ steps_left e.cells (work.next_at e e.stage word) = turned_left layout (work.next_at e e.stage word) g e.cells on.cells turned_next in
+      subst (λ (n : ℕ). steps_left n g < steps_left e.cells e) (sym both.cells) (omega (arith, first, witness))

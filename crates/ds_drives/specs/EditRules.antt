@@ -19,8 +19,8 @@ use Rattle.ds_drives.specs.declared.board.Deeds.{Deeds}
 use Rattle.ds_formula.specs.Cells.{cell_at}
 use Rattle.ds_core.specs.declared.event.Event.TheVariants.{BeginEdit}
 use Rattle.ds_core.specs.declared.reply.Reply.TheVariants.{Begun}
-use Rattle.ds_drives.specs.declared.board.Told.TheVariants.{Began, Edited}
-use Rattle.ds_drives.specs.Views.{seated, told_also, second_rest}
+use Rattle.ds_drives.specs.declared.board.CallEvent.TheVariants.{Began, Edited}
+use Rattle.ds_drives.specs.Views.{seated, answered_also, second_rest}
 use Rattle.ds_drives.specs.Rules.{Rules}
 
 -- not only its answer is left
@@ -48,7 +48,7 @@ pub record IsFirst (layout : Layout) (e : PlainEditCall) : Type 0 where
 
 -- the process at a stage of its edit: where only its answer is left, it is idle, and knows the second layout
 abbrev pub landed_at : PlainEditCall → Stage → List (BufferEntry ℕ) → Deeds → Seated
-landed_at e (Answer how) buffer deeds = seated e.process (Idle (second_rest (e.number + 1))) buffer (told_also deeds (Edited (record e { stage = Answer how }) how))
+landed_at e (Answer how) buffer deeds = seated e.process (Idle (second_rest (e.number + 1))) buffer (answered_also deeds (Edited (record e { stage = Answer how }) how))
 landed_at e stage buffer deeds = seated e.process (Editing (record e { stage = stage })) buffer deeds
 
 -- the rules of an edit

@@ -40,8 +40,8 @@ use Rattle.ds_core.specs.declared.reply.Reply.{Reply}
 use Rattle.ds_core.specs.declared.reply.Reply.TheVariants.{Begun, Entered, Stepped, Evicted, Stopped, Crashed}
 use Rattle.ds_drives.specs.Table.{two_sided}
 use Rattle.ds_drives.specs.declared.board.HistoryEntry.{HistoryEntry}
-use Rattle.ds_drives.specs.declared.board.Told.{Told}
-use Rattle.ds_drives.specs.declared.board.Told.TheVariants.{Began, Edited, Worked, Recovered, Reported}
+use Rattle.ds_drives.specs.declared.board.CallEvent.{CallEvent}
+use Rattle.ds_drives.specs.declared.board.CallEvent.TheVariants.{Began, Edited, Worked, Recovered, Reported}
 
 -- ---- what an event does to a plain world: as in the core, without what a shared sheet does not count
 
@@ -136,71 +136,76 @@ Stood (h ∷ hs) = IsStanding h.before × Stood hs
 
 -- ---- what a process is answered by a run
 
--- by the step at this stage: its call, where that is the answer
-abbrev pub edit_told : PlainEditCall → Stage → List Told
-edit_told e (edit_stage.Answer how) = Edited (record e { stage = edit_stage.Answer how }) how ∷ []
-edit_told e _ = []
+-- by the step of an edit at this stage: the edit, with its answer, where that is the stage
+abbrev pub edit_answered : PlainEditCall → Stage → List CallEvent
+edit_answered e (edit_stage.Answer how) = Edited (record e { stage = edit_stage.Answer how }) how ∷ []
+edit_answered e _ = []
 
-abbrev pub work_told : PlainWorkCall → WorkStage → List Told
-work_told e (work_stage.Answer end) = Worked (record e { stage = work_stage.Answer end }) end ∷ []
-work_told e _ = []
+-- by the step of a work: the work, with its answer
+abbrev pub work_answered : PlainWorkCall → WorkStage → List CallEvent
+work_answered e (work_stage.Answer end) = Worked (record e { stage = work_stage.Answer end }) end ∷ []
+work_answered e _ = []
 
-abbrev pub recovery_told : PlainRecoverCall → RecoverStage → List Told
-recovery_told e (recover_stage.Answer how) = Recovered (record e { stage = recover_stage.Answer how }) (recoveries.end_of e how) ∷ []
-recovery_told e _ = []
+-- by the step of a recovery
+abbrev pub recovery_answered : PlainRecoverCall → RecoverStage → List CallEvent
+recovery_answered e (recover_stage.Answer how) = Recovered (record e { stage = recover_stage.Answer how }) (recoveries.end_of e how) ∷ []
+recovery_answered e _ = []
 
-abbrev pub show_told : PlainShowCall → ShowStage → List Told
-show_told e (show_stage.Answer end) = Reported (record e { stage = show_stage.Answer end }) end ∷ []
-show_told e _ = []
+-- by the step of a show
+abbrev pub show_answered : PlainShowCall → ShowStage → List CallEvent
+show_answered e (show_stage.Answer end) = Reported (record e { stage = show_stage.Answer end }) end ∷ []
+show_answered e _ = []
 
 -- by a step in this situation
-abbrev pub told_at : Situation → List Told
-told_at (Editing e) = edit_told e e.stage
-told_at (Working e) = work_told e e.stage
-told_at (Recovering e) = recovery_told e e.stage
-told_at (Showing e) = show_told e e.stage
-told_at _ = []
+abbrev pub answered_at : Situation → List CallEvent
+answered_at (Editing e) = edit_answered e e.stage
+answered_at (Working e) = work_answered e e.stage
+answered_at (Recovering e) = recovery_answered e e.stage
+answered_at (Showing e) = show_answered e e.stage
+answered_at _ = []
 
 -- the call that the event began in this world, or answered
-abbrev pub told_of : PlainWorld → Event → Reply → List Told
-told_of w (Step q) reply = told_at (w.situation q)
-told_of w (BeginEdit r) reply = Began (BeginEdit r) reply ∷ []
-told_of w (BeginWork q cell) reply = Began (BeginWork q cell) reply ∷ []
-told_of w (BeginShow q) reply = Began (BeginShow q) reply ∷ []
-told_of w (BeginRecover q) reply = Began (BeginRecover q) reply ∷ []
-told_of w _ reply = []
+abbrev pub answered_of : PlainWorld → Event → Reply → List CallEvent
+answered_of w (Step q) reply = answered_at (w.situation q)
+answered_of w (BeginEdit r) reply = Began (BeginEdit r) reply ∷ []
+answered_of w (BeginWork q cell) reply = Began (BeginWork q cell) reply ∷ []
+answered_of w (BeginShow q) reply = Began (BeginShow q) reply ∷ []
+answered_of w (BeginRecover q) reply = Began (BeginRecover q) reply ∷ []
+answered_of w _ reply = []
 
 -- what stands beside an event is answered to its process
-abbrev pub told_to : ℕ → Event → List Told → List Told
-told_to p (Step q) ts = if q == p then ts else []
-told_to p (BeginEdit r) ts = if r.process == p then ts else []
-told_to p (BeginWork q cell) ts = if q == p then ts else []
-told_to p (BeginShow q) ts = if q == p then ts else []
-told_to p (BeginRecover q) ts = if q == p then ts else []
-told_to p _ ts = []
+abbrev pub answered_to : ℕ → Event → List CallEvent → List CallEvent
+answered_to p (Step q) ts = if q == p then ts else []
+answered_to p (BeginEdit r) ts = if r.process == p then ts else []
+answered_to p (BeginWork q cell) ts = if q == p then ts else []
+answered_to p (BeginShow q) ts = if q == p then ts else []
+answered_to p (BeginRecover q) ts = if q == p then ts else []
+answered_to p _ ts = []
 
 -- by this event, if it is one of its own
-abbrev pub told_from : ℕ → PlainWorld → Event → Reply → List Told
-told_from p w event reply = told_to p event (told_of w event reply)
+abbrev pub answered_from : ℕ → PlainWorld → Event → Reply → List CallEvent
+answered_from p w event reply = answered_to p event (answered_of w event reply)
 
 -- what the process was answered, the last thing first: each call that it began, and each answer
-abbrev pub told_by : ℕ → List Happened → List Told
-told_by p [] = []
-told_by p (h ∷ hs) = told_from p h.before h.event h.reply ++ told_by p hs
+abbrev pub answered_by : ℕ → List Happened → List CallEvent
+answered_by p [] = []
+answered_by p (h ∷ hs) = answered_from p h.before h.event h.reply ++ answered_by p hs
 
 -- ---- the history that seats see: the same without the worlds
 
+-- what seats see of an event: it, its reply, and the calls that it began or answered
 abbrev pub entry_of : Happened → HistoryEntry
-entry_of h = record { event = h.event; reply = h.reply; told = told_of h.before h.event h.reply }
+entry_of h = record { event = h.event; reply = h.reply; call_events = answered_of h.before h.event h.reply }
 
+-- what seats see of these events, the last one first
 abbrev pub history_of : List Happened → List HistoryEntry
 history_of [] = []
 history_of (h ∷ hs) = entry_of h ∷ history_of hs
 
 -- what the process was answered by a history, the last thing first
-abbrev pub calls_of : ℕ → List HistoryEntry → List Told
+abbrev pub calls_of : ℕ → List HistoryEntry → List CallEvent
 calls_of p [] = []
-calls_of p (e ∷ es) = told_to p e.event e.told ++ calls_of p es
+calls_of p (e ∷ es) = answered_to p e.event e.call_events ++ calls_of p es
 
 -- the first history begins with the second one: the entries that came later stand in front
 abbrev pub Extends : List HistoryEntry → List HistoryEntry → Type 0

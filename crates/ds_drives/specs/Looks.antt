@@ -8,7 +8,7 @@ use Rattle.ds_drives.specs.Views.{In, seated}
 
 -- the process, which has then seen this history
 abbrev pub looking : List HistoryEntry → Seated → Seated
-looking seen e = seated e.process e.now e.buffer (record { told = e.deeds.told; steps = e.deeds.steps; seen = Some seen })
+looking seen e = seated e.process e.now e.buffer (record { call_events = e.deeds.call_events; steps = e.deeds.steps; seen = Some seen })
 
 -- the processes, each of which has then seen it
 abbrev pub looked : List HistoryEntry → List Seated → List Seated

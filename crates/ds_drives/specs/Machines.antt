@@ -7,11 +7,11 @@ use Rattle.ds_layout.specs.declared.layout.Layout.{Layout}
 use Rattle.ds_layout.specs.SheetMemory.{access_at, NamesPlace}
 use Rattle.ds_drives.specs.declared.board.Deeds.{Deeds}
 use Rattle.ds_drives.specs.declared.board.View.{View}
-use Rattle.ds_drives.specs.Table.{word_of, change, answer, told, oldest_of, buffer_after}
+use Rattle.ds_drives.specs.Table.{word_of, change, answer, returned, oldest_of, buffer_after}
 use Rattle.ds_drives.specs.declared.board.HistoryEntry.{HistoryEntry}
-use Rattle.ds_drives.specs.declared.board.Told.{Told}
+use Rattle.ds_drives.specs.declared.board.CallEvent.{CallEvent}
 use Rattle.ds_drives.specs.History.{calls_of}
-use Rattle.ds_drives.specs.Views.{lone, seated, steps_later, told_more, deeds_at, deeds_in, seen_so_far}
+use Rattle.ds_drives.specs.Views.{lone, seated, steps_later, answered_more, deeds_at, deeds_in, seen_so_far}
 use Rattle.ds_drives.specs.Rules.{Rules, Came}
 use Rattle.ds_drives.specs.Rule.{Ruled, Start, class_in, Poised, Serves}
 
@@ -20,7 +20,7 @@ use Rattle.ds_drives.specs.Rule.{Ruled, Start, class_in, Poised, Serves}
 pub record Grows (p : ℕ) (old new : Deeds) (n : ℕ) : Type 0 where
   pub late : List HistoryEntry
   pub seen : new.seen ≡ Some (late ++ seen_so_far old.seen)
-  pub told : new.told ≡ calls_of p late ++ old.told
+  pub call_events : new.call_events ≡ calls_of p late ++ old.call_events
   pub steps : new.steps ≡ old.steps + n
 
 module _ {C E : Type 0} (r : Rules C E) (layout : Layout) where
@@ -46,25 +46,25 @@ module _ {C E : Type 0} (r : Rules C E) (layout : Layout) where
 
   -- where a step of the call that found this number lands: the call goes on from here, or has ended, and the seat has
   -- seen all that happened until now; what it was answered more is what stands in the history since it last looked
-  pub record Landed (begins : List Told) (me : Me ℕ View) (c : C) (x : List (BufferEntry ℕ)) (found : ℕ) (v : View) : Type 0 where
+  pub record Landed (begins : List CallEvent) (me : Me ℕ View) (c : C) (x : List (BufferEntry ℕ)) (found : ℕ) (v : View) : Type 0 where
     pub seen : List HistoryEntry
-    pub at : v ≡ lone (r.land (stepped c found) (left c x found) (steps_later (told_more (deeds_at me) begins) 1 seen))
+    pub at : v ≡ lone (r.land (stepped c found) (left c x found) (steps_later (answered_more (deeds_at me) begins) 1 seen))
     pub grows : Grows (r.process c) (deeds_at me) (deeds_in v.entries) 1
     pub serves : ServesOn (stepped c found) (left c x found)
 
   -- the rule of the table allows the step of the call, and the call lands after it
-  abbrev pub MayStep : Start → ℕ → ℕ → List Told → Me ℕ View → C → List (BufferEntry ℕ) → Type 0
+  abbrev pub MayStep : Start → ℕ → ℕ → List CallEvent → Me ℕ View → C → List (BufferEntry ℕ) → Type 0
   MayStep start slots id begins me c x = Allows (Ruled {S = ℕ} layout start) slots id me (word_of (asked c) (oldest_of x)) (change (asked c) (oldest_of x))
-      (λ n m'. (m'.1 ≡ me.1) × Landed begins me c x (told (asked c) (oldest_of x) n) m'.0)
+      (λ n m'. (m'.1 ≡ me.1) × Landed begins me c x (returned (asked c) (oldest_of x) n) m'.0)
 
   -- what a step of the call begins: the call, where it is the first one
-  abbrev pub due : Bool → C → List Told
+  abbrev pub due : Bool → C → List CallEvent
   due begun c = if begun then [] else r.begins layout c ∷ []
 
   -- the seat of a call that goes on: as it was, before its first step, or where a step has landed
   abbrev pub Drives : C → Me ℕ View → Deeds → Bool → Me ℕ View → C → List (BufferEntry ℕ) → Type 0
   Drives first old held begun me d x =
-      (Poised layout (r.begins layout d ∷ []) me (r.process d) (r.doing d) x × r.goes d × (d ≡ first) × (me ≡ old) × (begun ≡ false) × (told_more (deeds_at old) (r.begins layout first ∷ []) ≡ held))
+      (Poised layout (r.begins layout d ∷ []) me (r.process d) (r.doing d) x × r.goes d × (d ≡ first) × (me ≡ old) × (begun ≡ false) × (answered_more (deeds_at old) (r.begins layout first ∷ []) ≡ held))
       ⊎ ((c : C) × (me ≡ (lone (r.land c x held), [])) × r.turns layout c d × Came r layout first c × r.stays first c × (begun ≡ true) × ((seen : List HistoryEntry) × (held.seen ≡ Some seen)))
 
   -- the call was broken off: before its first step, and the seat is as it was; or after a step, where it would go on
@@ -75,9 +75,9 @@ module _ {C E : Type 0} (r : Rules C E) (layout : Layout) where
   -- what is true of calls of a kind: each step is allowed; where a call goes on it is poised, and may be broken off; where
   -- it ends it has landed
   pub record Lawful : Type 0 where
-    pub steps : (start : Start) (slots id : ℕ) (begins : List Told) (me : Me ℕ View) (c : C) (x : List (BufferEntry ℕ)) → r.fits layout c → r.goes c → Poised layout begins me (r.process c) (r.doing c) x → MayStep start slots id begins me c x
+    pub steps : (start : Start) (slots id : ℕ) (begins : List CallEvent) (me : Me ℕ View) (c : C) (x : List (BufferEntry ℕ)) → r.fits layout c → r.goes c → Poised layout begins me (r.process c) (r.doing c) x → MayStep start slots id begins me c x
     pub poised : (first : C) (old : Me ℕ View) (held : Deeds) (begun : Bool) (me : Me ℕ View) (c : C) (x : List (BufferEntry ℕ)) → r.goes c → Drives first old held begun me c x → Poised layout (due begun c) me (r.process c) (r.doing c) x
-    pub holds : (first : C) (old : Me ℕ View) (held : Deeds) (begun : Bool) (me : Me ℕ View) (c : C) (x : List (BufferEntry ℕ)) → r.goes c → Drives first old held begun me c x → told_more (deeds_at me) (due begun c) ≡ held
+    pub holds : (first : C) (old : Me ℕ View) (held : Deeds) (begun : Bool) (me : Me ℕ View) (c : C) (x : List (BufferEntry ℕ)) → r.goes c → Drives first old held begun me c x → answered_more (deeds_at me) (due begun c) ≡ held
     pub kept : (first c : C) (n : ℕ) → r.stays first c → r.stays first (r.next c n)
     pub own : (first c : C) → r.stays first c → r.process c ≡ r.process first
     pub came : (first : C) (old : Me ℕ View) (held : Deeds) (begun : Bool) (me : Me ℕ View) (c : C) (x : List (BufferEntry ℕ)) → Drives first old held begun me c x → Came r layout first c
@@ -92,7 +92,7 @@ pub record IsSettled {C E : Type 0} (r : Rules C E) (layout : Layout) (held : De
 
 -- what the process has done where its call, which began so, has come: the call has begun, and n steps were taken
 pub record IsUnderway {C E : Type 0} (r : Rules C E) (layout : Layout) (first : C) (old held : Deeds) (n : ℕ) : Type 0 where
-  pub told : held.told ≡ r.begins layout first ∷ old.told
+  pub call_events : held.call_events ≡ r.begins layout first ∷ old.call_events
   pub steps : held.steps ≡ old.steps + n
 
 -- the call was broken off by its fuse after n steps, which are no more than it had left

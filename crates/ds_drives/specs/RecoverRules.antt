@@ -14,8 +14,8 @@ use Rattle.ds_drives.specs.declared.board.Seated.{Seated}
 use Rattle.ds_drives.specs.declared.board.Deeds.{Deeds}
 use Rattle.ds_core.specs.declared.event.Event.TheVariants.{BeginRecover}
 use Rattle.ds_core.specs.declared.reply.Reply.TheVariants.{Entered}
-use Rattle.ds_drives.specs.declared.board.Told.TheVariants.{Began, Recovered}
-use Rattle.ds_drives.specs.Views.{seated, told_also, second_rest}
+use Rattle.ds_drives.specs.declared.board.CallEvent.TheVariants.{Began, Recovered}
+use Rattle.ds_drives.specs.Views.{seated, answered_also, second_rest}
 use Rattle.ds_drives.specs.Rules.{Rules}
 
 -- not only its answer is left
@@ -35,7 +35,7 @@ pub record IsRecoveryOn (layout : Layout) (e : PlainRecoverCall) : Type 0 where
 
 -- the process at a stage of its recovery: where only its answer is left, it is idle, and knows the second layout
 abbrev pub landed_at : PlainRecoverCall → RecoverStage → List (BufferEntry ℕ) → Deeds → Seated
-landed_at e (Answer how) buffer deeds = seated e.process (Idle (second_rest (next_number e.announcement how))) buffer (told_also deeds (Recovered (record e { stage = Answer how }) (end_of e how)))
+landed_at e (Answer how) buffer deeds = seated e.process (Idle (second_rest (next_number e.announcement how))) buffer (answered_also deeds (Recovered (record e { stage = Answer how }) (end_of e how)))
 landed_at e stage buffer deeds = seated e.process (Recovering (record e { stage = stage })) buffer deeds
 
 -- the rules of a recovery

@@ -24,13 +24,13 @@ use Rattle.ds_state.specs.declared.situation.Situation.{Situation}
 use Rattle.ds_state.specs.declared.situation.Situation.TheVariants.{Idle, Stopped}
 use Rattle.ds_state.specs.declared.recovery.RecoveryEnd.TheVariants.{Last, Nothing}
 use Rattle.ds_drives.specs.declared.board.HistoryEntry.{HistoryEntry}
-use Rattle.ds_drives.specs.declared.board.Told.{Told}
-use Rattle.ds_drives.specs.declared.board.Told.TheVariants.{Began, Edited, Worked, Recovered, Reported}
+use Rattle.ds_drives.specs.declared.board.CallEvent.{CallEvent}
+use Rattle.ds_drives.specs.declared.board.CallEvent.TheVariants.{Began, Edited, Worked, Recovered, Reported}
 use Rattle.ds_drives.specs.declared.board.Seated.{Seated}
 use Rattle.ds_drives.specs.declared.board.View.{View}
 use Rattle.ds_drives.specs.Table.{two_sided}
 use Rattle.ds_drives.specs.Views.{In, lone}
-use Rattle.ds_drives.specs.History.{Happened, Run, Stood, told_by, history_of}
+use Rattle.ds_drives.specs.History.{Happened, Run, Stood, answered_by, history_of}
 use Rattle.ds_state.specs.Value.{first_rest}
 use Rattle.std.specs.Prelude.{Some, None}
 
@@ -51,7 +51,7 @@ pub record Origin : Type 0 where
   pub opened : PlainWorld
 
 -- what a world has beside its words: also where its table comes from, and what has happened since, the last event first
-pub record Behind : Type 0 where
+pub record Witness : Type 0 where
   pub situation : ℕ → Situation
   pub buffer : ℕ → List (BufferEntry ℕ)
   pub counted : List PlainEdit
@@ -60,7 +60,7 @@ pub record Behind : Type 0 where
   pub happened : List Happened
 
 -- the world with these words
-abbrev pub world_on : Layout → List ℕ → Behind → PlainWorld
+abbrev pub world_on : Layout → List ℕ → Witness → PlainWorld
 world_on layout words b = record {
   layout = layout;
   memory = memory_at layout (two_sided words b.buffer);
@@ -70,7 +70,7 @@ world_on layout words b = record {
 }
 
 -- of no process that the sheet has not is anything said
-pub record IsBare (layout : Layout) (b : Behind) : Type 0 where
+pub record IsBare (layout : Layout) (b : Witness) : Type 0 where
   pub situations : (q : ℕ) → layout.processes ≤ q → b.situation q ≡ Idle first_rest
   pub buffers : (q : ℕ) → layout.processes ≤ q → b.buffer q ≡ []
   pub open_edits : (q : ℕ) → layout.processes ≤ q → b.open_edits q ≡ None
@@ -84,15 +84,15 @@ pub record IsSecond (w : PlainWorld) : Type 0 where
 -- ---- what a seat was answered
 
 -- what an edit answered is true of the linearized edits
-abbrev pub IsTrueTold : List PlainEdit → PlainEdit → Outcome → Type 0
-IsTrueTold counted d Done = Contains counted d
-IsTrueTold counted d (Overtaken noted seen) = Contains counted d → ⊥
+abbrev pub IsTrueOutcome : List PlainEdit → PlainEdit → Outcome → Type 0
+IsTrueOutcome counted d Done = Contains counted d
+IsTrueOutcome counted d (Overtaken noted seen) = Contains counted d → ⊥
 
 -- an edit of the process, whose number is spent, ended so
 pub record HasEnded (w : PlainWorld) (process : ℕ) (d : PlainEdit) (how : Outcome) : Type 0 where
   pub own : d.process ≡ process
   pub spent : IsSpent w process d.number
-  pub holds : IsTrueTold w.counted d how
+  pub holds : IsTrueOutcome w.counted d how
 
 -- an edit of the process and of this number is linearized, or none is
 abbrev pub CountsAs : List PlainEdit → ℕ → ℕ → Bool → Type 0
@@ -105,13 +105,13 @@ pub record IsResolved (w : PlainWorld) (process number : ℕ) (counts : Bool) : 
   pub holds : CountsAs w.counted process number counts
 
 -- what was answered is true, and stays so
-abbrev pub IsTold : PlainWorld → ℕ → Told → Type 0
-IsTold w process (Began event reply) = Unit {0}
-IsTold w process (Edited e how) = HasEnded w process (edit_of e) how
-IsTold w process (Worked e end) = Unit {0}
-IsTold w process (Recovered e Nothing) = Unit {0}
-IsTold w process (Recovered e (Last told)) = IsResolved w process told.number told.counts
-IsTold w process (Reported e end) = Unit {0}
+abbrev pub IsAnswered : PlainWorld → ℕ → CallEvent → Type 0
+IsAnswered w process (Began event reply) = Unit {0}
+IsAnswered w process (Edited e how) = HasEnded w process (edit_of e) how
+IsAnswered w process (Worked e end) = Unit {0}
+IsAnswered w process (Recovered e Nothing) = Unit {0}
+IsAnswered w process (Recovered e (Last resolved)) = IsResolved w process resolved.number resolved.counts
+IsAnswered w process (Reported e end) = Unit {0}
 
 -- ---- what happened
 
@@ -123,10 +123,10 @@ pub record IsOrigin (o : Origin) : Type 0 where
 
 -- the world with which the table was made has these words
 abbrev pub OpensWith : Layout → List ℕ → Origin → Type 0
-OpensWith layout words o = (b : Behind) × (o.opened ≡ world_on layout words b)
+OpensWith layout words o = (b : Witness) × (o.opened ≡ world_on layout words b)
 
 -- all that has happened since the sheet was new, the last event first
-abbrev pub all_of : Behind → List Happened
+abbrev pub all_of : Witness → List Happened
 all_of b = b.happened ++ b.origin.older
 
 -- a history that was seen is a beginning of all that happened
@@ -139,41 +139,41 @@ pub record IsBeginning (all : List Happened) (seen : List HistoryEntry) : Type 0
 -- it is one, and since then the process has begun no call, and none of its was answered
 pub record HasSeen (all : List Happened) (process : ℕ) (seen : List HistoryEntry) : Type 0 where
   pub begins : IsBeginning all seen
-  pub quiet : told_by process begins.since ≡ []
+  pub quiet : answered_by process begins.since ≡ []
 
 -- what the process was answered is just what it was answered by a stretch of all that happened
-pub record WasTold (all : List Happened) (e : Seated) : Type 0 where
+pub record WasAnswered (all : List Happened) (e : Seated) : Type 0 where
   pub since : List Happened
   pub stretch : List Happened
   pub before : List Happened
   pub parts : all ≡ since ++ (stretch ++ before)
-  pub told : e.deeds.told ≡ told_by e.process stretch
+  pub call_events : e.deeds.call_events ≡ answered_by e.process stretch
 
 -- ---- the rule
 
 -- a process of a view: its situation and its buffer are these, and what it was answered is true
-pub record Stands (layout : Layout) (words : List ℕ) (b : Behind) (e : Seated) : Type 0 where
+pub record Stands (layout : Layout) (words : List ℕ) (b : Witness) (e : Seated) : Type 0 where
   pub now : b.situation e.process ≡ e.now
   pub buffer : b.buffer e.process ≡ e.buffer
-  pub told : (t : Told) → In e.deeds.told t → IsTold (world_on layout words b) e.process t
-  pub deeds : e.deeds.told ≡ told_by e.process b.happened
+  pub call_events : (t : CallEvent) → In e.deeds.call_events t → IsAnswered (world_on layout words b) e.process t
+  pub deeds : e.deeds.call_events ≡ answered_by e.process b.happened
   pub saw : (seen : List HistoryEntry) → e.deeds.seen ≡ Some seen → HasSeen (all_of b) e.process seen
 
 -- it is one of the sheet's, and this seat runs it
-pub record Fits (layout : Layout) (words : List ℕ) (b : Behind) (owner : ℕ → ℕ) (seat : ℕ) (e : Seated) : Type 0 where
+pub record Fits (layout : Layout) (words : List ℕ) (b : Witness) (owner : ℕ → ℕ) (seat : ℕ) (e : Seated) : Type 0 where
   pub low : e.process < layout.processes
   pub mine : owner e.process ≡ seat
   pub stands : Stands layout words b e
 
 -- what a process was answered at a sheet before, or of another seat, is true, and was answered by a stretch of what
 -- happened; what it had seen is a beginning of that
-pub record IsPast (layout : Layout) (words : List ℕ) (b : Behind) (e : Seated) : Type 0 where
-  pub told : (t : Told) → In e.deeds.told t → IsTold (world_on layout words b) e.process t
-  pub was : WasTold (all_of b) e
+pub record IsPast (layout : Layout) (words : List ℕ) (b : Witness) (e : Seated) : Type 0 where
+  pub call_events : (t : CallEvent) → In e.deeds.call_events t → IsAnswered (world_on layout words b) e.process t
+  pub was : WasAnswered (all_of b) e
   pub saw : (seen : List HistoryEntry) → e.deeds.seen ≡ Some seen → IsBeginning (all_of b) seen
 
 -- so it is with each process of the list
-abbrev pub AreTrue : Layout → List ℕ → Behind → List Seated → Type 0
+abbrev pub AreTrue : Layout → List ℕ → Witness → List Seated → Type 0
 AreTrue layout words b past = (e : Seated) → In past e → IsPast layout words b e
 
 -- the process is one of a view
@@ -190,20 +190,20 @@ pub record IsSeated (views : List View) (p : ℕ) : Type 0 where
 -- answered at the sheets before. It goes on from the world with which the table was made, which has the words that it
 -- was made with
 pub record Ruled {S : Type 0} (layout : Layout) (start : Start) (s : State S View) : Type 0 where
-  pub behind : Behind
+  pub witness : Witness
   pub owner : ℕ → ℕ
-  pub sound : IsSound (world_on layout s.words behind)
-  pub second : IsSecond (world_on layout s.words behind)
+  pub sound : IsSound (world_on layout s.words witness)
+  pub second : IsSecond (world_on layout s.words witness)
   pub long : length s.words ≡ 8 * words_of layout
-  pub run : Run behind.origin.opened behind.happened (world_on layout s.words behind)
-  pub bare : IsBare layout behind
-  pub stood : Stood behind.happened
-  pub from : IsOrigin behind.origin
-  pub opens : OpensWith layout start.words behind.origin
-  pub made : start.stopped ≡ false → behind.origin.older ≡ []
+  pub run : Run witness.origin.opened witness.happened (world_on layout s.words witness)
+  pub bare : IsBare layout witness
+  pub stood : Stood witness.happened
+  pub from : IsOrigin witness.origin
+  pub opens : OpensWith layout start.words witness.origin
+  pub made : start.stopped ≡ false → witness.origin.older ≡ []
   pub all : (p : ℕ) → p < layout.processes → IsSeated s.views p
-  pub knows : (j : ℕ) (v : View) → get_elem? s.views j ≡ some v → (e : Seated) → In v.entries e → Fits layout s.words behind owner j e
-  pub past : (j : ℕ) (v : View) → get_elem? s.views j ≡ some v → AreTrue layout s.words behind v.past
+  pub knows : (j : ℕ) (v : View) → get_elem? s.views j ≡ some v → (e : Seated) → In v.entries e → Fits layout s.words witness owner j e
+  pub past : (j : ℕ) (v : View) → get_elem? s.views j ≡ some v → AreTrue layout s.words witness v.past
 
 -- the class of the word with this number
 abbrev pub class_in : Layout → ℕ → Class
@@ -214,7 +214,7 @@ class_in layout n = class_of (place_of layout n)
 -- the process p is in this situation with this buffer, the others are as they were, announcements only grow, at most
 -- an edit of p was linearized, with a number that is not spent, and the second layout stays; a run leads there, of
 -- events of p's by which it was answered this, and no other process was answered anything
-pub record After (layout : Layout) (words words' : List ℕ) (b b' : Behind) (p : ℕ) (s : Situation) (x : List (BufferEntry ℕ)) (ts : List Told) : Type 0 where
+pub record After (layout : Layout) (words words' : List ℕ) (b b' : Witness) (p : ℕ) (s : Situation) (x : List (BufferEntry ℕ)) (ts : List CallEvent) : Type 0 where
   pub sound : IsSound (world_on layout words' b')
   pub now : b'.situation p ≡ s
   pub buffer : b'.buffer p ≡ x
@@ -228,25 +228,25 @@ pub record After (layout : Layout) (words words' : List ℕ) (b b' : Behind) (p 
   pub more : List Happened
   pub happened : b'.happened ≡ more ++ b.happened
   pub run : Run (world_on layout words b) more (world_on layout words' b')
-  pub own : told_by p more ≡ ts
-  pub others_told : (q : ℕ) → q ≢ p → told_by q more ≡ []
+  pub own : answered_by p more ≡ ts
+  pub others_answered : (q : ℕ) → q ≢ p → answered_by q more ≡ []
   pub bare : IsBare layout b → IsBare layout b'
   pub stood : IsSound (world_on layout words b) → IsBare layout b → Stood more
 
 -- in each sound world of the second layout below what the seat knows, the process may come to this situation and this
 -- buffer, by events that begin these calls, and no word changes
-abbrev pub Ready : Layout → Seated → ℕ → Situation → List (BufferEntry ℕ) → List Told → Type 0
-Ready layout seat p s x begins = (words : List ℕ) (b : Behind) → IsSound (world_on layout words b) → IsSecond (world_on layout words b) → p < layout.processes → b.situation p ≡ seat.now → b.buffer p ≡ seat.buffer
-    → (b' : Behind) × After layout words words b b' p s x begins
+abbrev pub Ready : Layout → Seated → ℕ → Situation → List (BufferEntry ℕ) → List CallEvent → Type 0
+Ready layout seat p s x begins = (words : List ℕ) (b : Witness) → IsSound (world_on layout words b) → IsSecond (world_on layout words b) → p < layout.processes → b.situation p ≡ seat.now → b.buffer p ≡ seat.buffer
+    → (b' : Witness) × After layout words words b b' p s x begins
 
 -- the seat has the one process, which has looked, and its process may come to this situation by beginning these calls
-pub record Poised (layout : Layout) (begins : List Told) (me : Me ℕ View) (p : ℕ) (s : Situation) (x : List (BufferEntry ℕ)) : Type 0 where
+pub record Poised (layout : Layout) (begins : List CallEvent) (me : Me ℕ View) (p : ℕ) (s : Situation) (x : List (BufferEntry ℕ)) : Type 0 where
   pub seat : Seated
   pub at : me ≡ (lone seat, [])
   pub own : seat.process ≡ p
   pub seen : List HistoryEntry
   pub looked : seat.deeds.seen ≡ Some seen
-  pub known : (w : PlainWorld) (q : ℕ) (t : Told) → In begins t → IsTold w q t
+  pub known : (w : PlainWorld) (q : ℕ) (t : CallEvent) → In begins t → IsAnswered w q t
   pub ready : Ready layout seat p s x begins
 
 -- the buffer serves the access: it has room for a flush, and an entry for a write-back
@@ -257,7 +257,7 @@ Serves layout Back (x ∷ rest) = x.place < words_of layout
 Serves layout _ buffer = Unit {0}
 
 -- a sound world with these words, in the second layout, in which all processes have stopped
-pub record AtRest (layout : Layout) (words : List ℕ) (b : Behind) : Type 0 where
+pub record AtRest (layout : Layout) (words : List ℕ) (b : Witness) : Type 0 where
   pub sound : IsSound (world_on layout words b)
   pub second : IsSecond (world_on layout words b)
   pub run : Run b.origin.opened b.happened (world_on layout words b)
@@ -268,14 +268,14 @@ pub record AtRest (layout : Layout) (words : List ℕ) (b : Behind) : Type 0 whe
   pub buffer : (p : ℕ) → p < layout.processes → b.buffer p ≡ []
 
 -- from one world to another by stops alone
-pub data Stops (layout : Layout) (words : List ℕ) (first : Behind) : Behind → Type 0 where
+pub data Stops (layout : Layout) (words : List ℕ) (first : Witness) : Witness → Type 0 where
   none : Stops layout words first first
-  stop : (a b : Behind) (p : ℕ) → Stops layout words first a → StopsIn p (world_on layout words a) (world_on layout words b) → Stops layout words first b
+  stop : (a b : Witness) (p : ℕ) → Stops layout words first a → StopsIn p (world_on layout words a) (world_on layout words b) → Stops layout words first b
 
 -- these words are those of a sound world, in the second layout, in which each process that was handed in does what its
 -- seat says, and stops alone lead from it to one at rest, in which all that was answered is true still
 pub record Closes (layout : Layout) (start : Start) (words : List ℕ) (Handed : Seated → Type 0) (past : List Seated) : Type 0 where
-  pub last : Behind
+  pub last : Witness
   pub sound : IsSound (world_on layout words last)
   pub second : IsSecond (world_on layout words last)
   pub run : Run last.origin.opened last.happened (world_on layout words last)
@@ -285,10 +285,10 @@ pub record Closes (layout : Layout) (start : Start) (words : List ℕ) (Handed :
   pub opens : OpensWith layout start.words last.origin
   pub made : start.stopped ≡ false → last.origin.older ≡ []
   pub stands : (e : Seated) → Handed e → Stands layout words last e
-  pub behind : Behind
-  pub stops : Stops layout words last behind
-  pub rests : AtRest layout words behind
-  pub told : AreTrue layout words behind past
+  pub witness : Witness
+  pub stops : Stops layout words last witness
+  pub rests : AtRest layout words witness
+  pub call_events : AreTrue layout words witness past
 
 -- what a crash leaves of the word with this number: both its sides are the cached one where it was chosen, else the
 -- persisted one
@@ -296,10 +296,10 @@ abbrev pub HasSideLeft : Bool → List ℕ → List ℕ → ℕ → Type 0
 HasSideLeft chosen words words' n = let side : ℕ = if chosen then slice_index words (8 * n) else slice_index words (8 * n + 1) in (slice_index words' (8 * n) ≡ side) × (slice_index words' (8 * n + 1) ≡ side)
 
 -- below these words, too, stands a sound world at rest, and what was answered stays true
-pub record Survives (layout : Layout) (words words' : List ℕ) (b : Behind) : Type 0 where
-  pub behind : Behind
-  pub rests : AtRest layout words' behind
-  pub origin : behind.origin ≡ b.origin
+pub record Survives (layout : Layout) (words words' : List ℕ) (b : Witness) : Type 0 where
+  pub witness : Witness
+  pub rests : AtRest layout words' witness
+  pub origin : witness.origin ≡ b.origin
   pub more : List Happened
-  pub happened : behind.happened ≡ more ++ b.happened
-  pub told : (e : Seated) → IsPast layout words b e → IsPast layout words' behind e
+  pub happened : witness.happened ≡ more ++ b.happened
+  pub call_events : (e : Seated) → IsPast layout words b e → IsPast layout words' witness e

@@ -9,7 +9,7 @@ use Rattle.ds_state.specs.declared.turn.Turn.{Turn}
 use Rattle.ds_state.specs.declared.turn.Turn.TheVariants.{GoesOn, Answers}
 use Rattle.ds_drives.specs.declared.board.Deeds.{Deeds}
 use Rattle.ds_drives.specs.declared.board.Seated.{Seated}
-use Rattle.ds_drives.specs.declared.board.Told.{Told}
+use Rattle.ds_drives.specs.declared.board.CallEvent.{CallEvent}
 
 -- of a call: its process; what that does; that it is before its first step; how it begins; its access; the call after a
 -- step that found a number; the process of a view where the call has come so far: after the last step its answer is
@@ -19,7 +19,7 @@ pub record Rules (C E : Type 0) : Type 1 where
   pub process : C → ℕ
   pub doing : C → Situation
   pub begun : Layout → C → Type 0
-  pub begins : Layout → C → Told
+  pub begins : Layout → C → CallEvent
   pub access : Layout → C → Access Place
   pub next : C → ℕ → C
   pub land : C → List (BufferEntry ℕ) → Deeds → Seated

@@ -14,8 +14,8 @@ use Rattle.ds_drives.specs.declared.board.Seated.{Seated}
 use Rattle.ds_drives.specs.declared.board.Deeds.{Deeds}
 use Rattle.ds_core.specs.declared.event.Event.TheVariants.{BeginShow}
 use Rattle.ds_core.specs.declared.reply.Reply.TheVariants.{Entered}
-use Rattle.ds_drives.specs.declared.board.Told.TheVariants.{Began, Reported}
-use Rattle.ds_drives.specs.Views.{seated, told_also, second_rest}
+use Rattle.ds_drives.specs.declared.board.CallEvent.TheVariants.{Began, Reported}
+use Rattle.ds_drives.specs.Views.{seated, answered_also, second_rest}
 use Rattle.ds_drives.specs.Rules.{Rules}
 
 -- not only its answer is left
@@ -35,7 +35,7 @@ pub record IsShowOn (layout : Layout) (e : PlainShowCall) : Type 0 where
 
 -- the process at a stage of its show: where only its answer is left, it is idle, and knows the second layout
 abbrev pub landed_at : PlainShowCall → ShowStage → List (BufferEntry ℕ) → Deeds → Seated
-landed_at e (Answer end) buffer deeds = seated e.process (Idle (second_rest e.next)) buffer (told_also deeds (Reported (record e { stage = Answer end }) end))
+landed_at e (Answer end) buffer deeds = seated e.process (Idle (second_rest e.next)) buffer (answered_also deeds (Reported (record e { stage = Answer end }) end))
 landed_at e stage buffer deeds = seated e.process (Showing (record e { stage = stage })) buffer deeds
 
 -- the same process and number

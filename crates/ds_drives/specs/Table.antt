@@ -61,17 +61,17 @@ answer (SwapIf n expected value) found = found
 answer _ found = 0
 
 -- what the table reports of its step: the number found, or, where it stores, the number stored
-abbrev pub told_back : Class → ℕ → ℕ → ℕ
-told_back Stamped found value = found
-told_back Bit found value = found
-told_back Owned found value = value
+abbrev pub returned_back : Class → ℕ → ℕ → ℕ
+returned_back Stamped found value = found
+returned_back Bit found value = found
+returned_back Owned found value = value
 
 -- what a call of the table reports of an access, with the oldest entry of the buffer, where the word is this
-abbrev pub told : Access ℕ → Option (BufferEntry ℕ) → ℕ → ℕ
-told (Store n value) oldest found = value
-told Back None found = found
-told Back (Some x) found = told_back x.class found x.value
-told _ oldest found = found
+abbrev pub call_events : Access ℕ → Option (BufferEntry ℕ) → ℕ → ℕ
+returned (Store n value) oldest found = value
+returned Back None found = found
+returned Back (Some x) found = returned_back x.class found x.value
+returned _ oldest found = found
 
 -- the class of the word that an access flushes
 abbrev pub class_flushed : Access Place → Class

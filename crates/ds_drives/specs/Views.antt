@@ -10,7 +10,7 @@ use Rattle.ds_state.specs.declared.situation.Situation.TheVariants.{Idle, Stoppe
 use Rattle.ds_drives.specs.declared.board.Deeds.{Deeds}
 use Rattle.ds_drives.specs.declared.board.HistoryEntry.{HistoryEntry}
 use Rattle.ds_drives.specs.declared.board.Seated.{Seated}
-use Rattle.ds_drives.specs.declared.board.Told.{Told}
+use Rattle.ds_drives.specs.declared.board.CallEvent.{CallEvent}
 use Rattle.ds_drives.specs.declared.board.View.{View}
 
 -- x stands in the list
@@ -22,19 +22,19 @@ In (y ∷ ys) x = (y ≡ x) ⊎ In ys x
 
 -- it was answered nothing, and took no step; so much of the history it has seen
 abbrev pub nothing_done : Option (List HistoryEntry) → Deeds
-nothing_done seen = record { told = []; steps = 0; seen = seen }
+nothing_done seen = record { call_events = []; steps = 0; seen = seen }
 
 -- it was answered all this more
-abbrev pub told_more : Deeds → List Told → Deeds
-told_more d ts = record { told = ts ++ d.told; steps = d.steps; seen = d.seen }
+abbrev pub answered_more : Deeds → List CallEvent → Deeds
+answered_more d ts = record { call_events = ts ++ d.call_events; steps = d.steps; seen = d.seen }
 
 -- it was answered one thing more
-abbrev pub told_also : Deeds → Told → Deeds
-told_also d t = record { told = t ∷ d.told; steps = d.steps; seen = d.seen }
+abbrev pub answered_also : Deeds → CallEvent → Deeds
+answered_also d t = record { call_events = t ∷ d.call_events; steps = d.steps; seen = d.seen }
 
 -- it took n steps more, and has then seen this
 abbrev pub steps_later : Deeds → ℕ → List HistoryEntry → Deeds
-steps_later d n seen = record { told = d.told; steps = d.steps + n; seen = Some seen }
+steps_later d n seen = record { call_events = d.call_events; steps = d.steps + n; seen = Some seen }
 
 -- the history that it has seen, and nothing before it has looked
 abbrev pub seen_so_far : Option (List HistoryEntry) → List HistoryEntry

@@ -19,8 +19,8 @@ use Rattle.ds_drives.specs.declared.board.Deeds.{Deeds}
 use Rattle.ds_formula.specs.Cells.{cell_at}
 use Rattle.ds_core.specs.declared.event.Event.TheVariants.{BeginWork}
 use Rattle.ds_core.specs.declared.reply.Reply.TheVariants.{Entered}
-use Rattle.ds_drives.specs.declared.board.Told.TheVariants.{Began, Worked}
-use Rattle.ds_drives.specs.Views.{seated, told_also, second_rest}
+use Rattle.ds_drives.specs.declared.board.CallEvent.TheVariants.{Began, Worked}
+use Rattle.ds_drives.specs.Views.{seated, answered_also, second_rest}
 use Rattle.ds_drives.specs.Rules.{Rules}
 
 -- a step that touches a word is left
@@ -49,7 +49,7 @@ pub data Turned (layout : Layout) (e : PlainWorkCall) : PlainWorkCall → Type 0
 
 -- the process at a stage of its work: where only its answer is left, it is idle, and knows the second layout
 abbrev pub landed_at : PlainWorkCall → WorkStage → List (BufferEntry ℕ) → Deeds → Seated
-landed_at e (Answer end) buffer deeds = seated e.process (Idle (second_rest e.next)) buffer (told_also deeds (Worked (record e { stage = Answer end }) end))
+landed_at e (Answer end) buffer deeds = seated e.process (Idle (second_rest e.next)) buffer (answered_also deeds (Worked (record e { stage = Answer end }) end))
 landed_at e stage buffer deeds = seated e.process (Working (record e { stage = stage })) buffer deeds
 
 -- the same process, number and cell

@@ -6,7 +6,7 @@ ghost use Rattle.ds_layout.specs.Places.{AreStartsOf, words_of};
 ghost use Rattle.ds_drives.specs.Views.{HasRest, In, bygone, first_now, first_view, lone, newcomer, past_of, united, whole_view};
 ghost use Rattle.ds_drives.specs.Looks.{BeginsWithAll, Looks};
 ghost use Rattle.ds_drives.specs.declared.board.HistoryEntry.{HistoryEntry};
-ghost use Rattle.ds_drives.specs.Rule.{AreTrue, AtRest, Behind, Closes};
+ghost use Rattle.ds_drives.specs.Rule.{AreTrue, AtRest, Witness, Closes};
 ghost use Rattle.ds_drives.specs.Table.{new_words};
 
 use crate::kept::KeptTexts;
@@ -29,7 +29,7 @@ use std::snapshot::Snapshot;
 /// What a process has done. No value of it is made.
 pub struct Deeds {
     /// What its calls were answered, the last one first.
-    pub told: [Told; 0],
+    pub call_events: [CallEvent; 0],
     /// How many steps it took.
     pub steps: usize,
     /// The history of the sheet up to its last step, the last entry first; none before it has looked.
@@ -49,7 +49,7 @@ pub struct Seated {
 }
 
 /// What a process did in a history: it began a call, or a call of it was answered. No value of it is made.
-pub enum Told {
+pub enum CallEvent {
     /// A call began: the event, and its reply.
     Began(Event, Reply),
     /// An edit, with all that it loaded, and how it ended.
@@ -70,7 +70,7 @@ pub struct HistoryEntry {
     /// The reply to the event.
     pub reply: Reply,
     /// The call that it began, or answered with all that it loaded; else nothing.
-    pub told: [Told; 0],
+    pub call_events: [CallEvent; 0],
 }
 
 /// What a seat knows. No value of it is made.
@@ -82,7 +82,7 @@ pub struct View {
 }
 
 /// A seat at a table.
-pub type Place = Seat<u8, View>;
+pub type TableSeat = Seat<u8, View>;
 
 /// What is fixed when the table is made.
 #[derive(Drop)]
@@ -92,7 +92,7 @@ pub struct Key {
     /// Whether every process is stopped at first.
     pub stopped: bool,
     /// A seat of a sheet before, which remembers what was answered.
-    pub before: Option<Place>,
+    pub before: Option<TableSeat>,
     /// The words with which it is made, which clauses alone read.
     pub words: Snapshot<Vec<u64>>,
 }
@@ -218,7 +218,7 @@ impl Board {
 
     /// A board of a new sheet, in the second layout: the version's word says it on both sides, and stays. All
     /// other words are 0. A seat runs every process. An error means that an allocation failed.
-    pub fn make(alloc: Global, layout: Layout) -> Result<(Board, Place), AllocError>
+    pub fn make(alloc: Global, layout: Layout) -> Result<(Board, TableSeat), AllocError>
         ensures layout { IfOk result (λ r. r.0.layout ≡ layout) }
         ensures place { IfOk result (λ r. (r.1.table_id ≡ r.0.table.shared.table_id) × (r.1.me ≡ (first_view false layout.processes [], []))) }
         ensures made { IfOk result (λ r. r.0.table.shared.key.stopped ≡ false) }
@@ -248,10 +248,10 @@ impl Board {
         alloc: Global,
         layout: Layout,
         words: &Vec<u64>,
-        before: Option<Place>,
-    ) -> Result<(Board, Place), Option<Place>>
+        before: Option<TableSeat>,
+    ) -> Result<(Board, TableSeat), Option<TableSeat>>
         requires long { length words.now.items ≡ 8 * words_of layout }
-        requires rests { (b : Behind) × AtRest layout words.now.items b × AreTrue layout words.now.items b (past_of before) }
+        requires rests { (b : Witness) × AtRest layout words.now.items b × AreTrue layout words.now.items b (past_of before) }
         ensures layout { IfOk result (λ r. r.0.layout ≡ layout) }
         ensures place { IfOk result (λ r. (r.1.table_id ≡ r.0.table.shared.table_id) × ((seen : List HistoryEntry) × (r.1.me ≡ (whole_view true (Some seen) layout.processes (past_of before), [])) × BeginsWithAll seen (past_of before))) }
         ensures words { IfOk result (λ r. r.0.table.shared.key.words.value.items ≡ words.now.items) }
@@ -276,7 +276,7 @@ impl Board {
     }
 
     /// A seat for the first process of one that runs all from this one on, before their first call.
-    pub fn deal(&self, rest: &mut Place, process: usize, stopped: bool) -> Place
+    pub fn deal(&self, rest: &mut TableSeat, process: usize, stopped: bool) -> TableSeat
         requires place { (rest.old.table_id ≡ self.now.table.shared.table_id) × (rest.old.me.1 ≡ []) }
         requires low { process < self.now.layout.processes }
         requires rest { (seen : Option (List HistoryEntry)) × HasRest (first_now stopped) seen process self.now.layout.processes rest.old.me.0.past rest.old.me.0 }
@@ -294,7 +294,7 @@ impl Board {
     }
 
     /// A seat of no process, which remembers what another one knows.
-    pub fn note(&self, place: &mut Place) -> Place
+    pub fn note(&self, place: &mut TableSeat) -> TableSeat
         requires { (place.old.table_id ≡ self.now.table.shared.table_id) × (place.old.me.1 ≡ []) }
         ensures place { (place.new.table_id ≡ place.old.table_id) × (place.new.me ≡ place.old.me) }
         ensures note { (result.table_id ≡ place.old.table_id) × (result.me ≡ (bygone place.old.me.0, [])) }
@@ -305,7 +305,7 @@ impl Board {
 
     /// A seat looks at the table, by a load of one word: its processes have then seen all that has happened. It
     /// remembers nobody any more.
-    pub fn look(&self, place: &mut Place)
+    pub fn look(&self, place: &mut TableSeat)
         requires { (place.old.table_id ≡ self.now.table.shared.table_id) × (place.old.me.1 ≡ []) }
         ensures { (place.new.table_id ≡ place.old.table_id) × (place.new.me.1 ≡ []) × Looks place.old.me.0 [] place.new.me.0 }
     {
@@ -314,7 +314,7 @@ impl Board {
     }
 
     /// A seat takes in the processes of another one.
-    pub fn join(&self, place: &mut Place, other: Place)
+    pub fn join(&self, place: &mut TableSeat, other: TableSeat)
         requires place { place.old.table_id ≡ self.now.table.shared.table_id }
         requires other { (other.table_id ≡ self.now.table.shared.table_id) × (other.me.1 ≡ []) }
         ensures { (place.new.table_id ≡ place.old.table_id) × (place.new.me ≡ (united place.old.me.0 other.me.0, place.old.me.1)) }
@@ -324,7 +324,7 @@ impl Board {
     }
 
     /// Ends the board, with a seat: its words, and a seat that remembers what this one knows.
-    pub fn close(self, mut place: Place) -> (Closed<u8, Global>, Place)
+    pub fn close(self, mut place: TableSeat) -> (Closed<u8, Global>, TableSeat)
         requires { (place.table_id ≡ self.table.shared.table_id) × (place.me.1 ≡ []) }
         ensures counts { (slots_len result.0.words ≡ 8 * words_of self.layout) × (slots_len result.0.slots ≡ 0) × IsFull result.0.words }
         ensures past { result.1.me.0.past ≡ place.me.0.past ++ place.me.0.entries }

@@ -6,7 +6,7 @@ ghost use Rattle.ds_drives.specs.Rules.{Came};
 ghost use Rattle.ds_drives.specs.Rule.{Poised};
 ghost use Rattle.ds_drives.specs.Machines.{IsServed, Breaks, Settles};
 
-use crate::board::{Board, Place};
+use crate::board::{Board, TableSeat};
 use crate::fuse::Fuse;
 use crate::machine::Machine;
 use crate::steps::{Buffer, access, answer, flushed, keep, oldest};
@@ -19,7 +19,7 @@ use std::marker::Brand;
 pub(crate) fn drive<M: Machine, F: Fuse>(
     alloc: Global,
     board: &Board,
-    seat: &mut Place,
+    seat: &mut TableSeat,
     call: &mut M,
     fuse: &mut F,
 ) -> Option<M::End>

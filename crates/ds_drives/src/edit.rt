@@ -9,7 +9,7 @@ ghost use Rattle.ds_drives.specs.Views.{lone, second_rest, seen_at, sole};
 ghost use Rattle.ds_drives.specs.Rules.{Came};
 ghost use Rattle.ds_drives.specs.Machines.{Breaks, Settles};
 
-use crate::board::{Board, Place};
+use crate::board::{Board, TableSeat};
 use crate::drive::drive;
 use crate::fuse::Fuse;
 use crate::machine::Machine;
@@ -71,7 +71,7 @@ impl Board {
     pub fn edit<F: Fuse>(
         &self,
         alloc: Global,
-        place: &mut Place,
+        place: &mut TableSeat,
         call: &mut EditCall,
         fuse: &mut F,
     ) -> Option<EditEnd>

@@ -10,7 +10,7 @@ ghost use Rattle.ds_drives.specs.Views.{lone, seen_at, sole};
 ghost use Rattle.ds_drives.specs.Rules.{Came};
 ghost use Rattle.ds_drives.specs.Machines.{Breaks, Settles};
 
-use crate::board::{Board, Place};
+use crate::board::{Board, TableSeat};
 use crate::drive::drive;
 use crate::fuse::Fuse;
 use crate::machine::Machine;
@@ -67,7 +67,7 @@ impl Board {
     pub fn recover<F: Fuse>(
         &self,
         alloc: Global,
-        place: &mut Place,
+        place: &mut TableSeat,
         call: &mut RecoverCall,
         fuse: &mut F,
     ) -> Option<RecoveryEnd>

@@ -11,7 +11,7 @@ ghost use Rattle.ds_drives.specs.Views.{lone, second_rest, seen_at, sole};
 ghost use Rattle.ds_drives.specs.Rules.{Came};
 ghost use Rattle.ds_drives.specs.Machines.{Breaks, Settles};
 
-use crate::board::{Board, Place};
+use crate::board::{Board, TableSeat};
 use crate::drive::drive;
 use crate::fuse::Fuse;
 use crate::machine::Machine;
@@ -68,7 +68,7 @@ impl Board {
     pub fn show<F: Fuse>(
         &self,
         alloc: Global,
-        place: &mut Place,
+        place: &mut TableSeat,
         call: &mut ShowCall,
         fuse: &mut F,
     ) -> Option<ShowEnd>

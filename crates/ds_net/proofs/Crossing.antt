@@ -18,33 +18,33 @@ use Rattle.ds_shared_seats.proofs.Crossing.{seat_send}
 use Rattle.ds_shared_seats.specs.contracts.seat.Seat as Seat
 use Rattle.ds_net.specs.contracts.door.Door as Door
 use Rattle.ds_net.specs.contracts.keeping.Keeping as Keeping
-use Rattle.ds_net.specs.contracts.keeping.Told as Told
+use Rattle.ds_net.specs.contracts.keeping.Backlog as Backlog
 use Rattle.ds_net.specs.contracts.server.Service as Service
-use Rattle.ds_store.specs.contracts.edit.ToldEdit as ToldEdit
+use Rattle.ds_store.specs.contracts.edit.AnsweredEdit as AnsweredEdit
 use Rattle.ds_formula.specs.contracts.cells.Cell as Cell
 use Rattle.std.specs.contracts.sync.Condvar as Condvar
 
 -- a locked truth value may be shared by threads
-pub told_sync : IsSync (Mutex.the_row bool)
-told_sync = search (sendable, crosses) depth 40
+pub flag_sync : IsSync (Mutex.the_row bool)
+flag_sync = search (sendable, crosses) depth 40
 
 Cell-send : IsSend Cell.the_row
 Cell-send = search (sendable, crosses) depth 20
 
-edit_send : IsSend ToldEdit.the_row
+edit_send : IsSend AnsweredEdit.the_row
 edit_send = search (sendable, crosses, Cell-send) depth 40
 
-told_send : IsSend Told.the_row
-told_send = search (sendable, crosses, edit_send) depth 40
+backlog_send : IsSend Backlog.the_row
+backlog_send = search (sendable, crosses, edit_send) depth 40
 
-told_lock : IsSync (Mutex.the_row Told.the_row)
-told_lock = search (sendable, crosses, told_send) depth 40
+backlog_lock : IsSync (Mutex.the_row Backlog.the_row)
+backlog_lock = search (sendable, crosses, backlog_send) depth 40
 
 signal_sync : IsSync Condvar.the_row
 signal_sync = search (sendable, crosses) depth 40
 
 keeping_sync : IsSync Keeping.the_row
-keeping_sync = search (sendable, crosses, told_sync, told_lock, signal_sync) depth 40
+keeping_sync = search (sendable, crosses, flag_sync, backlog_lock, signal_sync) depth 40
 
 -- the door of a server may be shared by threads
 pub door_sync : IsSync Door.the_row

@@ -23,8 +23,8 @@ use Rattle.ds_shared_seats.specs.Sheets.{IsSeatOf, LacksCell}
 use Rattle.ds_shared_seats.specs.declared.fault.Fault.{Fault}
 use Rattle.ds_shared_seats.specs.declared.fault.Fault.TheVariants.{NoProcess, NoCell, SeatTaken, ShortChoice, NoMemory}
 use Rattle.ds_shared_seats.specs.declared.seat.Seat.{Seat}
-use Rattle.ds_server.specs.declared.board.CallRefusal.{CallRefusal}
-use Rattle.ds_server.specs.declared.board.Reported.{Reported}
+use Rattle.ds_server.specs.declared.desk.CallRefusal.{CallRefusal}
+use Rattle.ds_server.specs.declared.desk.Reported.{Reported}
 use Rattle.ds_server.specs.Replies.{Said, Refused, report_view}
 use Rattle.ds_net.specs.SharedDesks.{BreaksOff, FitsCause, HasReported, HasWorked, STEPS_MOST, goes_on, last_said, report_said, rests, sheet_of}
 

@@ -6,7 +6,7 @@ use Rattle.std.specs.declared.io.ErrorKind.TheVariants.{WouldBlock, ConnectionAb
 use Rattle.ds_net.specs.declared.accepting.Step.{Step}
 use Rattle.ds_net.specs.declared.accepting.Step.TheVariants as steps
 use Rattle.ds_net.specs.declared.counts.Ending.{Ending}
-use Rattle.ds_net.specs.declared.counts.Ending.TheVariants.{Told, Served}
+use Rattle.ds_net.specs.declared.counts.Ending.TheVariants.{Asked, Served}
 use Rattle.ds_net.specs.declared.counts.Taken.{Taken}
 use Rattle.ds_net.specs.declared.accepting.Waited.{Waited}
 use Rattle.ds_net.specs.declared.accepting.Waited.TheVariants as waited
@@ -30,7 +30,7 @@ passes kind = false
 -- a server that has had this number of sessions, and is to serve at most `most` (0: for ever), takes no more connections
 -- for this reason: it was asked to stop; or it has an end, and that number has come
 abbrev pub HasEnded : ℕ → ℕ → Ending → Type 0
-HasEnded most sessions Told = Unit {0}
+HasEnded most sessions Asked = Unit {0}
 HasEnded most sessions Served = (0 < most) × (most ≤ sessions)
 
 -- a server that has had this number of sessions takes one more: it has no end, or fewer have come

@@ -13,10 +13,10 @@ use Rattle.ds_core.specs.declared.reply.Reply.{Reply}
 use Rattle.ds_core.specs.declared.reply.Reply.TheVariants.{Answered}
 use Rattle.ds_core.specs.declared.reply.Reply.TheVariants as replies
 use Rattle.ds_crew.specs.Passes.{PlainPass, asked}
-use Rattle.ds_server.specs.declared.board.CallRefusal.{CallRefusal}
-use Rattle.ds_server.specs.declared.board.CallRefusal.TheVariants.{NoMemory, ProcessTaken}
-use Rattle.ds_server.specs.WorldBoards.{refused_by}
-use Rattle.ds_server.specs.BoardCalls.{Call, Join, Set, Report, Last, Leave}
+use Rattle.ds_server.specs.declared.desk.CallRefusal.{CallRefusal}
+use Rattle.ds_server.specs.declared.desk.CallRefusal.TheVariants.{NoMemory, ProcessTaken}
+use Rattle.ds_server.specs.WorldDesks.{refused_by}
+use Rattle.ds_server.specs.DeskCalls.{Call, Join, Set, Report, Last, Leave}
 use Rattle.ds_server.specs.Replies.{Said, Joined, Done, Overtaken, Settled, Unsettled, Tells, Left, Refused}
 
 -- the session has the pass of this process
@@ -29,9 +29,9 @@ abbrev pub edit_of : ℕ → Cell → List ℕ → Event
 edit_of process cell text = BeginEdit (record { process = process; cell = cell; text = text })
 
 -- the answer of a recovery that tells this
-abbrev pub told_answer : Option LastEdit → Reply
-told_answer (Some told) = Answered (answers.Recovery (recovery_ends.Last told))
-told_answer None = Answered (answers.Recovery recovery_ends.Nothing)
+abbrev pub recovery_answer : Option LastEdit → Reply
+recovery_answer (Some resolved) = Answered (answers.Recovery (recovery_ends.Last resolved))
+recovery_answer None = Answered (answers.Recovery recovery_ends.Nothing)
 
 -- the last reply of a call, where the session is answered that the call is refused for this cause
 abbrev pub Refuses : Reply → CallRefusal → Type 0
@@ -40,9 +40,9 @@ Refuses replies.NotEnabled why = why ≡ ProcessTaken
 Refuses reply why = ⊥
 
 -- a recovery that had this as its last reply is answered so
-abbrev pub IsToldBy : Reply → Result (Option LastEdit) CallRefusal → Type 0
-IsToldBy reply (Ok last) = reply ≡ told_answer last
-IsToldBy reply (Err why) = Refuses reply why
+abbrev pub IsResolvedBy : Reply → Result (Option LastEdit) CallRefusal → Type 0
+IsResolvedBy reply (Ok last) = reply ≡ recovery_answer last
+IsResolvedBy reply (Err why) = Refuses reply why
 
 -- the pass was used for one call more, which this event began, and which was refused for this cause
 pub record IsRefusedAt (pass : PlainPass) (begin : Event) (why : CallRefusal) (new : Option PlainPass) : Type 0 where
@@ -54,7 +54,7 @@ pub record IsRefusedAt (pass : PlainPass) (begin : Event) (why : CallRefusal) (n
 pub record HasJoined (process : ℕ) (last : Option LastEdit) (new : Option PlainPass) : Type 0 where
   pub pass : PlainPass
   pub process_is : pass.process ≡ process
-  pub new_is : new ≡ Some (asked pass (BeginRecover process) (told_answer last))
+  pub new_is : new ≡ Some (asked pass (BeginRecover process) (recovery_answer last))
 
 -- the pass after an edit that was answered Done: it was used for one call more, the edit of this cell to this text, whose
 -- answer is Done with this number, and which it has counted
@@ -86,7 +86,7 @@ Deals (Some pass) (Report p) (Settled values) new = new ≡ Some (after_settled 
 Deals (Some pass) (Report p) (Unsettled place word) new =
     new ≡ Some (asked pass (BeginShow p) (Answered (answers.Show (show_ends.Unsettled place word))))
 Deals (Some pass) (Report p) (Refused why) new = (new ≡ Some pass) ⊎ IsRefusedAt pass (BeginShow p) why new
-Deals (Some pass) (Last p) (Tells last) new = new ≡ Some (asked pass (BeginRecover p) (told_answer last))
+Deals (Some pass) (Last p) (Tells last) new = new ≡ Some (asked pass (BeginRecover p) (recovery_answer last))
 Deals (Some pass) (Last p) (Refused why) new = IsRefusedAt pass (BeginRecover p) why new
 Deals old (Leave p) Left new = new ≡ None
 Deals old call said new = ⊥

@@ -20,10 +20,10 @@ use Rattle.ds_shared.specs.declared.sheet.SharedSheet.{SharedSheet}
 use Rattle.ds_shared_seats.specs.Calls.{Edits, Works, Recovers, Reports, last_of}
 use Rattle.ds_shared_seats.specs.Sheets.{IsSeatOf}
 use Rattle.ds_shared_seats.specs.declared.seat.Seat.{Seat}
-use Rattle.ds_server.specs.declared.board.CallRefusal.{CallRefusal}
-use Rattle.ds_server.specs.declared.board.CallRefusal.TheVariants as refusals
-use Rattle.ds_server.specs.WorldBoards.{refused_by}
-use Rattle.ds_server.specs.BoardCalls.{Call, Join, Set, Report, Last, Leave}
+use Rattle.ds_server.specs.declared.desk.CallRefusal.{CallRefusal}
+use Rattle.ds_server.specs.declared.desk.CallRefusal.TheVariants as refusals
+use Rattle.ds_server.specs.WorldDesks.{refused_by}
+use Rattle.ds_server.specs.DeskCalls.{Call, Join, Set, Report, Last, Leave}
 use Rattle.ds_server.specs.Replies as said
 
 -- how many steps a call of a session may take: as many as are counted
@@ -52,7 +52,7 @@ set_said Stopped = broken
 
 -- what is said to a recovery that ended so
 abbrev pub last_said : Ended RecoveryEnd → said.Said
-last_said (Answered (recovery_ends.Last told)) = said.Tells (Some told)
+last_said (Answered (recovery_ends.Last resolved)) = said.Tells (Some resolved)
 last_said (Answered recovery_ends.Nothing) = said.Tells None
 last_said (Refused why) = said.Refused (refused_by why)
 last_said Stopped = broken

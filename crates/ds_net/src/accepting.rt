@@ -98,8 +98,8 @@ fn ending(door: &Door, sessions: u64, most: u64) -> Option<Ending>
     ensures some { IfSome result (HasEnded most sessions) }
     ensures none { result ≡ None → MayGoOn most sessions }
 {
-    if door.is_told() {
-        return Some(Ending::Told);
+    if door.is_stopping() {
+        return Some(Ending::Asked);
     }
     if most > 0 && sessions >= most {
         Some(Ending::Served)
@@ -160,7 +160,7 @@ fn wait<R: Wait + Clock + Log>(
         thread::sleep(rt, Duration::from_millis(REST));
     }
     // `forever` has no end; where it had one, no more connections would be taken.
-    Waited::Over(Ending::Told)
+    Waited::Over(Ending::Asked)
 }
 
 // A connection as the next session, where fewer than `at_once` are there. Else it is refused, and there is none yet; the
@@ -209,5 +209,5 @@ pub(crate) fn next_session<R: Wait + Clock + Log>(
         }
     }
     // As in `wait`.
-    Step::Ended(Ok(counts.taken(Ending::Told)))
+    Step::Ended(Ok(counts.taken(Ending::Asked)))
 }

@@ -3,7 +3,7 @@
 use crate::door::Door;
 use crate::farewell::{Farewell, is_foreign, part};
 use crate::floor::Floor;
-use crate::held::Held;
+use crate::durable_writer::DurableWriter;
 use crate::visit::Visit;
 use crate::wire::{Wire, prepare};
 use ds_script_io::streams::{Reading, Writing};
@@ -32,7 +32,7 @@ enum Parting {
     // The client has ended it, or the server was asked to stop.
     Ended,
     // The client is answered why.
-    Told(Farewell),
+    Answered(Farewell),
     // The session ended so, and nothing can be answered.
     Broken(&'static str),
 }
@@ -41,7 +41,7 @@ impl Parting {
     // The parting where the client was silent for too long, and this one where it was not.
     fn unless_idle(self, visit: &Visit<'_>) -> Parting {
         if visit.was_idle() {
-            Parting::Told(Farewell::Idle)
+            Parting::Answered(Farewell::Idle)
         } else {
             self
         }
@@ -52,7 +52,7 @@ impl Parting {
 fn parting_of(end: SessionEnd, visit: &Visit<'_>) -> Parting {
     match end {
         SessionEnd::Ended => Parting::Ended,
-        SessionEnd::TooLong => Parting::Told(Farewell::TooLong),
+        SessionEnd::TooLong => Parting::Answered(Farewell::TooLong),
         SessionEnd::ReadFailed => Parting::Broken("read failed").unless_idle(visit),
         SessionEnd::WriteFailed if visit.was_idle() => Parting::Broken("idle, and reads nothing"),
         SessionEnd::WriteFailed if visit.is_lost() => Parting::Broken("the store has failed"),
@@ -84,7 +84,7 @@ fn one<F: Floor, R: Wait + Clock>(
     let mut first = [0u8; FIRST];
     match Wire::new(stream, visit, ticks).first(&mut first) {
         Ok(count) if says_foreign(&first, count) => {
-            return Parting::Told(Farewell::Foreign);
+            return Parting::Answered(Farewell::Foreign);
         }
         Ok(_) => {}
         Err(_) => return Parting::Broken("read failed").unless_idle(visit),
@@ -94,7 +94,7 @@ fn one<F: Floor, R: Wait + Clock>(
     };
     let mut reader = Reading::new(buffered);
     let wire = Wire::new(stream, visit, ticks);
-    let mut writer = Writing::new(Held::new(rt, wire, visit));
+    let mut writer = Writing::new(DurableWriter::new(rt, wire, visit));
     parting_of(floor.sit(rt, alloc, &mut reader, &mut writer, visit), visit)
 }
 
@@ -163,14 +163,14 @@ pub(crate) fn served<F: Floor, R: Wait + Clock + Log>(
     let visit = Visit::new(door);
     let ticks = door.patience();
     let parting = one(rt, alloc, floor, &stream, &visit, ticks);
-    if let Parting::Told(farewell) = parting {
+    if let Parting::Answered(farewell) = parting {
         part(&stream, farewell);
     }
     drop(stream);
     door.leave();
     match parting {
         Parting::Ended => {}
-        Parting::Told(farewell) => {
+        Parting::Answered(farewell) => {
             log_line(rt, door, number, &peer, visit.process(), farewell.name())
         }
         Parting::Broken(how) => log_line(rt, door, number, &peer, visit.process(), how),

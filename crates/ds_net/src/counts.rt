@@ -8,7 +8,7 @@ use std::net::TcpStream;
 #[derive(Clone, Copy, Debug, PartialEq, Eq)]
 pub enum Ending {
     /// It was asked to stop.
-    Told,
+    Asked,
     /// As many connections became sessions as it was to serve.
     Served,
 }

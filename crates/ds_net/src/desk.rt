@@ -1,11 +1,11 @@
-//! A board that is a locked sheet.
+//! A desk that is a locked sheet.
 
 ghost use Rattle.std.specs.Prelude.{◌≡◌, ◌<◌, ◌≤◌, ℕ, List, length, vec_capacity, IfSome, Some};
 ghost use Rattle.ds_crew.specs.Passes.{PlainPass};
 ghost use Rattle.ds_crew.specs.Ends.{after_edit, after_recovery, recovery_reply};
-ghost use Rattle.ds_server.specs.BoardCalls.{Last, Set, Report};
+ghost use Rattle.ds_server.specs.DeskCalls.{Last, Set, Report};
 ghost use Rattle.ds_server.specs.Replies.{last_view, set_view, report_view};
-ghost use Rattle.ds_net.specs.Desks.{Deals, IsToldBy};
+ghost use Rattle.ds_net.specs.Desks.{Deals, IsResolvedBy};
 
 use crate::keeping::Keeping;
 use crate::queues::put_back;
@@ -17,7 +17,7 @@ use ds_crew::locked::LockedSheet;
 use ds_crew::pass::Pass;
 use ds_eval::value::Value;
 use ds_formula::cells::{Cell, Shape};
-use ds_server::board::{Board, CallRefusal, Reported};
+use ds_server::desk::{CallRefusal, Desk, Reported};
 use ds_state::answer::EditEnd;
 use ds_state::recovery::LastEdit;
 use std::alloc::Global;
@@ -58,12 +58,12 @@ impl<'a, L: Ledger, M: Ledger, R: Wait + Clock> LockedDesk<'a, L, M, R> {
 }
 
 // What a recovery tells, or why it was refused.
-fn told(recovered: Recovered) -> Result<Option<LastEdit>, CallRefusal>
-    ensures told { IsToldBy (recovery_reply recovered) result }
+fn last_of(recovered: Recovered) -> Result<Option<LastEdit>, CallRefusal>
+    ensures resolved { IsResolvedBy (recovery_reply recovered) result }
     ensures deals { (pass : PlainPass) → Deals (Some pass) (Last pass.process) (last_view result) (Some (after_recovery pass recovered)) }
 {
     match recovered {
-        Recovered::Last(told) => Ok(Some(told)),
+        Recovered::Last(resolved) => Ok(Some(resolved)),
         Recovered::Nothing => Ok(None),
         Recovered::Refused(why) => Err(CallRefusal::from(why)),
         Recovered::NotEnabled => Err(CallRefusal::ProcessTaken),
@@ -179,7 +179,7 @@ fn popped<L: Ledger, M: Ledger, R: Wait>(
 }
 
 /// A session over a locked sheet has the pass of the process that it has joined.
-impl<'a, L: Ledger, M: Ledger, R: Wait + Clock> Board for LockedDesk<'a, L, M, R> {
+impl<'a, L: Ledger, M: Ledger, R: Wait + Clock> Desk for LockedDesk<'a, L, M, R> {
     ghost use Rattle.ds_net.specs.Desks.{IsPassOf, Deals};
     ghost use Rattle.std.specs.Prelude.{length};
 
@@ -205,7 +205,7 @@ impl<'a, L: Ledger, M: Ledger, R: Wait + Clock> Board for LockedDesk<'a, L, M, R
         match popped(self.rt, &self.queues[process], process) {
             Some(mut pass) => {
                 let recovered = self.sheet.recover(self.rt, alloc, &mut pass);
-                match told(recovered) {
+                match last_of(recovered) {
                     Ok(last) => {
                         self.pass = Some(pass);
                         self.visit.joins(process);
@@ -254,7 +254,7 @@ impl<'a, L: Ledger, M: Ledger, R: Wait + Clock> Board for LockedDesk<'a, L, M, R
         let Some(pass) = &mut self.pass else {
             return Err(CallRefusal::ProcessTaken);
         };
-        told(self.sheet.recover(self.rt, alloc, pass))
+        last_of(self.sheet.recover(self.rt, alloc, pass))
     }
 
     fn leave(&mut self, process: usize) {

@@ -7,7 +7,7 @@ use std::sync::atomic::{AtomicBool, AtomicU64, Ordering};
 /// the threads of the server and by whoever tells it to stop.
 #[derive(Drop)]
 pub struct Door {
-    told: AtomicBool,
+    stopping: AtomicBool,
     ended: AtomicBool,
     logs: AtomicBool,
     patience: AtomicU64,
@@ -23,7 +23,7 @@ pub struct Door {
 
 /// What the sessions of a server have come to.
 #[derive(Clone, Copy, Debug, PartialEq, Eq)]
-pub struct Totals {
+pub struct SessionTotals {
     /// Sessions that have joined a process.
     pub joined: u64,
     /// Sets that were answered `done`.
@@ -45,7 +45,7 @@ impl Door {
     /// Of a server that has not begun; where it has a store, its sessions tell the keeper of it what is to be kept.
     pub fn with_store(keeping: Option<Keeping>) -> Door {
         Door {
-            told: AtomicBool::new(false),
+            stopping: AtomicBool::new(false),
             ended: AtomicBool::new(false),
             logs: AtomicBool::new(false),
             patience: AtomicU64::new(0),
@@ -68,12 +68,12 @@ impl Door {
     /// Tells the server to stop: it takes no more connections, each session answers the lines that it has read, and
     /// ends.
     pub fn tell(&self) {
-        self.told.store(true, Ordering::SeqCst);
+        self.stopping.store(true, Ordering::SeqCst);
     }
 
     /// Whether the server was asked to stop.
-    pub fn is_told(&self) -> bool {
-        self.told.load(Ordering::SeqCst)
+    pub fn is_stopping(&self) -> bool {
+        self.stopping.load(Ordering::SeqCst)
     }
 
     /// Whether the server has ended: nobody has to listen any more for what may tell it to stop.
@@ -87,8 +87,8 @@ impl Door {
     }
 
     /// What the sessions have come to so far.
-    pub fn totals(&self) -> Totals {
-        Totals {
+    pub fn totals(&self) -> SessionTotals {
+        SessionTotals {
             joined: self.joined.load(Ordering::SeqCst),
             done: self.done.load(Ordering::SeqCst),
             overtaken: self.overtaken.load(Ordering::SeqCst),

@@ -17,7 +17,7 @@ pub trait Floor {
     /// How many processes the sheet has.
     fn processes(&self) -> usize;
 
-    /// One session over these streams, which `ds_server` carries out over the sheet as a board.
+    /// One session over these streams, which `ds_server` carries out over the sheet as a desk.
     fn sit<I: Read, O: Write, R: Wait + Clock>(
         &self,
         rt: &R,

@@ -7,7 +7,7 @@ ghost use Rattle.ds_state.specs.declared.answer.Answer.TheVariants.{Edit};
 ghost use Rattle.ds_state.specs.declared.answer.EditEnd.TheVariants.{Done};
 
 use ds_crew::ended::Receipt;
-use ds_store::edit::ToldEdit;
+use ds_store::edit::AnsweredEdit;
 use std::alloc::Global;
 use std::mem;
 use std::sync::{Condvar, Mutex, MutexGuard, Wait};
@@ -31,7 +31,7 @@ const TICK: u64 = 250;
 #[derive(Drop)]
 pub(crate) enum News {
     /// Edits that are to be kept, one at least.
-    Edits(Vec<ToldEdit>),
+    Edits(Vec<AnsweredEdit>),
     /// Nothing for a tick.
     Nothing,
     /// Nothing any more: no more edits are made, or the keeper could not hear of one.
@@ -40,11 +40,11 @@ pub(crate) enum News {
 
 // What the keeper has heard of, and what of it is kept.
 #[derive(Drop)]
-struct Told {
+struct Backlog {
     // The edits that the keeper has not taken yet, in the order in which they were made.
-    edits: Vec<ToldEdit>,
+    edits: Vec<AnsweredEdit>,
     // How many edits the keeper has heard of, and how many of them are kept.
-    told: u64,
+    heard: u64,
     kept: u64,
     phase: Phase,
 }
@@ -55,20 +55,20 @@ struct Told {
 #[derive(Drop)]
 pub struct Keeping {
     turn: Mutex<bool>,
-    told: Mutex<Told>,
+    backlog: Mutex<Backlog>,
     news: Condvar,
     done: Condvar,
 }
 
 // The edit of a receipt.
-fn told_edit(receipt: Receipt) -> ToldEdit {
+fn answered_edit(receipt: Receipt) -> AnsweredEdit {
     let Receipt {
         process,
         number,
         cell,
         text,
     } = receipt;
-    ToldEdit {
+    AnsweredEdit {
         process,
         number,
         cell,
@@ -79,15 +79,15 @@ fn told_edit(receipt: Receipt) -> ToldEdit {
 impl Keeping {
     /// Of a server that has not begun.
     pub fn new(alloc: Global) -> Keeping {
-        let told = Told {
+        let backlog = Backlog {
             edits: Vec::new(alloc),
-            told: 0,
+            heard: 0,
             kept: 0,
             phase: Phase::Keeps,
         };
         Keeping {
             turn: Mutex::new(false),
-            told: Mutex::new(told),
+            backlog: Mutex::new(backlog),
             news: Condvar::new(),
             done: Condvar::new(),
         }
@@ -103,44 +103,44 @@ impl Keeping {
     pub(crate) fn tell<R: Wait>(&self, rt: &R, receipt: Receipt)
         requires { HasUsed receipt.process (BeginEdit (record { process = receipt.process; cell = receipt.cell; text = receipt.text })) (Answered (Edit (Done receipt.number))) }
     {
-        let mut told = self.told.lock(rt);
-        if told.edits.push(told_edit(receipt)).is_err() {
-            told.phase = Phase::Failed;
+        let mut backlog = self.backlog.lock(rt);
+        if backlog.edits.push(answered_edit(receipt)).is_err() {
+            backlog.phase = Phase::Failed;
         }
-        told.told = told.told.saturating_add(1);
+        backlog.heard = backlog.heard.saturating_add(1);
         self.news.notify_one();
     }
 
     /// Waits until all edits that the keeper has heard of are kept. False where that failed.
     pub(crate) fn wait_for_all<R: Wait>(&self, rt: &R) -> bool {
-        let told = self.told.lock(rt);
-        let wanted = told.told;
-        let told = self.done.wait_while(rt, told, |told| {
-            told.kept < wanted && told.phase != Phase::Failed
+        let backlog = self.backlog.lock(rt);
+        let wanted = backlog.heard;
+        let backlog = self.done.wait_while(rt, backlog, |backlog| {
+            backlog.kept < wanted && backlog.phase != Phase::Failed
         });
-        told.kept >= wanted
+        backlog.kept >= wanted
     }
 
     /// No more edits come.
     pub(crate) fn end<R: Wait>(&self, rt: &R) {
-        let mut told = self.told.lock(rt);
-        if told.phase == Phase::Keeps {
-            told.phase = Phase::Ends;
+        let mut backlog = self.backlog.lock(rt);
+        if backlog.phase == Phase::Keeps {
+            backlog.phase = Phase::Ends;
         }
         self.news.notify_one();
     }
 
     // Waits for edits, for a tick at most, and takes those that have come.
     pub(crate) fn take<R: Wait + Clock>(&self, rt: &R, alloc: Global) -> News {
-        let told = self.told.lock(rt);
+        let backlog = self.backlog.lock(rt);
         let tick = Duration::from_millis(TICK);
-        let (mut told, _) = self.news.wait_timeout_while(rt, told, tick, |told| {
-            told.edits.is_empty() && told.phase == Phase::Keeps
+        let (mut backlog, _) = self.news.wait_timeout_while(rt, backlog, tick, |backlog| {
+            backlog.edits.is_empty() && backlog.phase == Phase::Keeps
         });
-        if !told.edits.is_empty() {
-            return News::Edits(mem::replace(&mut told.edits, Vec::new(alloc)));
+        if !backlog.edits.is_empty() {
+            return News::Edits(mem::replace(&mut backlog.edits, Vec::new(alloc)));
         }
-        match told.phase {
+        match backlog.phase {
             Phase::Keeps => News::Nothing,
             Phase::Ends | Phase::Failed => News::Over,
         }
@@ -148,20 +148,20 @@ impl Keeping {
 
     // This number of edits more is kept.
     pub(crate) fn count<R: Wait>(&self, rt: &R, count: usize) {
-        let mut told = self.told.lock(rt);
-        told.kept = told.kept.saturating_add(count as u64);
+        let mut backlog = self.backlog.lock(rt);
+        backlog.kept = backlog.kept.saturating_add(count as u64);
         self.done.notify_all();
     }
 
     // Whether something could not be kept.
     pub(crate) fn has_failed<R: Wait>(&self, rt: &R) -> bool {
-        self.told.lock(rt).phase == Phase::Failed
+        self.backlog.lock(rt).phase == Phase::Failed
     }
 
     // Nothing is kept any more.
     pub(crate) fn fail<R: Wait>(&self, rt: &R) {
-        let mut told = self.told.lock(rt);
-        told.phase = Phase::Failed;
+        let mut backlog = self.backlog.lock(rt);
+        backlog.phase = Phase::Failed;
         self.done.notify_all();
     }
 }

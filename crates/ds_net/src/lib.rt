@@ -8,7 +8,7 @@ pub mod desk;
 pub mod door;
 mod farewell;
 pub mod floor;
-mod held;
+mod durable_writer;
 pub mod keeper;
 pub mod keeping;
 pub mod locked_floor;

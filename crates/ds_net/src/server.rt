@@ -145,7 +145,7 @@ fn serve_beside<F: Floor + Sync, R: Threads + Wait + Clock + Log + Sync>(
     ensures lasting { IfErr result IsLasting }
 {
     let stop = Mutex::new(false);
-    let told = &stop;
+    let stops = &stop;
     thread::scope(
         thread::scope_env(),
         rt,
@@ -154,10 +154,10 @@ fn serve_beside<F: Floor + Sync, R: Threads + Wait + Clock + Log + Sync>(
             ensures lasting { IfErr result IsLasting }
         {
             for process in first..floor.processes() {
-                let _ = scope.spawn(move || floor.work(rt, alloc, process, told));
+                let _ = scope.spawn(move || floor.work(rt, alloc, process, stops));
             }
             let result = accept(rt, alloc, listener, floor, door, service);
-            *told.lock(rt) = true;
+            *stops.lock(rt) = true;
             result
         },
     )

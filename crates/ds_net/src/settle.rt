@@ -5,7 +5,7 @@ ghost use Rattle.std.specs.Prelude.{◌≡◌};
 use ds_crew::ended::Worked;
 use ds_crew::locked::LockedSheet;
 use ds_crew::pass::Pass;
-use ds_server::board::CallRefusal;
+use ds_server::desk::CallRefusal;
 use ds_state::work::WorkEnd;
 use std::alloc::Global;
 use std::sync::Wait;

@@ -1,4 +1,4 @@
-//! A board that is a sheet which threads share, with no lock.
+//! A desk that is a sheet which threads share, with no lock.
 
 ghost use Rattle.std.specs.Prelude.{◌≡◌, IfSome, Some};
 ghost use Rattle.ds_shared_seats.specs.Sheets.{IsSeatOf};
@@ -10,7 +10,7 @@ use crate::shared_settle::{STEPS_MOST, shared_settle};
 use crate::visit::Visit;
 use crossbeam_queue::ArrayQueue;
 use ds_formula::cells::{Cell, Shape};
-use ds_server::board::{Board, CallRefusal, Reported};
+use ds_server::desk::{CallRefusal, Desk, Reported};
 use ds_shared::ended::Ended;
 use ds_shared_seats::seat::Seat;
 use ds_state::answer::EditEnd;
@@ -53,11 +53,11 @@ impl<'a, R: Wait + Clock> SharedDesk<'a, R> {
 }
 
 // What a recovery reports. It is stopped only after more steps than it can take.
-fn told(ended: Ended<RecoveryEnd>) -> Result<Option<LastEdit>, CallRefusal>
+fn last_of(ended: Ended<RecoveryEnd>) -> Result<Option<LastEdit>, CallRefusal>
     ensures { last_view result ≡ last_said ended }
 {
     match ended {
-        Ended::Answered(RecoveryEnd::Last(told)) => Ok(Some(told)),
+        Ended::Answered(RecoveryEnd::Last(resolved)) => Ok(Some(resolved)),
         Ended::Answered(RecoveryEnd::Nothing) => Ok(None),
         Ended::Refused(why) => Err(CallRefusal::from(why)),
         Ended::Stopped => Err(CallRefusal::Stopped),
@@ -119,7 +119,7 @@ fn reported<R: Wait + Clock>(
 fn recovered(alloc: Global, seat: &mut Seat) -> Result<Option<LastEdit>, CallRefusal>
     ensures { HasRecovered seat.old (last_view result) (Some seat.new) }
 {
-    told(seat.recover(alloc, STEPS_MOST))
+    last_of(seat.recover(alloc, STEPS_MOST))
 }
 
 // The seat of a process, out of its queue. None where it is not there.
@@ -135,7 +135,7 @@ fn popped<R: Wait>(rt: &R, queue: &ArrayQueue<Seat>, process: usize) -> Option<S
 }
 
 /// A session over a shared sheet has the seat of the process that it has joined.
-impl<'a, R: Wait + Clock> Board for SharedDesk<'a, R> {
+impl<'a, R: Wait + Clock> Desk for SharedDesk<'a, R> {
     ghost use Rattle.ds_net.specs.SharedDesks.{IsSeatAt, SharedDeals};
     ghost use Rattle.std.specs.Prelude.{length};
 

@@ -9,7 +9,7 @@ use crate::visit::Visit;
 use crossbeam_queue::ArrayQueue;
 use ds_formula::cells::Shape;
 use ds_script_io::streams::{Reading, Writing};
-use ds_server::board::CallRefusal;
+use ds_server::desk::CallRefusal;
 use ds_server::session::{SessionEnd, session};
 use ds_shared_seats::seat::Seat;
 use ds_shared_seats::sheet::OpenSheet;

@@ -6,7 +6,7 @@ ghost use Rattle.ds_net.specs.SharedDesks.{BreaksOff, FitsCause, HasWorked, shee
 ghost use Rattle.ds_shared_seats.specs.Sheets.{IsSeatOf};
 
 use crate::settle::{PATIENCE, REST, Round};
-use ds_server::board::CallRefusal;
+use ds_server::desk::CallRefusal;
 use ds_shared::ended::Ended;
 use ds_shared_seats::fault::Fault;
 use ds_shared_seats::seat::Seat;

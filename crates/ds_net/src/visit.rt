@@ -2,7 +2,7 @@
 
 use crate::door::Door;
 use crate::keeping::Keeping;
-use ds_server::board::{CallRefusal, Reported};
+use ds_server::desk::{CallRefusal, Reported};
 use ds_state::answer::EditEnd;
 use std::sync::atomic::{AtomicBool, AtomicU64, Ordering};
 
@@ -38,12 +38,12 @@ impl<'a> Visit<'a> {
 
     // Whether the session is to read no more: the server was asked to stop.
     pub(crate) fn is_over(&self) -> bool {
-        self.door.is_told()
+        self.door.is_stopping()
     }
 
     // Whether the server was asked to stop.
-    pub(crate) fn is_told(&self) -> bool {
-        self.door.is_told()
+    pub(crate) fn is_stopping(&self) -> bool {
+        self.door.is_stopping()
     }
 
     // What is shared with the keeper of the server's store, if it has one.

@@ -95,7 +95,7 @@ impl Write for Wire<'_> {
                 Err(error) if error.kind() == ErrorKind::WouldBlock => {}
                 written => return written,
             }
-            if self.visit.is_told() {
+            if self.visit.is_stopping() {
                 late = late.saturating_add(1);
                 if late >= LATE {
                     break;

@@ -26,7 +26,7 @@ use std::time::Clock;
 // Reports on standard error where the server listens: with its port, where the system has given it one.
 fn say_where(rt: &impl Eprint, listener: &TcpListener, asked: SocketAddr) {
     let at = listener.local_addr().unwrap_or(asked);
-    let _told = eprintln!(rt; "dsheet: listening on {at}");
+    let _reported = eprintln!(rt; "dsheet: listening on {at}");
 }
 
 // What a server that ended so reports on standard error, and its status. The name is that of its store, if it has one.
@@ -40,7 +40,7 @@ fn ended(
         Ok(_) => 0,
         Err(ServeError::NoMemory) => no_memory(rt),
         Err(ServeError::Listener(error)) => {
-            let _told = eprintln!(rt; "dsheet: {listen}: {error}");
+            let _reported = eprintln!(rt; "dsheet: {listen}: {error}");
             STREAM_FAILED
         }
         Err(ServeError::Store(fault)) => tell_fault(rt, store, fault),
@@ -58,7 +58,7 @@ fn bound<R: Eprint + Net<Stream = TcpStream, Listener = TcpListener>>(
             Ok(listener)
         }
         Err(error) => {
-            let _told = eprintln!(rt; "dsheet: {listen}: {error}");
+            let _reported = eprintln!(rt; "dsheet: {listen}: {error}");
             Err(STREAM_FAILED)
         }
     }

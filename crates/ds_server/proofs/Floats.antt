@@ -4,8 +4,8 @@ use Rattle.serde_json.specs.View.{items_of}
 use Rattle.serde_json.specs.Written.{has_float, items_have_float}
 use Rattle.ds_formula.specs.declared.cells.Shape.{Shape}
 use Rattle.ds_eval.specs.declared.value.Value.{Value}
-use Rattle.ds_server.specs.declared.board.CallRefusal.{CallRefusal}
-use Rattle.ds_server.specs.declared.board.CallRefusal.TheVariants as refusal
+use Rattle.ds_server.specs.declared.desk.CallRefusal.{CallRefusal}
+use Rattle.ds_server.specs.declared.desk.CallRefusal.TheVariants as refusal
 use Rattle.ds_server.specs.Replies.{Said, Joined, Done, Overtaken, Settled, Unsettled, Tells, Left, Refused, Faulted}
 use Rattle.ds_server.specs.SessionTexts.{value_data, row_data, rows_of, said_data, refusal_data}
 

@@ -12,10 +12,10 @@ use Rattle.ds_calls.specs.Traces.{Trace, no_trace, both, Leads, call_trace, sett
 use Rattle.ds_calls.proofs.Runs.{both_lead, call_leads, settle_leads}
 use Rattle.ds_server.specs.declared.session.SessionEnd.{SessionEnd}
 use Rattle.ds_server.specs.declared.session.SessionEnd.TheVariants as ends
-use Rattle.ds_server.specs.BoardCalls.{Call, Leave}
+use Rattle.ds_server.specs.DeskCalls.{Call, Leave}
 use Rattle.ds_server.specs.Replies.{Said, Left}
-use Rattle.ds_server.specs.Boards.{Leaves}
-use Rattle.ds_server.specs.WorldBoards.{Does, joins, sets, reports, is_refused, lacks, tells, leaves, world_rules}
+use Rattle.ds_server.specs.Desks.{Leaves}
+use Rattle.ds_server.specs.WorldDesks.{Does, joins, sets, reports, is_refused, lacks, tells, leaves, world_rules}
 use Rattle.ds_server.specs.Session.{Obeys, refuses, calls, Answers, no_json, no_memory, reads, Turns, short, long, Session, begins, turns, Broken, Ran, Outcome}
 use Rattle.ds_server.specs.SessionTraces.{does_trace, obeys_trace, answers_trace, turns_trace, session_trace, broken_trace, ran_trace, leaves_trace, outcome_trace}
 
@@ -54,8 +54,8 @@ session_leads most first last bytes out joined (turns b more o old n j said sess
 
 broken_leads : (most : ℕ) (first last : WorldValue) (bytes out : List ℕ) (joined : Option ℕ) (h : Broken world_rules most first bytes out last joined) → Leads first (broken_trace most first last bytes out joined h) last
 broken_leads most first last bytes out joined h =
-    both_lead (session_trace most first h.board h.lines out h.before h.session) (turns_trace most h.board last h.before h.more h.said h.turn) first h.board last
-    (session_leads most first h.board h.lines out h.before h.session) (turns_leads most h.board last h.before h.more h.said h.turn)
+    both_lead (session_trace most first h.desk h.lines out h.before h.session) (turns_trace most h.desk last h.before h.more h.said h.turn) first h.desk last
+    (session_leads most first h.desk h.lines out h.before h.session) (turns_leads most h.desk last h.before h.more h.said h.turn)
 
 ran_leads : (most limit : ℕ) (first last : WorldValue) (bytes out : List ℕ) (joined : Option ℕ) (end : SessionEnd) (h : Ran world_rules most limit first bytes out last joined end) → Leads first (ran_trace most limit first last bytes out joined end h) last
 ran_leads most limit first last bytes out joined ends.Ended h = session_leads most first last h.1.lines out joined h.1.session
@@ -72,8 +72,8 @@ leaves_leads (Some p) old new h = does_leads old new (Leave p) Left h
 -- what a session does to a world is the run of its trace
 pub outcome_leads : (most limit : ℕ) (first last : WorldValue) (bytes out : List ℕ) (end : SessionEnd) (h : Outcome world_rules most limit first bytes out last end) → Leads first (outcome_trace most limit first last bytes out end h) last
 outcome_leads most limit first last bytes out end h =
-    both_lead (ran_trace most limit first h.board bytes out h.joined end h.ran) (leaves_trace h.joined h.board last h.leaves) first h.board last
-    (ran_leads most limit first h.board bytes out h.joined end h.ran) (leaves_leads h.joined h.board last h.leaves)
+    both_lead (ran_trace most limit first h.desk bytes out h.joined end h.ran) (leaves_trace h.joined h.desk last h.leaves) first h.desk last
+    (ran_leads most limit first h.desk bytes out h.joined end h.ran) (leaves_leads h.joined h.desk last h.leaves)
 
 -- a run from a new world, with the trace of a session after it, is a run, and has the headline
 pub outcome_headline : (most limit : ℕ) (start first last : WorldValue) (before : Trace) (bytes out : List ℕ) (end : SessionEnd) → IsNew (world_of start) → IsGood start → Leads start before first → (h : Outcome world_rules most limit first bytes out last end)

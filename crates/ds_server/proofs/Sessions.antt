@@ -7,7 +7,7 @@ use Rattle.ds_server.specs.declared.session.Hindrance.TheVariants as hindrances
 use Rattle.ds_server.specs.declared.session.SessionEnd.TheVariants as ends
 use Rattle.ds_server.specs.SessionLines.{ReadsLine, ReadsLong, ReadsPart, ReadsOver}
 use Rattle.ds_server.specs.Replies.{Said, Faulted}
-use Rattle.ds_server.specs.Boards.{Rules, joined_after}
+use Rattle.ds_server.specs.Desks.{Rules, joined_after}
 use Rattle.ds_server.specs.SessionTexts.{said_text}
 use Rattle.ds_server.specs.Session.{Answers, Turns, short, long, Session, turns, Served, Within, OverLimit, Ran}
 use Rattle.ds_server.specs.LineAnswers.{Writes, Says, end_of}
@@ -40,11 +40,11 @@ module _ {B : Type 0} (rules : Rules B) (most : ℕ) (first old new : B) (bytes 
       → (end_of stop ≢ ends.WriteFailed → Appends before then_ out) × Ran rules most limit first (bytes ++ more) out new after (end_of stop)
   session_stops limit hindrances.NoMemory s w t j tells = (
     (λ _. subst (λ (o : Option (List ℕ)). Appends before o out) (sym tells.0) w),
-    inr (record { lines = bytes; more = more; board = old; before = joined; said = said; session = s; turn = t; joined_is = j; is = refl }),
+    inr (record { lines = bytes; more = more; desk = old; before = joined; said = said; session = s; turn = t; joined_is = j; is = refl }),
   )
   session_stops limit hindrances.WriteFailed s w t j tells = (
     (λ ne. absurd (ne refl)),
-    record { lines = bytes; more = more; board = old; before = joined; said = said; session = s; turn = t; joined_is = j; is = refl },
+    record { lines = bytes; more = more; desk = old; before = joined; said = said; session = s; turn = t; joined_is = j; is = refl },
   )
 
 -- a write that failed is reported

@@ -4,7 +4,7 @@ use Rattle.ds_layout.specs.declared.layout.Layout.{Layout}
 use Rattle.ds_state.specs.Value.{WorldValue}
 use Rattle.ds_calls.specs.Whole.{IsRun, KeepsFree}
 use Rattle.ds_calls.proofs.Runs.{run_keeps_layout}
-use Rattle.ds_server.specs.WorldBoards.{IsSeated}
+use Rattle.ds_server.specs.WorldDesks.{IsSeated}
 
 -- a session has its process still, after a run that leaves it in no call
 pub stays_seated : (p : ℕ) (old new : WorldValue) → IsRun old new → KeepsFree p old new → IsSeated old p → IsSeated new p

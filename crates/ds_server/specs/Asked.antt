@@ -6,7 +6,7 @@ use Rattle.ds_server.specs.declared.request.Request.{Request}
 use Rattle.ds_server.specs.declared.request.Request.TheVariants as request
 use Rattle.ds_server.specs.declared.request.LineFault.{LineFault}
 use Rattle.ds_server.specs.declared.request.LineFault.TheVariants.{NotJson, NoMemory}
-use Rattle.ds_server.specs.BoardCalls.{Call, Join, Set, Report, Last}
+use Rattle.ds_server.specs.DeskCalls.{Call, Join, Set, Report, Last}
 use Rattle.ds_server.specs.LineRequests.{IsJson, IsNoJson}
 
 -- the call of a request

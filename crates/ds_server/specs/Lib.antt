@@ -1,13 +1,13 @@
 pub mod SessionLimits
-pub mod BoardCalls
+pub mod DeskCalls
 pub mod Replies
-pub mod Boards
+pub mod Desks
 pub mod SessionLines
 pub mod LineRequests
 pub mod Asked
 pub mod SessionTexts
 pub mod Session
 pub mod SessionEndings
-pub mod WorldBoards
+pub mod WorldDesks
 pub mod LineAnswers
 pub mod SessionTraces

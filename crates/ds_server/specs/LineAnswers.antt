@@ -10,7 +10,7 @@ use Rattle.ds_server.specs.declared.session.Hindrance.TheVariants as hindrances
 use Rattle.ds_server.specs.declared.session.SessionEnd.{SessionEnd}
 use Rattle.ds_server.specs.declared.session.SessionEnd.TheVariants as ends
 use Rattle.ds_server.specs.Replies.{Said, Joined, Done, Overtaken, Settled, Unsettled, Tells, Refused, Faulted}
-use Rattle.ds_server.specs.Boards.{Rules, Seated, joined_after}
+use Rattle.ds_server.specs.Desks.{Rules, Seated, joined_after}
 use Rattle.ds_server.specs.SessionTexts.{said_text}
 use Rattle.ds_server.specs.Session.{Answers}
 

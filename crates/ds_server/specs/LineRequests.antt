@@ -12,7 +12,7 @@ use Rattle.ds_server.specs.declared.request.Operation.{Operation}
 use Rattle.ds_server.specs.declared.request.Operation.TheVariants as verb
 use Rattle.ds_server.specs.declared.request.LineFault.{LineFault}
 use Rattle.ds_server.specs.declared.request.LineFault.TheVariants as fault
-use Rattle.ds_server.specs.BoardCalls.{Call, Join, Set, Report, Last, Leave}
+use Rattle.ds_server.specs.DeskCalls.{Call, Join, Set, Report, Last, Leave}
 
 -- ---- JSON
 
@@ -45,7 +45,7 @@ verb_named word =
 
 -- ---- calls
 
--- the join of a process, where the board has it
+-- the join of a process, where the desk has it
 abbrev pub join_by : ℕ → ℕ → Option Call
 join_by processes process = if nat_lt process processes then Some (Join process) else None
 
@@ -87,7 +87,7 @@ call_op shape processes joined value (Some op) = call_with shape processes joine
 abbrev pub call_of : Shape → ℕ → Option ℕ → Data → Result Call LineFault
 call_of shape processes joined value = call_op shape processes joined value (text_field (codes "op") value)
 
--- the call is one that a session may make which has joined this process, if any: a join of a process of the board, or
+-- the call is one that a session may make which has joined this process, if any: a join of a process of the desk, or
 -- a call of its own process, of a cell of the sheet
 abbrev pub IsCallOf : Shape → ℕ → Option ℕ → Call → Type 0
 IsCallOf shape processes joined (Join process) = (joined ≡ None) × (process < processes)

@@ -6,12 +6,12 @@ use Rattle.ds_state.specs.declared.answer.EditEnd.{EditEnd}
 use Rattle.ds_state.specs.declared.answer.EditEnd.TheVariants as edit
 use Rattle.ds_state.specs.declared.answer.Other.{Other}
 use Rattle.ds_state.specs.declared.recovery.LastEdit.{LastEdit}
-use Rattle.ds_server.specs.declared.board.CallRefusal.{CallRefusal}
-use Rattle.ds_server.specs.declared.board.Reported.{Reported}
-use Rattle.ds_server.specs.declared.board.Reported.TheVariants as report
+use Rattle.ds_server.specs.declared.desk.CallRefusal.{CallRefusal}
+use Rattle.ds_server.specs.declared.desk.Reported.{Reported}
+use Rattle.ds_server.specs.declared.desk.Reported.TheVariants as report
 use Rattle.ds_server.specs.declared.request.LineFault.{LineFault}
 
--- what a board answers to a call; and `Faulted`, what a session says to a line that asks for no call
+-- what a desk answers to a call; and `Faulted`, what a session says to a line that asks for no call
 pub data Said : Type 0 where
   Joined : ℕ → Option LastEdit → Said
   Done : ℕ → Said

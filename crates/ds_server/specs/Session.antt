@@ -1,5 +1,5 @@
--- A session: its lines in order, the board after each, and what is said to them. Over any board: what a call does and
--- is answered is what the board says of itself.
+-- A session: its lines in order, the desk after each, and what is said to them. Over any desk: what a call does and
+-- is answered is what the desk says of itself.
 use Rattle.std.specs.Prelude.{◌≡◌, ◌⊎◌, ℕ, ◌+◌, ◌<◌, ◌≤◌, List, [], ◌++◌, ◌∷◌, length, Option, None, Ok, Err}
 use Rattle.serde_json.specs.Data.{Data}
 use Rattle.ds_server.specs.declared.request.LineFault.{LineFault}
@@ -7,21 +7,21 @@ use Rattle.ds_server.specs.declared.request.LineFault.TheVariants.{LineTooLong, 
 use Rattle.ds_server.specs.declared.session.SessionEnd.{SessionEnd}
 use Rattle.ds_server.specs.declared.session.SessionEnd.TheVariants as ends
 use Rattle.ds_server.specs.SessionLines.{HasNoFeed, IsLine}
-use Rattle.ds_server.specs.BoardCalls.{Call}
+use Rattle.ds_server.specs.DeskCalls.{Call}
 use Rattle.ds_server.specs.Replies.{Said, Faulted}
-use Rattle.ds_server.specs.Boards.{Rules, Leaves, joined_after}
+use Rattle.ds_server.specs.Desks.{Rules, Leaves, joined_after}
 use Rattle.ds_server.specs.LineRequests.{IsJson, IsNoJson, call_of}
 use Rattle.ds_server.specs.SessionTexts.{said_text}
 
 -- ---- one line
 
--- what is said to the value of a line, and the board before and after it: a fault, which leaves the board as it is;
+-- what is said to the value of a line, and the desk before and after it: a fault, which leaves the desk as it is;
 -- or the answer to the call that the value asks for
 pub data Obeys {B : Type 0} (rules : Rules B) (old : B) (joined : Option ℕ) (value : Data) : Said → B → Type 0 where
   refuses : (fault : LineFault) → call_of (rules.shape old) (rules.processes old) joined value ≡ Err fault → Obeys rules old joined value (Faulted fault) old
   calls : (call : Call) (said : Said) (new : B) → call_of (rules.shape old) (rules.processes old) joined value ≡ Ok call → rules.does old call said new → Obeys rules old joined value said new
 
--- what is said to a line: that it is no JSON, just where it is none; or what is said to its value; or, with the board
+-- what is said to a line: that it is no JSON, just where it is none; or what is said to its value; or, with the desk
 -- as it is, that memory was wanted to read it
 pub data Answers {B : Type 0} (rules : Rules B) (old : B) (joined : Option ℕ) (line : List ℕ) : Said → B → Type 0 where
   no_json : IsNoJson line → Answers rules old joined line (Faulted NotJson) old
@@ -35,7 +35,7 @@ pub data Turns {B : Type 0} (rules : Rules B) (most : ℕ) (old : B) (joined : O
 
 -- ---- lines
 
--- the bytes are lines, one after another; each was answered, and these are the answers; they led from the first board
+-- the bytes are lines, one after another; each was answered, and these are the answers; they led from the first desk
 -- to this one, and to this process that the session has joined, if any
 pub data Session {B : Type 0} (rules : Rules B) (most : ℕ) (first : B) : List ℕ → B → Option ℕ → List ℕ → Type 0 where
   begins : Session rules most first [] first None []
@@ -53,11 +53,11 @@ pub record Served {B : Type 0} (rules : Rules B) (most : ℕ) (first : B) (bytes
 pub record Broken {B : Type 0} (rules : Rules B) (most : ℕ) (first : B) (bytes out : List ℕ) (last : B) (joined : Option ℕ) : Type 0 where
   pub lines : List ℕ
   pub more : List ℕ
-  pub board : B
+  pub desk : B
   pub before : Option ℕ
   pub said : Said
-  pub session : Session rules most first lines board before out
-  pub turn : Turns rules most board before more said last
+  pub session : Session rules most first lines desk before out
+  pub turn : Turns rules most desk before more said last
   pub joined_is : joined ≡ joined_after before said
   pub is : bytes ≡ lines ++ more
 
@@ -76,7 +76,7 @@ pub record OverLimit (limit : ℕ) (bytes rest : List ℕ) : Type 0 where
   pub is : rest ≡ front ++ last ∷ []
   pub over : length bytes ≡ limit + 1
 
--- how a session ended: the bytes that it read, what it has written, the board and the process joined at last
+-- how a session ended: the bytes that it read, what it has written, the desk and the process joined at last
 abbrev pub Ran : {B : Type 0} → Rules B → ℕ → ℕ → B → List ℕ → List ℕ → B → Option ℕ → SessionEnd → Type 0
 Ran rules most limit first bytes out last joined ends.Ended = (rest : List ℕ) × Served rules most first bytes out rest last joined × Within limit bytes rest
 Ran rules most limit first bytes out last joined ends.ReadFailed = (rest : List ℕ) × Served rules most first bytes out rest last joined × Within limit bytes rest
@@ -86,7 +86,7 @@ Ran rules most limit first bytes out last joined ends.WriteFailed = Broken rules
 
 -- how a session ended, and at its end its process, if it has joined one, is given back
 pub record Outcome {B : Type 0} (rules : Rules B) (most limit : ℕ) (first : B) (bytes out : List ℕ) (last : B) (end : SessionEnd) : Type 0 where
-  pub board : B
+  pub desk : B
   pub joined : Option ℕ
-  pub ran : Ran rules most limit first bytes out board joined end
-  pub leaves : Leaves rules joined board last
+  pub ran : Ran rules most limit first bytes out desk joined end
+  pub leaves : Leaves rules joined desk last

@@ -14,8 +14,8 @@ use Rattle.ds_layout.specs.declared.place.Place.{Place}
 use Rattle.ds_layout.specs.declared.place.Place.TheVariants as place
 use Rattle.ds_state.specs.declared.answer.Other.{Other}
 use Rattle.ds_state.specs.declared.recovery.LastEdit.{LastEdit}
-use Rattle.ds_server.specs.declared.board.CallRefusal.{CallRefusal}
-use Rattle.ds_server.specs.declared.board.CallRefusal.TheVariants as refusal
+use Rattle.ds_server.specs.declared.desk.CallRefusal.{CallRefusal}
+use Rattle.ds_server.specs.declared.desk.CallRefusal.TheVariants as refusal
 use Rattle.ds_server.specs.declared.request.LineFault.{LineFault}
 use Rattle.ds_server.specs.declared.request.LineFault.TheVariants as fault
 use Rattle.ds_server.specs.Replies.{Said, Joined, Done, Overtaken, Settled, Unsettled, Tells, Left, Refused, Faulted}
@@ -127,7 +127,7 @@ error_data code name = object (member (codes "code") (number_data code) (member 
 abbrev pub text_fault_data : TextFault → Data
 text_fault_data at = object (member (codes "code") (number_data 11) (member (codes "error") (text_data (codes "text")) (member (codes "fault") (text_data (name_of_kind at.kind)) (member (codes "offset") (number_data at.offset) no_members))))
 
--- a refusal of a board
+-- a refusal of a desk
 abbrev pub refusal_data : CallRefusal → Data
 refusal_data refusal.ProcessTaken = error_data 4 (codes "process-taken")
 refusal_data (refusal.Text at) = text_fault_data at

@@ -10,10 +10,10 @@ use Rattle.ds_calls.specs.Whole.{request}
 use Rattle.ds_calls.specs.Traces.{Trace, no_trace, both, call_trace, settle_trace}
 use Rattle.ds_server.specs.declared.session.SessionEnd.{SessionEnd}
 use Rattle.ds_server.specs.declared.session.SessionEnd.TheVariants as ends
-use Rattle.ds_server.specs.BoardCalls.{Call, Leave}
+use Rattle.ds_server.specs.DeskCalls.{Call, Leave}
 use Rattle.ds_server.specs.Replies.{Said, Left}
-use Rattle.ds_server.specs.Boards.{Leaves}
-use Rattle.ds_server.specs.WorldBoards.{Does, joins, sets, reports, is_refused, lacks, tells, leaves, world_rules}
+use Rattle.ds_server.specs.Desks.{Leaves}
+use Rattle.ds_server.specs.WorldDesks.{Does, joins, sets, reports, is_refused, lacks, tells, leaves, world_rules}
 use Rattle.ds_server.specs.Session.{Obeys, refuses, calls, Answers, no_json, no_memory, reads, Turns, short, long, Session, begins, turns, Served, Broken, Ran, Outcome}
 
 -- of a call
@@ -49,7 +49,7 @@ session_trace most first last bytes out joined (turns b more o old n j said sess
 
 -- of the lines that were answered, and of the last one, whose answer is lost
 abbrev pub broken_trace : (most : ℕ) (first last : WorldValue) (bytes out : List ℕ) (joined : Option ℕ) → Broken world_rules most first bytes out last joined → Trace
-broken_trace most first last bytes out joined h = both (session_trace most first h.board h.lines out h.before h.session) (turns_trace most h.board last h.before h.more h.said h.turn)
+broken_trace most first last bytes out joined h = both (session_trace most first h.desk h.lines out h.before h.session) (turns_trace most h.desk last h.before h.more h.said h.turn)
 
 -- of what a session has carried out, by how it ended
 abbrev pub ran_trace : (most limit : ℕ) (first last : WorldValue) (bytes out : List ℕ) (joined : Option ℕ) (end : SessionEnd) → Ran world_rules most limit first bytes out last joined end → Trace
@@ -67,4 +67,4 @@ leaves_trace (Some p) old new h = does_trace old new (Leave p) Left h
 
 -- of a session
 abbrev pub outcome_trace : (most limit : ℕ) (first last : WorldValue) (bytes out : List ℕ) (end : SessionEnd) → Outcome world_rules most limit first bytes out last end → Trace
-outcome_trace most limit first last bytes out end h = both (ran_trace most limit first h.board bytes out h.joined end h.ran) (leaves_trace h.joined h.board last h.leaves)
+outcome_trace most limit first last bytes out end h = both (ran_trace most limit first h.desk bytes out h.joined end h.ran) (leaves_trace h.joined h.desk last h.leaves)

@@ -8,7 +8,7 @@ ghost use Rattle.ds_formula.specs.Names.{cell_text};
 ghost use Rattle.ds_server.specs.SessionTexts.{code_of_fault, name_of_fault, outcome_text, told_data, last_data, other_data, row_data, rows_data, place_text, joined_data, done_data, overtaken_data, settled_data, unsettled_data, tells_data, error_data, text_fault_data, refusal_data, said_data, said_text};
 ghost use Rattle.ds_server.specs.LineAnswers.{response_view};
 
-use crate::board::CallRefusal;
+use crate::desk::CallRefusal;
 use crate::request::LineFault;
 use ds_eval::value::Value;
 use ds_formula::cells::Shape;
@@ -35,7 +35,7 @@ pub enum Response {
     Unsettled(Place, u64),
     /// The last edit of the process that was announced, if any.
     Tells(Option<LastEdit>),
-    /// The board refuses the call.
+    /// The desk refuses the call.
     Refused(CallRefusal),
     /// The line is no call.
     Faulted(LineFault),

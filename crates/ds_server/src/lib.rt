@@ -1,8 +1,8 @@
-//! Sessions: lines of JSON in, lines of JSON out, over any board.
+//! Sessions: lines of JSON in, lines of JSON out, over any desk.
 #![tactic(auto)]
 
 pub mod answer;
-pub mod board;
+pub mod desk;
 pub mod line;
 pub mod request;
 pub mod session;

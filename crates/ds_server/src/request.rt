@@ -10,7 +10,7 @@ use ds_formula::cells::{Cell, Shape};
 use serde_json::Value;
 use std::alloc::Global;
 
-/// Why a line is no call of a board. After a fault the board is as it was.
+/// Why a line is no call of a desk. After a fault the desk is as it was.
 #[derive(Clone, Copy, Debug, PartialEq, Eq)]
 pub enum LineFault {
     /// The line is no JSON. Code 1.
@@ -90,7 +90,7 @@ fn number_of(value: &Value, key: &str) -> Option<u64>
     value.get(key).and_then(Value::as_u64)
 }
 
-// The join of a process, where the board has it.
+// The join of a process, where the desk has it.
 fn join_request<'a>(value: &Value, shape: &Shape, processes: usize) -> Option<Request<'a>>
     ensures value { option_view result ≡ join_in processes (view value.now) }
     ensures fits { IfSome result (λ r. IsCallOf shape.now processes None (request_view r)) }

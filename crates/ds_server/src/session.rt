@@ -6,8 +6,8 @@ ghost use Rattle.serde_json.specs.View.{view};
 ghost use Rattle.ds_formula.specs.Cells.{IsInside};
 ghost use Rattle.ds_script_io.specs.Streams.{reader_of, writer_of, is_flushed, bytes_given, has_ended, read_failed, write_failed};
 ghost use Rattle.ds_server.specs.SessionLimits.{SESSION_LINE_MOST, SESSION_MOST};
-ghost use Rattle.ds_server.specs.BoardCalls.{Join, Set, Report, Last};
-ghost use Rattle.ds_server.specs.Boards.{Seated, Leaves, joined_after};
+ghost use Rattle.ds_server.specs.DeskCalls.{Join, Set, Report, Last};
+ghost use Rattle.ds_server.specs.Desks.{Seated, Leaves, joined_after};
 ghost use Rattle.ds_server.specs.LineRequests.{IsCallOf};
 ghost use Rattle.ds_server.specs.Asked.{request_view};
 ghost use Rattle.ds_server.specs.Session.{Obeys, Answers, Ran, Outcome};
@@ -15,7 +15,7 @@ ghost use Rattle.ds_server.specs.LineAnswers.{response_view, Writes, Says, Turne
 ghost use Rattle.ds_server.specs.declared.session.TheConstants as constants;
 
 use crate::answer::{Response, response_line};
-use crate::board::{Board, Reported};
+use crate::desk::{Desk, Reported};
 use crate::line::{LineEnd, read_line};
 use crate::request::{LineFault, Request, read_json, read_request};
 use ds_formula::cells::{Cell, Shape};
@@ -66,25 +66,25 @@ impl fmt::Display for SessionEnd {
 }
 
 // The process is taken.
-fn join<B: Board>(alloc: Global, board: &mut B, process: usize) -> Response
-    requires { process < B.rules.processes board.old }
-    ensures does { B.rules.does board.old (Join process) (response_view result) board.new }
-    ensures seated { Seated B.rules (joined_after None (response_view result)) board.new }
+fn join<B: Desk>(alloc: Global, desk: &mut B, process: usize) -> Response
+    requires { process < B.rules.processes desk.old }
+    ensures does { B.rules.does desk.old (Join process) (response_view result) desk.new }
+    ensures seated { Seated B.rules (joined_after None (response_view result)) desk.new }
 {
-    match board.join(alloc, process) {
+    match desk.join(alloc, process) {
         Ok(last) => Response::Joined(process, last),
         Err(refusal) => Response::Refused(refusal),
     }
 }
 
 // A whole edit.
-fn set<B: Board>(alloc: Global, board: &mut B, process: usize, cell: Cell, text: &[u8]) -> Response
-    requires sits { B.rules.sits board.old process }
-    requires inside { IsInside (B.rules.shape board.old) cell }
-    ensures does { B.rules.does board.old (Set process cell text.now) (response_view result) board.new }
-    ensures seated { Seated B.rules (joined_after (Some process) (response_view result)) board.new }
+fn set<B: Desk>(alloc: Global, desk: &mut B, process: usize, cell: Cell, text: &[u8]) -> Response
+    requires sits { B.rules.sits desk.old process }
+    requires inside { IsInside (B.rules.shape desk.old) cell }
+    ensures does { B.rules.does desk.old (Set process cell text.now) (response_view result) desk.new }
+    ensures seated { Seated B.rules (joined_after (Some process) (response_view result)) desk.new }
 {
-    match board.set(alloc, process, cell, text) {
+    match desk.set(alloc, process, cell, text) {
         Ok(EditEnd::Done(number)) => Response::Done(number),
         Ok(EditEnd::Overtaken(number, by)) => Response::Overtaken(number, by),
         Err(refusal) => Response::Refused(refusal),
@@ -92,12 +92,12 @@ fn set<B: Board>(alloc: Global, board: &mut B, process: usize, cell: Cell, text:
 }
 
 // A settle and a whole report.
-fn report<B: Board>(alloc: Global, board: &mut B, process: usize) -> Response
-    requires { B.rules.sits board.old process }
-    ensures does { B.rules.does board.old (Report process) (response_view result) board.new }
-    ensures seated { Seated B.rules (joined_after (Some process) (response_view result)) board.new }
+fn report<B: Desk>(alloc: Global, desk: &mut B, process: usize) -> Response
+    requires { B.rules.sits desk.old process }
+    ensures does { B.rules.does desk.old (Report process) (response_view result) desk.new }
+    ensures seated { Seated B.rules (joined_after (Some process) (response_view result)) desk.new }
 {
-    match board.report(alloc, process) {
+    match desk.report(alloc, process) {
         Ok(Reported::Settled(values)) => Response::Settled(values),
         Ok(Reported::Unsettled(place, word)) => Response::Unsettled(place, word),
         Err(refusal) => Response::Refused(refusal),
@@ -105,64 +105,64 @@ fn report<B: Board>(alloc: Global, board: &mut B, process: usize) -> Response
 }
 
 // A whole recovery.
-fn last<B: Board>(alloc: Global, board: &mut B, process: usize) -> Response
-    requires { B.rules.sits board.old process }
-    ensures does { B.rules.does board.old (Last process) (response_view result) board.new }
-    ensures seated { Seated B.rules (joined_after (Some process) (response_view result)) board.new }
+fn last<B: Desk>(alloc: Global, desk: &mut B, process: usize) -> Response
+    requires { B.rules.sits desk.old process }
+    ensures does { B.rules.does desk.old (Last process) (response_view result) desk.new }
+    ensures seated { Seated B.rules (joined_after (Some process) (response_view result)) desk.new }
 {
-    match board.last(alloc, process) {
+    match desk.last(alloc, process) {
         Ok(last) => Response::Tells(last),
         Err(refusal) => Response::Refused(refusal),
     }
 }
 
 // Carries out what a request asks for.
-fn carry_out<B: Board>(
+fn carry_out<B: Desk>(
     alloc: Global,
-    board: &mut B,
+    desk: &mut B,
     joined: Option<usize>,
     request: Request<'_>,
 ) -> Response
-    requires call { IsCallOf (B.rules.shape board.old) (B.rules.processes board.old) joined (request_view request) }
-    requires seated { Seated B.rules joined board.old }
-    ensures does { B.rules.does board.old (request_view request.entry) (response_view result) board.new }
-    ensures seated { Seated B.rules (joined_after joined (response_view result)) board.new }
+    requires call { IsCallOf (B.rules.shape desk.old) (B.rules.processes desk.old) joined (request_view request) }
+    requires seated { Seated B.rules joined desk.old }
+    ensures does { B.rules.does desk.old (request_view request.entry) (response_view result) desk.new }
+    ensures seated { Seated B.rules (joined_after joined (response_view result)) desk.new }
 {
     match request {
-        Request::Join(process) => join(alloc, board, process),
-        Request::Set(process, cell, text) => set(alloc, board, process, cell, text),
-        Request::Report(process) => report(alloc, board, process),
-        Request::Last(process) => last(alloc, board, process),
+        Request::Join(process) => join(alloc, desk, process),
+        Request::Set(process, cell, text) => set(alloc, desk, process, cell, text),
+        Request::Report(process) => report(alloc, desk, process),
+        Request::Last(process) => last(alloc, desk, process),
     }
 }
 
 // Answers the value of a line.
-fn obey_value<B: Board>(
+fn obey_value<B: Desk>(
     alloc: Global,
-    board: &mut B,
+    desk: &mut B,
     joined: Option<usize>,
     value: &Value,
 ) -> Response
-    requires { Seated B.rules joined board.old }
-    ensures obeys { Obeys B.rules board.old joined (view value.now) (response_view result) board.new }
-    ensures seated { Seated B.rules (joined_after joined (response_view result)) board.new }
+    requires { Seated B.rules joined desk.old }
+    ensures obeys { Obeys B.rules desk.old joined (view value.now) (response_view result) desk.new }
+    ensures seated { Seated B.rules (joined_after joined (response_view result)) desk.new }
 {
-    let shape = board.shape();
-    let processes = board.processes();
+    let shape = desk.shape();
+    let processes = desk.processes();
     match read_request(value, &shape, processes, joined) {
-        Ok(request) => carry_out(alloc, board, joined, request),
+        Ok(request) => carry_out(alloc, desk, joined, request),
         Err(fault) => Response::Faulted(fault),
     }
 }
 
 // Answers a line.
-fn obey<B: Board>(alloc: Global, board: &mut B, joined: Option<usize>, line: &[u8]) -> Response
-    requires { Seated B.rules joined board.old }
-    ensures answers { Answers B.rules board.old joined line.now (response_view result) board.new }
-    ensures seated { Seated B.rules (joined_after joined (response_view result)) board.new }
+fn obey<B: Desk>(alloc: Global, desk: &mut B, joined: Option<usize>, line: &[u8]) -> Response
+    requires { Seated B.rules joined desk.old }
+    ensures answers { Answers B.rules desk.old joined line.now (response_view result) desk.new }
+    ensures seated { Seated B.rules (joined_after joined (response_view result)) desk.new }
 {
     match read_json(alloc, line) {
-        Ok(value) => obey_value(alloc, board, joined, &value),
+        Ok(value) => obey_value(alloc, desk, joined, &value),
         Err(fault) => Response::Faulted(fault),
     }
 }
@@ -180,12 +180,12 @@ fn joined_with(joined: Option<usize>, response: &Response) -> Option<usize>
 }
 
 // Gives the process back that the session has joined, if any.
-fn leave<B: Board>(board: &mut B, joined: Option<usize>)
-    requires { Seated B.rules joined board.old }
-    ensures { Leaves B.rules joined board.old board.new }
+fn leave<B: Desk>(desk: &mut B, joined: Option<usize>)
+    requires { Seated B.rules joined desk.old }
+    ensures { Leaves B.rules joined desk.old desk.new }
 {
     if let Some(process) = joined {
-        board.leave(process);
+        desk.leave(process);
     }
 }
 
@@ -231,57 +231,57 @@ fn end_at(hindrance: Hindrance) -> SessionEnd
 }
 
 // What a line is answered; one that is too long is refused unread.
-fn response_to<B: Board>(
+fn response_to<B: Desk>(
     alloc: Global,
-    board: &mut B,
+    desk: &mut B,
     joined: Option<usize>,
     line: &[u8],
     long: bool,
 ) -> Response
-    requires { Seated B.rules joined board.old }
-    ensures says { Says B.rules long board.old joined line.now (response_view result) board.new }
-    ensures seated { Seated B.rules (joined_after joined (response_view result)) board.new }
+    requires { Seated B.rules joined desk.old }
+    ensures says { Says B.rules long desk.old joined line.now (response_view result) desk.new }
+    ensures seated { Seated B.rules (joined_after joined (response_view result)) desk.new }
 {
     if long {
         Response::Faulted(LineFault::LineTooLong)
     } else {
-        obey(alloc, board, joined, line)
+        obey(alloc, desk, joined, line)
     }
 }
 
 // Answers a line, and writes the answer.
-fn turn<W: Write, B: Board>(
+fn turn<W: Write, B: Desk>(
     alloc: Global,
     writer: &mut Writing<W>,
-    board: &mut B,
+    desk: &mut B,
     joined: &mut Option<usize>,
     line: &[u8],
     long: bool,
 ) -> Result<(), Hindrance>
-    requires { Seated B.rules joined.old board.old }
-    ensures turned { Turned B.rules long board.old joined.old line.now (W.contents (writer_of writer.old)) (W.contents (writer_of writer.new)) (write_failed writer.old) (write_failed writer.new) result board.new joined.new }
+    requires { Seated B.rules joined.old desk.old }
+    ensures turned { Turned B.rules long desk.old joined.old line.now (W.contents (writer_of writer.old)) (W.contents (writer_of writer.new)) (write_failed writer.old) (write_failed writer.new) result desk.new joined.new }
     ensures flushed { is_flushed writer.old ≡ true → OnOk result (is_flushed writer.new ≡ true) }
     ensures none_left { is_flushed writer.old ≡ true → IfErr result (λ why. why ≢ Hindrance.WriteFailed → is_flushed writer.new ≡ true) }
 {
-    let shape = board.shape();
-    let response = response_to(alloc, board, *joined, line, long);
+    let shape = desk.shape();
+    let response = response_to(alloc, desk, *joined, line, long);
     *joined = joined_with(*joined, &response);
     tell(alloc, writer, &shape, &response)
 }
 
 // Reads lines and answers them, each before the next is read, to an end.
-fn run_lines<R: Read, W: Write, B: Board>(
+fn run_lines<R: Read, W: Write, B: Desk>(
     alloc: Global,
     most: usize,
     limit: usize,
     reader: &mut Reading<R>,
     writer: &mut Writing<W>,
-    board: &mut B,
+    desk: &mut B,
     joined: &mut Option<usize>,
 ) -> SessionEnd
     requires small { (most < 2 ^ 62) × (limit < 2 ^ 62) }
     requires none { joined.old ≡ None }
-    ensures seated { Seated B.rules joined.new board.new }
+    ensures seated { Seated B.rules joined.new desk.new }
     ensures ended { result ≡ SessionEnd.Ended → has_ended reader.new ≡ true }
     ensures at_end { result ≡ SessionEnd.Ended → IsAtEnd (R.remaining (reader_of reader.new)) }
     ensures read_failed { result ≡ SessionEnd.ReadFailed → read_failed reader.new ≡ true }
@@ -290,7 +290,7 @@ fn run_lines<R: Read, W: Write, B: Board>(
     ensures no_failure { result ≢ SessionEnd.WriteFailed → write_failed writer.new ≡ write_failed writer.old }
     ensures outcome { (bytes : List ℕ) × (out : List ℕ) × Consumes (R.remaining (reader_of reader.old)) (R.remaining (reader_of reader.new)) bytes
         × (result ≢ SessionEnd.WriteFailed → Appends (W.contents (writer_of writer.old)) (W.contents (writer_of writer.new)) out)
-        × Ran B.rules most limit board.old bytes out board.new joined.new result
+        × Ran B.rules most limit desk.old bytes out desk.new joined.new result
         × (bytes_given reader.new ≤ bytes_given reader.old + length bytes) × (length bytes ≤ limit + 1) }
 {
     let Ok(mut line) = Vec::with_capacity(alloc, most + 1) else {
@@ -302,11 +302,11 @@ fn run_lines<R: Read, W: Write, B: Board>(
             LineEnd::Ended => return SessionEnd::Ended,
             LineEnd::Failed => return SessionEnd::ReadFailed,
             LineEnd::Over => return SessionEnd::TooLong,
-            LineEnd::Line => match turn(alloc, writer, board, joined, &line, false) {
+            LineEnd::Line => match turn(alloc, writer, desk, joined, &line, false) {
                 Ok(()) => {}
                 Err(stop) => return end_at(stop),
             },
-            LineEnd::Long => match turn(alloc, writer, board, joined, &line, true) {
+            LineEnd::Long => match turn(alloc, writer, desk, joined, &line, true) {
                 Ok(()) => {}
                 Err(stop) => return end_at(stop),
             },
@@ -314,16 +314,16 @@ fn run_lines<R: Read, W: Write, B: Board>(
     }
 }
 
-/// A session over a board: reads lines of JSON, answers each with a line before the next one is read,
+/// A session over a desk: reads lines of JSON, answers each with a line before the next one is read,
 /// and gives the process back that it has joined, if any.
 ///
-/// At most 1,048,577 bytes are read. What a call does and is answered is what the board says of
-/// itself; every other answer is a fault of its line, which leaves the board as it is.
-pub fn session<R: Read, W: Write, B: Board>(
+/// At most 1,048,577 bytes are read. What a call does and is answered is what the desk says of
+/// itself; every other answer is a fault of its line, which leaves the desk as it is.
+pub fn session<R: Read, W: Write, B: Desk>(
     alloc: Global,
     reader: &mut Reading<R>,
     writer: &mut Writing<W>,
-    board: &mut B,
+    desk: &mut B,
 ) -> SessionEnd
     ensures ended { result ≡ SessionEnd.Ended → has_ended reader.new ≡ true }
     ensures at_end { result ≡ SessionEnd.Ended → IsAtEnd (R.remaining (reader_of reader.new)) }
@@ -333,7 +333,7 @@ pub fn session<R: Read, W: Write, B: Board>(
     ensures no_failure { result ≢ SessionEnd.WriteFailed → write_failed writer.new ≡ write_failed writer.old }
     ensures outcome { (bytes : List ℕ) × (out : List ℕ) × Consumes (R.remaining (reader_of reader.old)) (R.remaining (reader_of reader.new)) bytes
         × (result ≢ SessionEnd.WriteFailed → Appends (W.contents (writer_of writer.old)) (W.contents (writer_of writer.new)) out)
-        × Outcome B.rules LINE_LIMIT SESSION_LIMIT board.old bytes out board.new result
+        × Outcome B.rules LINE_LIMIT SESSION_LIMIT desk.old bytes out desk.new result
         × (bytes_given reader.new ≤ bytes_given reader.old + length bytes) × (length bytes ≤ SESSION_LIMIT + 1) }
 {
     let mut joined = None;
@@ -343,10 +343,10 @@ pub fn session<R: Read, W: Write, B: Board>(
         SESSION_LIMIT,
         reader,
         writer,
-        board,
+        desk,
         &mut joined,
     );
-    leave(board, joined);
+    leave(desk, joined);
     end
 }
 

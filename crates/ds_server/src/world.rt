@@ -1,4 +1,4 @@
-//! A world as a board, and the law that sessions over a world are runs of it.
+//! A world as a desk, and the law that sessions over a world are runs of it.
 
 ghost use Rattle.std.specs.Prelude.{◌≡◌, ℕ, List, OnOk};
 ghost use Rattle.ds_state.specs.Value.{WorldValue, world_of, IsGood};
@@ -9,13 +9,13 @@ ghost use Rattle.ds_core.specs.Headline.{HasHeadline};
 ghost use Rattle.ds_calls.specs.Traces.{Trace, both, Leads};
 ghost use Rattle.ds_calls.specs.Whole.{HasProcess, KeepsFree, request};
 ghost use Rattle.ds_server.specs.declared.session.SessionEnd.{SessionEnd};
-ghost use Rattle.ds_server.specs.BoardCalls.{Join, Set, Report, Last, Leave};
+ghost use Rattle.ds_server.specs.DeskCalls.{Join, Set, Report, Last, Leave};
 ghost use Rattle.ds_server.specs.Replies.{Left, joined_view, set_view, report_view, last_view};
 ghost use Rattle.ds_server.specs.Session.{Outcome};
 ghost use Rattle.ds_server.specs.SessionTraces.{outcome_trace};
-ghost use Rattle.ds_server.specs.WorldBoards.{refused_by, values_of, Copies, Does, IsSeated, world_rules, HasRecovered, HasEdited, HasReported};
+ghost use Rattle.ds_server.specs.WorldDesks.{refused_by, values_of, Copies, Does, IsSeated, world_rules, HasRecovered, HasEdited, HasReported};
 
-use crate::board::{Board, CallRefusal, Reported};
+use crate::desk::{Desk, CallRefusal, Reported};
 use ds_calls::call::{whole_edit, whole_recovery, whole_show};
 use ds_calls::settle::{SettleEnd, settle};
 use ds_formula::cells::{Cell, Shape};
@@ -117,8 +117,8 @@ fn settled(alloc: Global, world: &mut World, process: usize) -> Result<Reported,
 
 /// A session acts on a world by whole calls, with no other event between theirs. A process that is in
 /// a call cannot be joined.
-impl Board for World {
-    ghost use Rattle.ds_server.specs.WorldBoards.{world_rules};
+impl Desk for World {
+    ghost use Rattle.ds_server.specs.WorldDesks.{world_rules};
 
     ghost rules = { world_rules };
 

@@ -103,7 +103,7 @@ none_to_deal stopped processes seen past s empty h =
 
 -- a pass on a newcomer's seat, with number 0, has begun no call
 pub fresh_at : (x : Pass) (p : ℕ) (stopped : Bool) (seen : List HistoryEntry) → x.stopped ≡ stopped → x.number ≡ 0 → x.place.me ≡ (lone (newcomer (first_now stopped) (Some seen) p), []) → IsFresh stopped x
-fresh_at x p stopped seen is number me = record { stopped_is = is; number = number; told = ap (λ m. (deeds_at m).told) me; steps = ap (λ m. (deeds_at m).steps) me }
+fresh_at x p stopped seen is number me = record { stopped_is = is; number = number; call_events = ap (λ m. (deeds_at m).call_events) me; steps = ap (λ m. (deeds_at m).steps) me }
 
 -- and has seen what the newcomer has
 pub sees_so : (s : Seat ℕ View) (p : ℕ) (stopped : Bool) (seen : List HistoryEntry) → s.me ≡ (lone (newcomer (first_now stopped) (Some seen) p), []) → seen_by s ≡ seen

@@ -21,14 +21,14 @@ use Rattle.ds_state.proofs.Heads.{IsSmall, Small, small_counted, small_of_cell, 
 use Rattle.ds_state.proofs.Losing.{increasing_cell}
 use Rattle.ds_state.proofs.Spent.{spent_crashed}
 use Rattle.ds_state.specs.declared.recovery.RecoveryEnd.TheVariants.{Last, Nothing}
-use Rattle.ds_drives.specs.declared.board.Told.{Told}
-use Rattle.ds_drives.specs.declared.board.Told.TheVariants.{Began, Edited, Worked, Recovered, Reported}
-use Rattle.ds_drives.specs.Rule.{IsTold, IsTrueTold, CountsAs}
+use Rattle.ds_drives.specs.declared.board.CallEvent.{CallEvent}
+use Rattle.ds_drives.specs.declared.board.CallEvent.TheVariants.{Began, Edited, Worked, Recovered, Reported}
+use Rattle.ds_drives.specs.Rule.{IsAnswered, IsTrueOutcome, CountsAs}
 
 -- ---- lists
 
-behind : {A : Type 0} (x : A) (xs : List A) (e : A) → Contains xs e → Contains (x ∷ xs) e
-behind x xs e (k, l, is) = (suc k, (omega arith), is)
+witness : {A : Type 0} (x : A) (xs : List A) (e : A) → Contains xs e → Contains (x ∷ xs) e
+witness x xs e (k, l, is) = (suc k, (omega arith), is)
 
 to_filter : {A : Type 0} (p : A → Bool) (xs : List A) (e : A) → Contains xs e → p e ≡ true → Contains (filter p xs) e
 to_filter p [] e (k, lt, is) keep = absurd (omega arith)
@@ -36,7 +36,7 @@ to_filter p (x ∷ xs) e (zero, lt, is) keep = subst (λ b. Contains (cond b (x 
 to_filter p (x ∷ xs) e (suc k, lt, is) keep = by (p x) (to_filter p xs e (k, (omega arith), is) keep)
   where
     by : (b : Bool) → Contains (filter p xs) e → Contains (cond b (x ∷ filter p xs) (filter p xs)) e
-    by true rest = behind x (filter p xs) e rest
+    by true rest = witness x (filter p xs) e rest
     by false rest = rest
 
 from_filter : {A : Type 0} (p : A → Bool) (xs : List A) (e : A) → Contains (filter p xs) e → Contains xs e
@@ -45,8 +45,8 @@ from_filter p (x ∷ xs) e h = by (from_filter p xs e) (p x) h
   where
     by : (Contains (filter p xs) e → Contains xs e) → (b : Bool) → Contains (cond b (x ∷ filter p xs) (filter p xs)) e → Contains (x ∷ xs) e
     by again true (zero, lt, is) = (zero, (omega arith), is)
-    by again true (suc k, lt, is) = behind x xs e (again (k, (omega arith), is))
-    by again false rest = behind x xs e (again rest)
+    by again true (suc k, lt, is) = witness x xs e (again (k, (omega arith), is))
+    by again false rest = witness x xs e (again rest)
 
 -- ---- what is lost
 
@@ -117,7 +117,7 @@ module _ (old new : PlainWorld) (sound : IsSound old) (rest : (p : ℕ) → p < 
       let of : IsOfSheet old d = All-contains (λ (f : PlainEdit). IsOfSheet old f) old.counted d sound.of_sheet h in
       subst (λ (l : List PlainEdit). Contains l d) (sym crash.counted) (to_filter (keep old.memory) old.counted d h (never_lost old sound d h (rest d.process of.process) spent))
 
-  stays : (d : PlainEdit) (how : Outcome) → IsSpent old d.process d.number → IsTrueTold old.counted d how → IsTrueTold new.counted d how
+  stays : (d : PlainEdit) (how : Outcome) → IsSpent old d.process d.number → IsTrueOutcome old.counted d how → IsTrueOutcome new.counted d how
   stays d Done spent there = safe d there spent
   stays d (Overtaken noted seen) spent out = λ h. out (fewer d h)
 
@@ -125,14 +125,14 @@ module _ (old new : PlainWorld) (sound : IsSound old) (rest : (p : ℕ) → p < 
   counts q n true spent h = (h.0, safe h.0 h.1 (subst (λ (z : ℕ × ℕ). IsSpent old z.0 z.1) (λ i. (sym h.2 i, sym h.3 i)) spent), h.2, h.3)
   counts q n false spent out = λ d there own is. out d (fewer d there) own is
 
-  pub told_crashed : (q : ℕ) (t : Told) → IsTold old q t → IsTold new q t
-  told_crashed q (Began event reply) h = tt
-  told_crashed q (Edited d how) h = record {
+  pub answered_crashed : (q : ℕ) (t : CallEvent) → IsAnswered old q t → IsAnswered new q t
+  answered_crashed q (Began event reply) h = tt
+  answered_crashed q (Edited d how) h = record {
     own = h.own;
     spent = spent_crashed old new crash q d.number h.spent;
     holds = stays (edit_of d) how (subst (λ (z : ℕ). IsSpent old z d.number) (sym h.own) h.spent) h.holds;
   }
-  told_crashed q (Worked e end) h = tt
-  told_crashed q (Recovered e Nothing) h = tt
-  told_crashed q (Recovered e (Last told)) h = record { spent = spent_crashed old new crash q told.number h.spent; holds = counts q told.number told.counts h.spent h.holds }
-  told_crashed q (Reported e end) h = tt
+  answered_crashed q (Worked e end) h = tt
+  answered_crashed q (Recovered e Nothing) h = tt
+  answered_crashed q (Recovered e (Last resolved)) h = record { spent = spent_crashed old new crash q resolved.number h.spent; holds = counts q resolved.number resolved.counts h.spent h.holds }
+  answered_crashed q (Reported e end) h = tt

@@ -24,7 +24,7 @@ module _ (s n t : Seat ℕ View) (p m : ℕ) (b : _) (known : IsKnown s p m b) (
   one : sole t ≡ looking l.seen (sole s)
   one = ap (λ (z : Me ℕ View). first_in z.0.entries) after
 
-  done : deeds_at t.me ≡ record { told = (sole s).deeds.told; steps = (sole s).deeds.steps; seen = Some l.seen }
+  done : deeds_at t.me ≡ record { call_events = (sole s).deeds.call_events; steps = (sole s).deeds.steps; seen = Some l.seen }
   done = ap deeds_at after
 
   before : deeds_at s.me ≡ (sole s).deeds
@@ -47,7 +47,7 @@ module _ (s n t : Seat ℕ View) (p m : ℕ) (b : _) (known : IsKnown s p m b) (
         process = process;
         number = number;
         stopped = stopped;
-        told = ap outcomes to ∙ (ap (λ d. d.told) done ∙ (sym (ap (λ d. d.told) before) ∙ ap outcomes (sym from)));
+        call_events = ap outcomes to ∙ (ap (λ d. d.call_events) done ∙ (sym (ap (λ d. d.call_events) before) ∙ ap outcomes (sym from)));
         steps = ap steps_of to ∙ (ap (λ d. d.steps) done ∙ (sym (ap (λ d. d.steps) before) ∙ ap steps_of (sym from)));
       }
 

@@ -32,10 +32,10 @@ use Rattle.ds_recover.specs.RecoverySteps.{next_number, end_of as end_of_recover
 use Rattle.ds_drives.specs.declared.board.Deeds.{Deeds}
 use Rattle.ds_drives.specs.declared.board.HistoryEntry.{HistoryEntry}
 use Rattle.ds_drives.specs.declared.board.Seated.{Seated}
-use Rattle.ds_drives.specs.declared.board.Told.{Told}
-use Rattle.ds_drives.specs.declared.board.Told.TheVariants.{Began, Edited, Worked, Recovered, Reported}
+use Rattle.ds_drives.specs.declared.board.CallEvent.{CallEvent}
+use Rattle.ds_drives.specs.declared.board.CallEvent.TheVariants.{Began, Edited, Worked, Recovered, Reported}
 use Rattle.ds_drives.specs.declared.board.View.{View}
-use Rattle.ds_drives.specs.Views.{In, lone, second_rest, seated, first_in, sole, deeds_at, seen_at, seen_so_far, told_also}
+use Rattle.ds_drives.specs.Views.{In, lone, second_rest, seated, first_in, sole, deeds_at, seen_at, seen_so_far, answered_also}
 use Rattle.ds_drives.specs.History.{calls_of}
 use Rattle.ds_drives.proofs.Dealt.{in_right}
 use Rattle.ds_drives.specs.Rules.{Rules}
@@ -57,14 +57,14 @@ pub has_looked : (s : Seat ℕ View) (seen : List HistoryEntry) → s.me ≡ (lo
 has_looked s seen alone is = sym (ap (λ (m : Me ℕ View). (deeds_at m).seen) alone) ∙ (is ∙ ap Some (sym (ap seen_so_far is)))
 
 -- what is reported more than before is just what is reported after it
-tail_of : List Told → List Told
+tail_of : List CallEvent → List CallEvent
 tail_of [] = []
 tail_of (t ∷ ts) = ts
 
-longer : (t : Told) (ts us : List Told) → us ≡ t ∷ (ts ++ us) → ⊥
+longer : (t : CallEvent) (ts us : List CallEvent) → us ≡ t ∷ (ts ++ us) → ⊥
 longer t ts us is = let l = ap length is in let n = length-append ts us in omega (arith, l, n)
 
-pub cancels : (xs ys zs : List Told) → xs ++ zs ≡ ys ++ zs → xs ≡ ys
+pub cancels : (xs ys zs : List CallEvent) → xs ++ zs ≡ ys ++ zs → xs ≡ ys
 unfolding tail_of
 cancels [] [] zs is = refl
 cancels [] (y ∷ ys) zs is = absurd (longer y ys zs is)
@@ -94,37 +94,37 @@ module _ {C E : Type 0} (r : Rules C E) (layout : Layout) (first : C) (n : ℕ) 
       let one : HasOne p s.me = has_one r layout first was.me broke.held s.me p owns (known.alone, known.process_is) broke.broken in
       record { alone = one.0; process_is = one.1; idle = λ e. absurd (cc); looked = has_looked s _ one.0 broke.grows.seen }
 
-  begun_so : (old : Seat ℕ View) (s : Seat ℕ View) (held : Deeds) → IsUnderway r layout first (deeds_at old.me) held n → IsBroken r layout first old.me held s.me → ((deeds_at s.me).told ≡ (deeds_at old.me).told) ⊎ ((deeds_at s.me).told ≡ r.begins layout first ∷ (deeds_at old.me).told)
-  begun_so old s held under (unbegun e is) = inl (ap (λ (m : Me ℕ View). (deeds_at m).told) is)
-  begun_so old s held under (within c x came stays at) = inr (ap (λ (m : Me ℕ View). (deeds_at m).told) at ∙ under.told)
+  begun_so : (old : Seat ℕ View) (s : Seat ℕ View) (held : Deeds) → IsUnderway r layout first (deeds_at old.me) held n → IsBroken r layout first old.me held s.me → ((deeds_at s.me).call_events ≡ (deeds_at old.me).call_events) ⊎ ((deeds_at s.me).call_events ≡ r.begins layout first ∷ (deeds_at old.me).call_events)
+  begun_so old s held under (unbegun e is) = inl (ap (λ (m : Me ℕ View). (deeds_at m).call_events) is)
+  begun_so old s held under (within c x came stays at) = inr (ap (λ (m : Me ℕ View). (deeds_at m).call_events) at ∙ under.call_events)
 
   pub breaks_off : (p : ℕ) → r.process first ≡ p → (old new : Pass) → old.process ≡ p → new.stopped ≡ true → Breaks r layout first old.place.me new.place.me n → BreaksOff r layout first old new
   breaks_off p own old new mine stopped broke =
       let late : List HistoryEntry = broke.grows.late in
       let same : r.process first ≡ old.process = own ∙ sym mine in
-      let told : outcomes new.place ≡ calls_of old.process late ++ outcomes old.place = broke.grows.told ∙ ap (λ (q : ℕ). calls_of q late ++ outcomes old.place) same in record {
+      let returned : outcomes new.place ≡ calls_of old.process late ++ outcomes old.place = broke.grows.call_events ∙ ap (λ (q : ℕ). calls_of q late ++ outcomes old.place) same in record {
         stopped = stopped;
         late = late;
         seen = ap seen_so_far broke.grows.seen;
-        own = ⊎_elim (λ h. inl (cancels (calls_of old.process late) [] (outcomes old.place) (sym told ∙ h))) (λ h. inr (cancels (calls_of old.process late) (r.begins layout first ∷ []) (outcomes old.place) (sym told ∙ h))) (begun_so old.place new.place broke.held broke.underway broke.broken);
-        told = told;
+        own = ⊎_elim (λ h. inl (cancels (calls_of old.process late) [] (outcomes old.place) (sym returned ∙ h))) (λ h. inr (cancels (calls_of old.process late) (r.begins layout first ∷ []) (outcomes old.place) (sym returned ∙ h))) (begun_so old.place new.place broke.held broke.underway broke.broken);
+        call_events = returned;
         view = broken_view r layout first old.place.me broke.held new.place.me broke.broken;
       }
 
 -- ---- landed
 
 -- the seat's process is idle again, and was answered one thing more
-pub record Lands (me : Me ℕ View) (p n : ℕ) (held : Deeds) (t : Told) : Type 0 where
+pub record Lands (me : Me ℕ View) (p n : ℕ) (held : Deeds) (t : CallEvent) : Type 0 where
   pub buffer : List (BufferEntry ℕ)
-  pub at : me ≡ (lone (seated p (Idle (second_rest n)) buffer (told_also held t)), [])
+  pub at : me ≡ (lone (seated p (Idle (second_rest n)) buffer (answered_also held t)), [])
 
-pub landed_done : (me : Me ℕ View) (p n : ℕ) (held : Deeds) (t : Told) → Lands me p n held t → deeds_at me ≡ told_also held t
+pub landed_done : (me : Me ℕ View) (p n : ℕ) (held : Deeds) (t : CallEvent) → Lands me p n held t → deeds_at me ≡ answered_also held t
 landed_done me p n held t l = ap deeds_at l.at
 
-pub known_landed : (s : Seat ℕ View) (p n q m : ℕ) (held : Deeds) (t : Told) (seen : List HistoryEntry) → Lands s.me p n held t → (deeds_at s.me).seen ≡ Some seen → p ≡ q → n ≡ m → IsKnown s q m false
+pub known_landed : (s : Seat ℕ View) (p n q m : ℕ) (held : Deeds) (t : CallEvent) (seen : List HistoryEntry) → Lands s.me p n held t → (deeds_at s.me).seen ≡ Some seen → p ≡ q → n ≡ m → IsKnown s q m false
 known_landed s p n q m held t seen l saw own number =
     let at = l.at in
-    let one : sole s ≡ seated p (Idle (second_rest n)) l.buffer (told_also held t) = ap (λ (z : Me ℕ View). first_in z.0.entries) at in
+    let one : sole s ≡ seated p (Idle (second_rest n)) l.buffer (answered_also held t) = ap (λ (z : Me ℕ View). first_in z.0.entries) at in
     let alone : s.me ≡ (lone (sole s), []) = at ∙ ap (λ (z : Seated). (lone z, [])) (sym one) in record {
       alone = alone;
       process_is = ap (λ (z : Seated). z.process) one ∙ own;
@@ -133,45 +133,45 @@ known_landed s p n q m held t seen l saw own number =
     }
 
 -- what the process was answered by a call that has ended
-pub tells : {C E : Type 0} (r : Rules C E) (layout : Layout) (first c : C) (end : E) (n p m : ℕ) (begin t : Told) (old new : Pass) → (s : Settles r layout first old.place.me new.place.me c end n) → r.process first ≡ old.process → r.begins layout first ≡ begin → Lands new.place.me p m s.held t → Tells old new begin t
+pub tells : {C E : Type 0} (r : Rules C E) (layout : Layout) (first c : C) (end : E) (n p m : ℕ) (begin t : CallEvent) (old new : Pass) → (s : Settles r layout first old.place.me new.place.me c end n) → r.process first ≡ old.process → r.begins layout first ≡ begin → Lands new.place.me p m s.held t → Tells old new begin t
 tells r layout first c end n p m begin t old new s own begins l =
     let late : List HistoryEntry = s.grows.late in
-    let last : outcomes new.place ≡ t ∷ begin ∷ outcomes old.place = ap (λ (d : Deeds). d.told) (landed_done new.place.me p m s.held t l) ∙ ap (λ (ts : List Told). t ∷ ts) (s.underway.told ∙ ap (λ (u : Told). u ∷ outcomes old.place) begins) in
-    let told : outcomes new.place ≡ calls_of old.process late ++ outcomes old.place = s.grows.told ∙ ap (λ (q : ℕ). calls_of q late ++ outcomes old.place) own in record {
+    let last : outcomes new.place ≡ t ∷ begin ∷ outcomes old.place = ap (λ (d : Deeds). d.call_events) (landed_done new.place.me p m s.held t l) ∙ ap (λ (ts : List CallEvent). t ∷ ts) (s.underway.call_events ∙ ap (λ (u : CallEvent). u ∷ outcomes old.place) begins) in
+    let returned : outcomes new.place ≡ calls_of old.process late ++ outcomes old.place = s.grows.call_events ∙ ap (λ (q : ℕ). calls_of q late ++ outcomes old.place) own in record {
       late = late;
       seen = ap seen_so_far s.grows.seen;
-      own = cancels (calls_of old.process late) (t ∷ begin ∷ []) (outcomes old.place) (sym told ∙ last);
+      own = cancels (calls_of old.process late) (t ∷ begin ∷ []) (outcomes old.place) (sym returned ∙ last);
       last = last;
     }
 
 pub edit_lands : (layout : Layout) (held : Deeds) (me : Me ℕ View) (e : PlainEditCall) (end : EditEnd) (how : Outcome) → e.stage ≡ stage.Answer how → IsSettled edits.edit_rules layout held me e end → Lands me e.process (e.number + 1) held (Edited e how)
 edit_lands layout held me e end how is s = record { buffer = s.buffer; at = s.at ∙ ap (λ (z : Seated). (lone z, [])) (one e.stage is) }
   where
-    one : (z : Stage) → z ≡ stage.Answer how → edits.landed_at e z s.buffer held ≡ seated e.process (Idle (second_rest (e.number + 1))) s.buffer (told_also held (Edited (record e { stage = z }) how))
-    one z at = subst (λ (y : Stage). edits.landed_at e y s.buffer held ≡ seated e.process (Idle (second_rest (e.number + 1))) s.buffer (told_also held (Edited (record e { stage = y }) how))) (sym at) refl
+    one : (z : Stage) → z ≡ stage.Answer how → edits.landed_at e z s.buffer held ≡ seated e.process (Idle (second_rest (e.number + 1))) s.buffer (answered_also held (Edited (record e { stage = z }) how))
+    one z at = subst (λ (y : Stage). edits.landed_at e y s.buffer held ≡ seated e.process (Idle (second_rest (e.number + 1))) s.buffer (answered_also held (Edited (record e { stage = y }) how))) (sym at) refl
 
 pub work_lands : (layout : Layout) (held : Deeds) (me : Me ℕ View) (e : PlainWorkCall) (end : WorkEnd) → IsSettled works.work_rules layout held me e end → Lands me e.process e.next held (Worked e end)
 work_lands layout held me e end s = record { buffer = s.buffer; at = s.at ∙ ap (λ (z : Seated). (lone z, [])) (one e.stage s.ends) }
   where
-    one : (z : WorkStage) → z ≡ work.Answer end → works.landed_at e z s.buffer held ≡ seated e.process (Idle (second_rest e.next)) s.buffer (told_also held (Worked (record e { stage = z }) end))
-    one z at = subst (λ (y : WorkStage). works.landed_at e y s.buffer held ≡ seated e.process (Idle (second_rest e.next)) s.buffer (told_also held (Worked (record e { stage = y }) end))) (sym at) refl
+    one : (z : WorkStage) → z ≡ work.Answer end → works.landed_at e z s.buffer held ≡ seated e.process (Idle (second_rest e.next)) s.buffer (answered_also held (Worked (record e { stage = z }) end))
+    one z at = subst (λ (y : WorkStage). works.landed_at e y s.buffer held ≡ seated e.process (Idle (second_rest e.next)) s.buffer (answered_also held (Worked (record e { stage = y }) end))) (sym at) refl
 
 pub recovery_lands : (layout : Layout) (held : Deeds) (me : Me ℕ View) (e : PlainRecoverCall) (end : RecoveryEnd) (how : Option Bool) → e.stage ≡ recovery.Answer how → IsSettled recoveries.recover_rules layout held me e end → Lands me e.process (next_number e.announcement how) held (Recovered e (end_of_recovery e how))
 recovery_lands layout held me e end how is s = record { buffer = s.buffer; at = s.at ∙ ap (λ (z : Seated). (lone z, [])) (one e.stage is) }
   where
-    one : (z : RecoverStage) → z ≡ recovery.Answer how → recoveries.landed_at e z s.buffer held ≡ seated e.process (Idle (second_rest (next_number e.announcement how))) s.buffer (told_also held (Recovered (record e { stage = z }) (end_of_recovery e how)))
-    one z at = subst (λ (y : RecoverStage). recoveries.landed_at e y s.buffer held ≡ seated e.process (Idle (second_rest (next_number e.announcement how))) s.buffer (told_also held (Recovered (record e { stage = y }) (end_of_recovery e how)))) (sym at) refl
+    one : (z : RecoverStage) → z ≡ recovery.Answer how → recoveries.landed_at e z s.buffer held ≡ seated e.process (Idle (second_rest (next_number e.announcement how))) s.buffer (answered_also held (Recovered (record e { stage = z }) (end_of_recovery e how)))
+    one z at = subst (λ (y : RecoverStage). recoveries.landed_at e y s.buffer held ≡ seated e.process (Idle (second_rest (next_number e.announcement how))) s.buffer (answered_also held (Recovered (record e { stage = y }) (end_of_recovery e how)))) (sym at) refl
 
 pub show_lands : (layout : Layout) (held : Deeds) (me : Me ℕ View) (e : PlainShowCall) (end : ShowEnd) → IsSettled reports.show_rules layout held me e end → Lands me e.process e.next held (Reported e end)
 show_lands layout held me e end s = record { buffer = s.buffer; at = s.at ∙ ap (λ (z : Seated). (lone z, [])) (one e.stage s.ends) }
   where
-    one : (z : ShowStage) → z ≡ report.Answer end → reports.landed_at e z s.buffer held ≡ seated e.process (Idle (second_rest e.next)) s.buffer (told_also held (Reported (record e { stage = z }) end))
-    one z at = subst (λ (y : ShowStage). reports.landed_at e y s.buffer held ≡ seated e.process (Idle (second_rest e.next)) s.buffer (told_also held (Reported (record e { stage = y }) end))) (sym at) refl
+    one : (z : ShowStage) → z ≡ report.Answer end → reports.landed_at e z s.buffer held ≡ seated e.process (Idle (second_rest e.next)) s.buffer (answered_also held (Reported (record e { stage = z }) end))
+    one z at = subst (λ (y : ShowStage). reports.landed_at e y s.buffer held ≡ seated e.process (Idle (second_rest e.next)) s.buffer (answered_also held (Reported (record e { stage = y }) end))) (sym at) refl
 
 -- ---- what a call answers
 
 -- how an edit of this request begins
-abbrev asks : Layout → PlainEdit → Told
+abbrev asks : Layout → PlainEdit → CallEvent
 asks layout d = Began (BeginEdit (record { process = d.process; cell = cell_at layout.shape d.cell; text = d.text })) (Begun d.number)
 
 pub edit_answers : (layout : Layout) (cell : Cell) (text : List ℕ) (old new : Pass) (first e : PlainEditCall) (end : EditEnd) (n : ℕ) → Settles edits.edit_rules layout first old.place.me new.place.me e end n → edit_of e ≡ edit_of first
@@ -218,5 +218,5 @@ recover_answers layout old new first e end n s process same =
     )
 
 -- what was answered stays answered
-pub told_still : (p : ℕ) (late : List HistoryEntry) (old new : List Told) (u : Told) → new ≡ calls_of p late ++ old → In old u → In new u
-told_still p late old new u is here = subst (λ (l : List Told). In l u) (sym is) (in_right (calls_of p late) old u here)
+pub answered_still : (p : ℕ) (late : List HistoryEntry) (old new : List CallEvent) (u : CallEvent) → new ≡ calls_of p late ++ old → In old u → In new u
+answered_still p late old new u is here = subst (λ (l : List CallEvent). In l u) (sym is) (in_right (calls_of p late) old u here)

@@ -24,8 +24,8 @@ use Rattle.ds_state.proofs.Buffers.{buffered}
 use Rattle.ds_state.proofs.CrashSound.{crash_sound}
 use Rattle.ds_state.proofs.Spent.{spent_evicted}
 use Rattle.ds_state.specs.declared.recovery.RecoveryEnd.TheVariants.{Last, Nothing}
-use Rattle.ds_drives.specs.declared.board.Told.{Told}
-use Rattle.ds_drives.specs.declared.board.Told.TheVariants.{Began, Edited, Worked, Recovered, Reported}
+use Rattle.ds_drives.specs.declared.board.CallEvent.{CallEvent}
+use Rattle.ds_drives.specs.declared.board.CallEvent.TheVariants.{Began, Edited, Worked, Recovered, Reported}
 use Rattle.ds_drives.specs.Table.{two_sided}
 use Rattle.std.proofs.Common.{◌++◌}
 use Rattle.std.proofs.lemmas.List.{append_assoc}
@@ -36,18 +36,18 @@ use Rattle.std.specs.Prelude.{nat_lt}
 use Rattle.std.proofs.lemmas.Bool.{lt-ltb, le-ltb}
 use Rattle.ds_state.specs.Value.{first_rest}
 use Rattle.ds_state.specs.LayoutsFit.{IsMoving}
-use Rattle.ds_drives.specs.Rule.{Behind, WasTold, all_of, world_on, IsSecond, IsTold, AtRest, Survives}
-use Rattle.ds_drives.proofs.Behinds.{was_further, tidy_on}
+use Rattle.ds_drives.specs.Rule.{Witness, WasAnswered, all_of, world_on, IsSecond, IsAnswered, AtRest, Survives}
+use Rattle.ds_drives.proofs.Witnesses.{was_further, tidy_on}
 use Rattle.ds_drives.proofs.Histories.{begins_still}
-use Rattle.ds_shared.proofs.Losses.{told_crashed}
+use Rattle.ds_shared.proofs.Losses.{answered_crashed}
 
-told_evicted : (place : Place) (old new : PlainWorld) → IsSound old → Evicts place old new → (q : ℕ) (t : Told) → IsTold old q t → IsTold new q t
-told_evicted place old new sound v q (Began event reply) h = tt
-told_evicted place old new sound v q (Edited d how) h = record { own = h.own; spent = spent_evicted place old new sound v q d.number h.spent; holds = subst (λ l. Rattle.ds_drives.specs.Rule.IsTrueTold l (edit_of d) how) (sym v.counted) h.holds }
-told_evicted place old new sound v q (Worked e end) h = tt
-told_evicted place old new sound v q (Recovered e Nothing) h = tt
-told_evicted place old new sound v q (Recovered e (Last told)) h = record { spent = spent_evicted place old new sound v q told.number h.spent; holds = subst (λ l. Rattle.ds_drives.specs.Rule.CountsAs l q told.number told.counts) (sym v.counted) h.holds }
-told_evicted place old new sound v q (Reported e end) h = tt
+answered_evicted : (place : Place) (old new : PlainWorld) → IsSound old → Evicts place old new → (q : ℕ) (t : CallEvent) → IsAnswered old q t → IsAnswered new q t
+answered_evicted place old new sound v q (Began event reply) h = tt
+answered_evicted place old new sound v q (Edited d how) h = record { own = h.own; spent = spent_evicted place old new sound v q d.number h.spent; holds = subst (λ l. Rattle.ds_drives.specs.Rule.IsTrueOutcome l (edit_of d) how) (sym v.counted) h.holds }
+answered_evicted place old new sound v q (Worked e end) h = tt
+answered_evicted place old new sound v q (Recovered e Nothing) h = tt
+answered_evicted place old new sound v q (Recovered e (Last resolved)) h = record { spent = spent_evicted place old new sound v q resolved.number h.spent; holds = subst (λ l. Rattle.ds_drives.specs.Rule.CountsAs l q resolved.number resolved.counts) (sym v.counted) h.holds }
+answered_evicted place old new sound v q (Reported e end) h = tt
 
 -- the words after n of them were evicted, those that are chosen
 abbrev backed : (ℕ → Bool) → List ℕ → ℕ → List ℕ
@@ -87,16 +87,16 @@ module _ (layout : Layout) (c : ℕ → Bool) (ws : List ℕ) (long : length ws 
         rest = λ n low. r.rest n (omega arith);
       }
 
-  module _ (b : Behind) (rests : AtRest layout ws b) where
+  module _ (b : Witness) (rests : AtRest layout ws b) where
     record Evicted (w : List ℕ) : Type 0 where
       more : List Happened
       sound : IsSound (world_on layout w b)
       run : Run b.origin.opened (more ++ b.happened) (world_on layout w b)
       stood : Stood (more ++ b.happened)
-      told : (q : ℕ) (t : Told) → IsTold (world_on layout ws b) q t → IsTold (world_on layout w b) q t
+      returned : (q : ℕ) (t : CallEvent) → IsAnswered (world_on layout ws b) q t → IsAnswered (world_on layout w b) q t
 
     evicted : (k : ℕ) → k ≤ words_of layout → Evicted (backed c ws k)
-    evicted zero few = record { more = []; sound = rests.sound; run = rests.run; stood = rests.stood; told = λ q t h. h }
+    evicted zero few = record { more = []; sound = rests.sound; run = rests.run; stood = rests.stood; call_events = λ q t h. h }
     evicted (suc k) few = by (evicted k (omega arith)) (backed_is k (omega arith)) (c k)
       where
         by : Evicted (backed c ws k) → Backed k (backed c ws k) → (t : Bool) → Evicted (if t then set (backed c ws k) (8 * k + 1) (get_or (backed c ws k) (8 * k) 0) else backed c ws k)
@@ -125,7 +125,7 @@ module _ (layout : Layout) (c : ℕ → Bool) (ws : List ℕ) (long : length ws 
               run = (e, r.run);
               stood = (record { sound = r.sound; tidy = tidy_on layout w b rests.bare }, r.stood);
               sound = (evict_sound place (world_on layout w b) (world_on layout w' b) r.sound (buffered (world_on layout w b) r.sound) e).0;
-              told = λ q t h. told_evicted place (world_on layout w b) (world_on layout w' b) r.sound e q t (r.told q t h);
+              call_events = λ q t h. answered_evicted place (world_on layout w b) (world_on layout w' b) r.sound e q t (r.call_events q t h);
             }
         by r f false = r
 
@@ -160,7 +160,7 @@ module _ (layout : Layout) (c : ℕ → Bool) (ws : List ℕ) (long : length ws 
       lost : List Happened
       lost = record { before = world_on layout mid b; event = Crash; reply = reply.Crashed } ∷ backs.more
 
-      after : Behind
+      after : Witness
       after = record { situation = λ p. if nat_lt p layout.processes then Stopped else Idle first_rest; buffer = λ q. []; counted = survivors (memory_at layout (two_sided mid b.buffer)) b.counted; open_edits = b.open_edits; origin = b.origin; happened = lost ++ b.happened }
 
       stopped_low : (p : ℕ) → p < layout.processes → after.situation p ≡ Stopped
@@ -209,14 +209,14 @@ module _ (layout : Layout) (c : ℕ → Bool) (ws : List ℕ) (long : length ws 
       pub survives : Survives layout ws ws' b
       unfolding after lost
       survives = record {
-        behind = after;
+        witness = after;
         rests = record { sound = crash_sound (world_on layout mid b) (world_on layout ws' after) backs.sound crash; second = second; run = (crash, backs.run); bare = record { situations = idle_far; buffers = λ q far. refl; open_edits = rests.bare.open_edits }; stood = (record { sound = backs.sound; tidy = tidy_on layout mid b rests.bare }, backs.stood); from = rests.from; stopped = stopped_low; buffer = λ p low. refl };
         origin = refl;
         more = lost;
         happened = refl;
-        told = λ e h. record {
-          told = λ t here. told_crashed (world_on layout mid b) (world_on layout ws' after) backs.sound rests.stopped crash e.process t (backs.told e.process t (h.told t here));
-          was = subst (λ (z : List Happened). WasTold z e) (sym (append_assoc lost b.happened b.origin.older)) (was_further lost (all_of b) e h.was);
+        call_events = λ e h. record {
+          call_events = λ t here. answered_crashed (world_on layout mid b) (world_on layout ws' after) backs.sound rests.stopped crash e.process t (backs.call_events e.process t (h.call_events t here));
+          was = subst (λ (z : List Happened). WasAnswered z e) (sym (append_assoc lost b.happened b.origin.older)) (was_further lost (all_of b) e h.was);
           saw = λ seen is. begins_still lost (all_of b) (all_of after) seen (append_assoc lost b.happened b.origin.older) (h.saw seen is);
         };
       }

@@ -15,9 +15,9 @@ use Rattle.ds_state.specs.Shown.{last_text, named_at, text_at}
 use Rattle.ds_state.proofs.LastText.{text_at_head, text_without_head}
 use Rattle.ds_state.proofs.ReadBack.{record_read}
 use Rattle.ds_drives.specs.Table.{two_sided}
-use Rattle.ds_drives.specs.Rule.{Behind, world_on}
+use Rattle.ds_drives.specs.Rule.{Witness, world_on}
 
-module _ (layout : Layout) (words : List ℕ) (cell : ℕ) (b : Behind) (s : IsSound (world_on layout words b)) where
+module _ (layout : Layout) (words : List ℕ) (cell : ℕ) (b : Witness) (s : IsSound (world_on layout words b)) where
   abbrev pub closed : Memory Place
   closed = memory_at layout (two_sided words (λ q. []))
 

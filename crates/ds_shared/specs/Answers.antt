@@ -12,7 +12,7 @@ use Rattle.ds_state.specs.declared.show.ShowEnd.TheVariants.{Settled, Unsettled}
 use Rattle.ds_state.specs.declared.recovery.RecoveryEnd.{RecoveryEnd}
 use Rattle.ds_state.specs.declared.recovery.RecoveryEnd.TheVariants as recoveries
 use Rattle.ds_drives.specs.declared.board.HistoryEntry.{HistoryEntry}
-use Rattle.ds_drives.specs.declared.board.Told.{Told}
+use Rattle.ds_drives.specs.declared.board.CallEvent.{CallEvent}
 use Rattle.ds_drives.specs.History.{calls_of}
 use Rattle.ds_drives.specs.Fuses.{Asked}
 use Rattle.ds_drives.specs.declared.board.Seated.{Seated}
@@ -49,7 +49,7 @@ pub record HasLooked (old new : Pass) : Type 0 where
   pub process : new.process ≡ old.process
   pub number : new.number ≡ old.number
   pub stopped : new.stopped ≡ old.stopped
-  pub told : outcomes new.place ≡ outcomes old.place
+  pub call_events : outcomes new.place ≡ outcomes old.place
   pub steps : steps_of new.place ≡ steps_of old.place
 
 -- the past is that of the sheet
@@ -60,7 +60,7 @@ IsPastOf s past = past.place.table_id ≡ s.board.table.shared.table_id
 pub record IsFresh (stopped : Bool) (p : Pass) : Type 0 where
   pub stopped_is : p.stopped ≡ stopped
   pub number : p.number ≡ 0
-  pub told : outcomes p.place ≡ []
+  pub call_events : outcomes p.place ≡ []
   pub steps : steps_of p.place ≡ 0
 
 -- the processes of passes, each with what it does and what it was answered, the last pass first
@@ -96,9 +96,9 @@ abbrev pub HasFewSteps : Pass → Pass → ℕ → Type 0
 HasFewSteps old new most = steps_of new.place ≤ steps_of old.place + most
 
 -- the number of a process's next edit after a recovery that ended so
-abbrev pub number_behind : RecoveryEnd → ℕ
-number_behind recoveries.Nothing = 0
-number_behind (recoveries.Last told) = told.number + 1
+abbrev pub number_witness : RecoveryEnd → ℕ
+number_witness recoveries.Nothing = 0
+number_witness (recoveries.Last resolved) = resolved.number + 1
 
 -- a show that ended so shows these values: those that it loaded where it is settled, and else none
 abbrev pub ShowsValues : PlainShowCall → ShowEnd → Option (Vec Value Global) → Type 0
@@ -108,7 +108,7 @@ ShowsValues e (Unsettled place word) values = values ≡ None
 
 -- the pass's call began so, and was answered so: both stand in the part of the sheet's history that the pass has seen
 -- since, after all that it had seen before, and nothing else of its process does
-pub record Tells (old new : Pass) (begin answer : Told) : Type 0 where
+pub record Tells (old new : Pass) (begin answer : CallEvent) : Type 0 where
   pub late : List HistoryEntry
   pub seen : seen_by new.place ≡ late ++ seen_by old.place
   pub own : calls_of old.process late ≡ answer ∷ begin ∷ []
@@ -134,7 +134,7 @@ pub record BreaksOff {C E : Type 0} (r : Rules C E) (layout : Layout) (first : C
   pub late : List HistoryEntry
   pub seen : seen_by new.place ≡ late ++ seen_by old.place
   pub own : (calls_of old.process late ≡ []) ⊎ (calls_of old.process late ≡ r.begins layout first ∷ [])
-  pub told : outcomes new.place ≡ calls_of old.process late ++ outcomes old.place
+  pub call_events : outcomes new.place ≡ calls_of old.process late ++ outcomes old.place
   pub view : IsBroken r layout first old.place.me (deeds_at new.place.me) new.place.me
 
 -- the work is the pass's, of this cell

@@ -4,7 +4,7 @@ use Rattle.atomic_table.specs.declared.shared.Seat.{Seat}
 use Rattle.ds_state.specs.declared.situation.Situation.TheVariants.{Idle}
 use Rattle.ds_drives.specs.declared.board.Seated.{Seated}
 use Rattle.ds_drives.specs.declared.board.View.{View}
-use Rattle.ds_drives.specs.declared.board.Told.{Told}
+use Rattle.ds_drives.specs.declared.board.CallEvent.{CallEvent}
 use Rattle.ds_drives.specs.declared.board.HistoryEntry.{HistoryEntry}
 use Rattle.ds_drives.specs.Views.{lone, second_rest, sole, deeds_at, deeds_in, first_in, seen_at, seen_so_far}
 
@@ -20,8 +20,8 @@ abbrev pub seen_by : Seat ℕ View → List HistoryEntry
 seen_by s = seen_at s.me
 
 -- what the seat's process did at this sheet, the last thing first: each call that it began, and each answer
-abbrev pub outcomes : Seat ℕ View → List Told
-outcomes s = (deeds_at s.me).told
+abbrev pub outcomes : Seat ℕ View → List CallEvent
+outcomes s = (deeds_at s.me).call_events
 
 -- how many steps it took
 abbrev pub steps_of : Seat ℕ View → ℕ

@@ -7,10 +7,10 @@ ghost use Rattle.ds_state.specs.World.{edit_of};
 ghost use Rattle.ds_state.specs.declared.stage.Outcome.{Outcome};
 ghost use Rattle.ds_edit.specs.Begun.{RefersTo, RefusesIn};
 ghost use Rattle.ds_state.specs.EditEndings.{end_of};
-ghost use Rattle.ds_drives.specs.declared.board.Told.{Told};
+ghost use Rattle.ds_drives.specs.declared.board.CallEvent.{CallEvent};
 ghost use Rattle.ds_core.specs.declared.event.Event.TheVariants.{BeginEdit};
 ghost use Rattle.ds_core.specs.declared.reply.Reply.TheVariants.{Begun};
-ghost use Rattle.ds_drives.specs.declared.board.Told.TheVariants.{Began, Edited};
+ghost use Rattle.ds_drives.specs.declared.board.CallEvent.TheVariants.{Began, Edited};
 ghost use Rattle.ds_drives.specs.EditRules.{IsFirst, edit_rules};
 ghost use Rattle.ds_drives.specs.Views.{In};
 ghost use Rattle.ds_shared.specs.Known.{outcomes};
@@ -46,7 +46,7 @@ impl SharedSheet {
         ensures steps { IsAskedEachStep F.said fuse.old fuse.new pass.old pass.new result }
         ensures few { IfBegun result ((refs : List ℕ) × RefersTo self.now.board.layout.shape text.now refs × HasFewSteps pass.old pass.new (112 + 3 * length refs)) }
         ensures stopped { IfStopped result ((e : PlainEditCall) × IsFirst self.now.board.layout e × (edit_of e ≡ record { process = pass.old.process; number = pass.old.number; cell = index_of self.now.board.layout.shape cell; text = text.now }) × BreaksOff edit_rules self.now.board.layout e pass.old pass.new) }
-        ensures kept { (t : Told) → In (outcomes pass.old.place) t → In (outcomes pass.new.place) t }
+        ensures kept { (t : CallEvent) → In (outcomes pass.old.place) t → In (outcomes pass.new.place) t }
         ensures refused { IfRefused result (λ r. RefusesIn self.now.board.layout.shape text.now (doing pass.old.stopped pass.old.number) r) }
         ensures unchanged { IfRefused result (λ r. pass.new ≡ pass.old) }
     {

@@ -6,14 +6,14 @@ ghost use Rattle.ds_shared.specs.Known.{IsKnown, IsMemory, IsNote};
 ghost use Rattle.ds_eval.specs.Code.{plain_code};
 ghost use Rattle.std.specs.Coded.{codes};
 
-use ds_drives::board::Place;
+use ds_drives::board::TableSeat;
 use ds_layout::place::Edition;
 use ds_state::situation::Rest;
 
 /// What was answered before a sheet was opened. Its owner keeps it for the close.
 #[derive(Drop)]
 pub struct Past {
-    pub(crate) place: Place,
+    pub(crate) place: TableSeat,
     pub ghost memory: { IsMemory place } by { Prim.hlevel (codes, plain_code) },
 }
 
@@ -21,14 +21,14 @@ pub struct Past {
 /// shown it by `SharedSheet::learn`.
 #[derive(Drop)]
 pub struct Note {
-    pub(crate) place: Place,
+    pub(crate) place: TableSeat,
     pub ghost known: { IsNote place } by { Prim.hlevel (codes, plain_code) },
 }
 
 /// The right to act for a process of a sheet.
 #[derive(Drop)]
 pub struct Pass {
-    pub(crate) place: Place,
+    pub(crate) place: TableSeat,
     pub(crate) process: usize,
     pub(crate) number: usize,
     pub(crate) stopped: bool,

@@ -3,7 +3,7 @@
 ghost use Rattle.std.specs.Prelude.{List, ◌≡◌, ◌*◌, ◌<◌, ◌≤◌, [], true, map, IfOk, IfErr, All};
 ghost use Rattle.std.specs.List.{range_with_len};
 ghost use Rattle.std.specs.Mem.Slots.{slots_items, slots_len};
-ghost use Rattle.ds_drives.specs.Rule.{AreTrue, AtRest, Behind};
+ghost use Rattle.ds_drives.specs.Rule.{AreTrue, AtRest, Witness};
 ghost use Rattle.ds_drives.specs.Views.{past_of};
 ghost use Rattle.ds_drives.specs.Looks.{BeginsWithAll};
 ghost use Rattle.ds_drives.specs.declared.board.HistoryEntry.{HistoryEntry};
@@ -37,7 +37,7 @@ impl ClosedSheet {
         self,
         alloc: Global,
     ) -> Result<(SharedSheet, Past, Vec<Pass, Global>), ClosedSheet>
-        requires { (b : Behind) × AtRest self.layout (slots_items self.table.words) b × AreTrue self.layout (slots_items self.table.words) b (past_of self.before) }
+        requires { (b : Witness) × AtRest self.layout (slots_items self.table.words) b × AreTrue self.layout (slots_items self.table.words) b (past_of self.before) }
         ensures layout { IfOk result (λ r. r.0.board.layout ≡ self.layout) }
         ensures order { IfOk result (λ r. map (λ p. p.process) r.2.items ≡ range_with_len 0 self.layout.processes) }
         ensures fit { IfOk result (λ r. All (λ p. IsOf r.0 p × IsFresh true p) r.2.items) }

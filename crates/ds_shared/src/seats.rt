@@ -7,7 +7,7 @@ ghost use Rattle.ds_drives.specs.declared.board.Seated.{Seated};
 ghost use Rattle.ds_drives.specs.declared.board.HistoryEntry.{HistoryEntry};
 ghost use Rattle.ds_drives.specs.Views.{In, sole, first_now, past_of, whole_view};
 ghost use Rattle.ds_state.specs.declared.reports.TheConstants.{SETTLED_MOST};
-ghost use Rattle.ds_drives.specs.Rule.{Behind, AtRest, AreTrue, Closes, all_of};
+ghost use Rattle.ds_drives.specs.Rule.{Witness, AtRest, AreTrue, Closes, all_of};
 ghost use Rattle.ds_shared_runs.specs.Runs.{begun_in};
 ghost use Rattle.ds_shared_runs.specs.Closed.{HasRun};
 ghost use Rattle.ds_shared.specs.declared.pass.Pass.{Pass};
@@ -18,14 +18,14 @@ ghost use Rattle.ds_shared.specs.Answers.{IsFresh, IsOf, IsPastOf, opened_with, 
 
 use crate::pass::{Pass, Past};
 use crate::sheet::{ClosedSheet, SharedSheet};
-use ds_drives::board::{Board, Place};
+use ds_drives::board::{Board, TableSeat};
 use ds_layout::layout::Layout;
 use std::alloc::{AllocError, Global};
 
 // A pass for each process, in order, off a seat that runs all of them before their first call.
 pub(crate) fn dealt(
     board: &Board,
-    rest: &mut Place,
+    rest: &mut TableSeat,
     stopped: bool,
     mut passes: Vec<Pass, Global>,
 ) -> Vec<Pass, Global>
@@ -83,7 +83,7 @@ impl SharedSheet {
         ensures handed { (p : Pass) → Contains passes.items p → In (past_of result.before) (sole p.place) }
         ensures before { (e : Seated) → In (past_in past.place) e → In (past_of result.before) e }
         ensures stand { Closes self.board.layout (start_of self.board.table.shared.key) (slots_items result.table.words) (λ e. (p : Pass) × Contains passes.items p × (e ≡ sole p.place)) (past_of result.before) }
-        ensures run { (b : Behind) → AtRest self.board.layout (slots_items result.table.words) b → AreTrue self.board.layout (slots_items result.table.words) b (past_of result.before) → begun_in (all_of b) ≤ SETTLED_MOST → HasRun self.board.layout (slots_items result.table.words) b (past_of result.before) }
+        ensures run { (b : Witness) → AtRest self.board.layout (slots_items result.table.words) b → AreTrue self.board.layout (slots_items result.table.words) b (past_of result.before) → begun_in (all_of b) ≤ SETTLED_MOST → HasRun self.board.layout (slots_items result.table.words) b (past_of result.before) }
     {
         let SharedSheet { board } = self;
         let Past { place: mut seat } = past;

@@ -34,7 +34,7 @@ impl SharedSheet {
 pub struct ClosedSheet {
     pub(crate) table: Closed<u8, Global>,
     pub(crate) layout: Layout,
-    pub(crate) before: Option<board::Place>,
+    pub(crate) before: Option<board::TableSeat>,
     pub ghost full: { IsFull table.words × (slots_len table.slots ≡ 0) },
     pub ghost sized: { slots_len table.words ≡ 8 * words_of layout },
 }
@@ -63,12 +63,12 @@ impl ClosedSheet {
     ghost use Rattle.ds_state.specs.Shown.{last_text};
     ghost use Rattle.ds_state.specs.World.{of_cell};
     ghost use Rattle.ds_state.specs.Sound.{IsSound};
-    ghost use Rattle.ds_drives.specs.Rule.{Behind, world_on};
+    ghost use Rattle.ds_drives.specs.Rule.{Witness, world_on};
 
     /// The text of a cell: that of the last of its linearized edits. An error means that an allocation failed.
     pub fn text_of(&self, alloc: Global, cell: Cell) -> Result<Vec<u8>, AllocError>
         requires { IsInside self.now.layout.shape cell }
-        ensures { IfOk result (λ v. (b : Behind) → IsSound (world_on self.now.layout (slots_items self.now.table.words) b)
+        ensures { IfOk result (λ v. (b : Witness) → IsSound (world_on self.now.layout (slots_items self.now.table.words) b)
             → v.items ≡ last_text (of_cell (index_of self.now.layout.shape cell) b.counted)) }
     {
         text(self, alloc, self.layout.shape.index(cell))
@@ -106,7 +106,7 @@ impl ClosedSheet {
     ghost use Rattle.ds_layout.specs.SheetMemory.{memory_at};
     ghost use Rattle.ds_state.specs.Shown.{mark_at, value_at};
     ghost use Rattle.ds_drives.specs.Table.{two_sided};
-    ghost use Rattle.ds_drives.specs.Rule.{Behind, AtRest, Survives, HasSideLeft};
+    ghost use Rattle.ds_drives.specs.Rule.{Witness, AtRest, Survives, HasSideLeft};
     ghost use Rattle.std.specs.Prelude.{[]};
 
     /// The value of a cell, as its words show it.
@@ -150,7 +150,7 @@ impl ClosedSheet {
         ensures layout { self.new.layout ≡ self.old.layout }
         ensures before { past_of self.new.before ≡ past_of self.old.before }
         ensures words { (n : ℕ) → n < words_of self.old.layout → HasSideLeft (slice_index_or choice.now n false) (slots_items self.old.table.words) (slots_items self.new.table.words) n }
-        ensures survives { (b : Behind) → AtRest self.old.layout (slots_items self.old.table.words) b → Survives self.old.layout (slots_items self.old.table.words) (slots_items self.new.table.words) b }
+        ensures survives { (b : Witness) → AtRest self.old.layout (slots_items self.old.table.words) b → Survives self.old.layout (slots_items self.old.table.words) (slots_items self.new.table.words) b }
     {
         for number in 0..self.layout.words() {
             let side = if choice[number] {

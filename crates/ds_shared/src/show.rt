@@ -6,10 +6,10 @@ ghost use Rattle.ds_state.specs.Works.{PlainShowCall};
 ghost use Rattle.ds_state.specs.ShowStages.{IsShow};
 ghost use Rattle.ds_show.specs.ShowSteps.{fresh as begun};
 ghost use Rattle.ds_work.specs.WorkTakes.{RefusesIn};
-ghost use Rattle.ds_drives.specs.declared.board.Told.{Told};
+ghost use Rattle.ds_drives.specs.declared.board.CallEvent.{CallEvent};
 ghost use Rattle.ds_core.specs.declared.event.Event.TheVariants.{BeginShow};
 ghost use Rattle.ds_core.specs.declared.reply.Reply.TheVariants.{Entered};
-ghost use Rattle.ds_drives.specs.declared.board.Told.TheVariants.{Began, Reported};
+ghost use Rattle.ds_drives.specs.declared.board.CallEvent.TheVariants.{Began, Reported};
 ghost use Rattle.ds_drives.specs.ShowRules.{IsEnded, show_rules};
 ghost use Rattle.ds_drives.specs.Views.{In, second_rest};
 ghost use Rattle.ds_shared.specs.Known.{outcomes};
@@ -70,7 +70,7 @@ impl SharedSheet {
         ensures steps { IsAskedEachStep F.said fuse.old fuse.new pass.old pass.new result.0 }
         ensures few { HasFewSteps pass.old pass.new (2 * self.now.board.layout.processes + 4 * cells_of self.now.board.layout + 1) }
         ensures stopped { IfStopped result.0 ((result.1 ≡ None) × ((e : PlainShowCall) × (e ≡ begun pass.old.process (second_rest pass.old.number) (cells_of self.now.board.layout) self.now.board.layout.processes) × BreaksOff show_rules self.now.board.layout e pass.old pass.new)) }
-        ensures kept { (t : Told) → In (outcomes pass.old.place) t → In (outcomes pass.new.place) t }
+        ensures kept { (t : CallEvent) → In (outcomes pass.old.place) t → In (outcomes pass.new.place) t }
         ensures refused { IfRefused result.0 (λ r. RefusesIn (doing pass.old.stopped pass.old.number) r) }
         ensures unchanged { IfRefused result.0 (λ r. (pass.new ≡ pass.old) × (result.1 ≡ None)) }
     {

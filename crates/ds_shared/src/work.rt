@@ -5,10 +5,10 @@ ghost use Rattle.ds_formula.specs.Cells.{IsInside, index_of};
 ghost use Rattle.ds_layout.specs.Places.{cells_of};
 ghost use Rattle.ds_state.specs.Works.{PlainWorkCall};
 ghost use Rattle.ds_work.specs.WorkTakes.{IsAskedFor, RefusesIn};
-ghost use Rattle.ds_drives.specs.declared.board.Told.{Told};
+ghost use Rattle.ds_drives.specs.declared.board.CallEvent.{CallEvent};
 ghost use Rattle.ds_core.specs.declared.event.Event.TheVariants.{BeginWork};
 ghost use Rattle.ds_core.specs.declared.reply.Reply.TheVariants.{Entered};
-ghost use Rattle.ds_drives.specs.declared.board.Told.TheVariants.{Began, Worked};
+ghost use Rattle.ds_drives.specs.declared.board.CallEvent.TheVariants.{Began, Worked};
 ghost use Rattle.ds_drives.specs.WorkRules.{work_rules};
 ghost use Rattle.ds_drives.specs.Views.{In, second_rest};
 ghost use Rattle.ds_shared.specs.Known.{outcomes};
@@ -41,7 +41,7 @@ impl SharedSheet {
         ensures steps { IsAskedEachStep F.said fuse.old fuse.new pass.old pass.new result }
         ensures few { HasFewSteps pass.old pass.new (5 * cells_of self.now.board.layout + (cells_of self.now.board.layout + 63) / 64 + 51) }
         ensures stopped { IfStopped result ((e : PlainWorkCall) × IsAskedFor self.now.board.layout pass.old.process (second_rest pass.old.number) (index_of self.now.board.layout.shape cell) e × BreaksOff work_rules self.now.board.layout e pass.old pass.new) }
-        ensures kept { (t : Told) → In (outcomes pass.old.place) t → In (outcomes pass.new.place) t }
+        ensures kept { (t : CallEvent) → In (outcomes pass.old.place) t → In (outcomes pass.new.place) t }
         ensures refused { IfRefused result (λ r. RefusesIn (doing pass.old.stopped pass.old.number) r) }
         ensures unchanged { IfRefused result (λ r. pass.new ≡ pass.old) }
     {

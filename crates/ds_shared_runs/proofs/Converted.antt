@@ -16,10 +16,10 @@ use Rattle.ds_core.proofs.EachRun.{runs_have_headline}
 use Rattle.ds_drives.specs.History.{Happened, Run, Stood, IsTidy, IsStanding, Moves}
 use Rattle.ds_shared_runs.specs.Runs.{events_of, replies_of, begun_in, begun_by, IsRun}
 use Rattle.ds_shared_runs.proofs.Values.{tab_length, tab_low, value_on, value_is}
-use Rattle.ds_drives.specs.declared.board.Told.{Told}
+use Rattle.ds_drives.specs.declared.board.CallEvent.{CallEvent}
 use Rattle.ds_drives.specs.Views.{In}
-use Rattle.ds_drives.specs.History.{told_from}
-use Rattle.ds_shared_runs.specs.Told.{StandsAt}
+use Rattle.ds_drives.specs.History.{answered_from}
+use Rattle.ds_shared_runs.specs.CallEvents.{StandsAt}
 use Rattle.ds_shared_runs.proofs.Answered.{run_more, answered_last, answered_still}
 use Rattle.ds_shared_runs.proofs.Events.{Advanced, advances}
 
@@ -42,7 +42,7 @@ record SoFar (first : PlainWorld) (hs : List Happened) (last : PlainWorld) : Typ
   last_is : world_of new ≡ last
   good_now : IsGood new
   few : new.settled + shows_under_way new.situations ≤ begun_in hs
-  told : (since until : List Happened) (h : Happened) (p : ℕ) (t : Told) → hs ≡ since ++ h ∷ until → In (told_from p h.before h.event h.reply) t → StandsAt old (events_of hs) (replies_of hs) new run p t (length until)
+  returned : (since until : List Happened) (h : Happened) (p : ℕ) (t : CallEvent) → hs ≡ since ++ h ∷ until → In (answered_from p h.before h.event h.reply) t → StandsAt old (events_of hs) (replies_of hs) new run p t (length until)
 
 -- a new sheet
 begins : (w : PlainWorld) → IsNew w → IsStanding w → SoFar w [] w
@@ -68,7 +68,7 @@ begins w new standing =
       last_is = value_is w t 0 0 (no_reports w.layout.processes (cells_of w.layout));
       good_now = good;
       few = omega (arith, none);
-      told = λ since until h p t is here. absurd (none_there since until h is);
+      call_events = λ since until h p t is here. absurd (none_there since until h is);
     }
 
 goes_on : (first last : PlainWorld) (h : Happened) (hs : List Happened) → SoFar first hs h.before → Moves h.before h.event h.reply last → IsStanding h.before → IsStanding last → begun_in hs + begun_by h.event ≤ SETTLED_MOST → SoFar first (h ∷ hs) last
@@ -86,20 +86,20 @@ goes_on first last h hs s m stood standing few =
       last_is = a.is;
       good_now = a.fits.good;
       few = omega (arith, so_many, more);
-      told = told_so a;
+      call_events = answered_so a;
     }
   where
-    told_so : (a : Advanced s.new h.event h.reply last) → (since until : List Happened) (x : Happened) (p : ℕ) (t : Told) → h ∷ hs ≡ since ++ x ∷ until → In (told_from p x.before x.event x.reply) t
+    answered_so : (a : Advanced s.new h.event h.reply last) → (since until : List Happened) (x : Happened) (p : ℕ) (t : CallEvent) → h ∷ hs ≡ since ++ x ∷ until → In (answered_from p x.before x.event x.reply) t
         → StandsAt s.old (events_of (h ∷ hs)) (replies_of (h ∷ hs)) a.next (run_more s.old s.new a.next (events_of hs) h.event (replies_of hs) h.reply s.run a.fits) p t (length until)
-    told_so a [] until x p t is here =
+    answered_so a [] until x p t is here =
         let first_is : h ≡ x = cc in
         let rest_is : hs ≡ until = cc in
         let long : length (events_of hs) ≡ length until = events_length hs ∙ ap length rest_is in
         subst (StandsAt s.old (events_of (h ∷ hs)) (replies_of (h ∷ hs)) a.next (run_more s.old s.new a.next (events_of hs) h.event (replies_of hs) h.reply s.run a.fits) p t) long
-        (answered_last s.old s.new a.next (events_of hs) (replies_of hs) s.run h last p t a.fits s.last_is stood.sound m (subst (λ (z : Happened). In (told_from p z.before z.event z.reply) t) (sym first_is) here))
-    told_so a (y ∷ ys) until x p t is here =
+        (answered_last s.old s.new a.next (events_of hs) (replies_of hs) s.run h last p t a.fits s.last_is stood.sound m (subst (λ (z : Happened). In (answered_from p z.before z.event z.reply) t) (sym first_is) here))
+    answered_so a (y ∷ ys) until x p t is here =
         let rest_is : hs ≡ ys ++ x ∷ until = cc in
-        answered_still s.old s.new a.next (events_of hs) h.event (replies_of hs) h.reply s.run a.fits p t (length until) (s.told ys until x p t rest_is here)
+        answered_still s.old s.new a.next (events_of hs) h.event (replies_of hs) h.reply s.run a.fits p t (length until) (s.call_events ys until x p t rest_is here)
 
 so_far : (first last : PlainWorld) (hs : List Happened) → IsNew first → Run first hs last → Stood hs → IsStanding last → begun_in hs ≤ SETTLED_MOST → SoFar first hs last
 so_far first last [] new is stood standing few = subst (λ (w : PlainWorld). SoFar first [] w) (sym is) (begins first new (subst IsStanding is standing))
@@ -115,6 +115,6 @@ histories_are_runs first last hs new run stood standing few =
       run = s.run;
       first_is = s.first_is;
       last_is = s.last_is;
-      told = s.told;
+      call_events = s.call_events;
       headline = runs_have_headline s.old (events_of hs) (replies_of hs) s.new s.fresh s.good s.run;
     }

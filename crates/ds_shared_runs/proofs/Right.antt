@@ -32,19 +32,19 @@ use Rattle.ds_core.specs.declared.reply.Reply.TheVariants.{Answered}
 use Rattle.atomic_table.specs.Table.{State}
 use Rattle.ds_drives.specs.declared.board.View.{View}
 use Rattle.ds_drives.specs.declared.board.Seated.{Seated}
-use Rattle.ds_drives.specs.declared.board.Told.{Told}
-use Rattle.ds_drives.specs.declared.board.Told.TheVariants.{Began, Edited, Worked, Recovered, Reported}
+use Rattle.ds_drives.specs.declared.board.CallEvent.{CallEvent}
+use Rattle.ds_drives.specs.declared.board.CallEvent.TheVariants.{Began, Edited, Worked, Recovered, Reported}
 use Rattle.ds_drives.specs.Views.{In}
-use Rattle.ds_drives.specs.History.{Happened, told_by, told_from, told_to, entry_of, history_of}
+use Rattle.ds_drives.specs.History.{Happened, answered_by, answered_from, answered_to, entry_of, history_of}
 use Rattle.ds_drives.specs.declared.board.HistoryEntry.{HistoryEntry}
 use Rattle.std.proofs.Common.{inl, inr}
 use Rattle.std.proofs.lemmas.List.{append_assoc}
-use Rattle.ds_drives.specs.Rule.{Behind, IsBeginning, AtRest, AreTrue, Ruled, Start, all_of, world_on}
-use Rattle.ds_drives.proofs.Histories.{run_both, stood_both, told_both}
-use Rattle.ds_drives.proofs.Behinds.{tidy_on}
+use Rattle.ds_drives.specs.Rule.{Witness, IsBeginning, AtRest, AreTrue, Ruled, Start, all_of, world_on}
+use Rattle.ds_drives.proofs.Histories.{run_both, stood_both, answered_both}
+use Rattle.ds_drives.proofs.Witnesses.{tidy_on}
 use Rattle.ds_drives.proofs.Dealt.{in_append, in_left, in_right}
 use Rattle.ds_shared_runs.specs.Runs.{IsRun, events_of, replies_of, begun_in}
-use Rattle.ds_shared_runs.specs.Told.{Stands, StandsAt}
+use Rattle.ds_shared_runs.specs.CallEvents.{Stands, StandsAt}
 use Rattle.ds_shared_runs.specs.Closed.{IsSeen, WasRight, HasRun, SeenRun}
 use Rattle.ds_shared_runs.proofs.Converted.{histories_are_runs}
 
@@ -100,18 +100,18 @@ left old new p e good at (core.migrations s) = absurd (no_migration s.what s.is)
 -- ---- places
 
 -- an event by which the process was answered this
-record WasTold_by (p : ℕ) (t : Told) (hs : List Happened) : Type 0 where
+record WasAnswered_by (p : ℕ) (t : CallEvent) (hs : List Happened) : Type 0 where
   since : List Happened
   until : List Happened
   h : Happened
   parts : hs ≡ since ++ h ∷ until
-  tells : In (told_from p h.before h.event h.reply) t
+  tells : In (answered_from p h.before h.event h.reply) t
 
-where_told : (p : ℕ) (t : Told) (hs : List Happened) → In (told_by p hs) t → WasTold_by p t hs
-where_told p t [] none = absurd none
-where_told p t (h ∷ hs) inside = elim (in_append (told_from p h.before h.event h.reply) (told_by p hs) t inside) [
+where_answered : (p : ℕ) (t : CallEvent) (hs : List Happened) → In (answered_by p hs) t → WasAnswered_by p t hs
+where_answered p t [] none = absurd none
+where_answered p t (h ∷ hs) inside = elim (in_append (answered_from p h.before h.event h.reply) (answered_by p hs) t inside) [
   | inl here ↦ record { since = []; until = hs; h = h; parts = refl; tells = here }
-  | inr before ↦ (let w = where_told p t hs before in record { since = h ∷ w.since; until = w.until; h = w.h; parts = ap (λ (l : List Happened). h ∷ l) w.parts; tells = w.tells })
+  | inr before ↦ (let w = where_answered p t hs before in record { since = h ∷ w.since; until = w.until; h = w.h; parts = ap (λ (l : List Happened). h ∷ l) w.parts; tells = w.tells })
 ]
 
 -- what happened where an entry stands in its history
@@ -143,8 +143,8 @@ entry_at (x ∷ u) (y ∷ ys) until e is =
     record { after = x ∷ k.after; before = k.before; h = k.h; parts = ap (λ (l : List Happened). x ∷ l) k.parts; is = k.is; long = k.long }
 
 module _ (first : PlainWorld) (hs : List Happened) (last : PlainWorld) (r : IsRun first hs last) where
-  pub stands : (p : ℕ) (t : Told) → In (told_by p hs) t → Stands r.old (events_of hs) (replies_of hs) r.new r.run p t
-  stands p t inside = let w = where_told p t hs inside in record { place = length w.until; at = r.told w.since w.until w.h p t w.parts w.tells }
+  pub stands : (p : ℕ) (t : CallEvent) → In (answered_by p hs) t → Stands r.old (events_of hs) (replies_of hs) r.new r.run p t
+  stands p t inside = let w = where_answered p t hs inside in record { place = length w.until; at = r.call_events w.since w.until w.h p t w.parts w.tells }
 
   show_right : (p : ℕ) (e : PlainShowCall) (k : ℕ) → StandsAt r.old (events_of hs) (replies_of hs) r.new r.run p (Reported e Settled) k → ShowFits first hs last r p k e Settled
   show_right p e k a =
@@ -158,17 +158,17 @@ module _ (first : PlainWorld) (hs : List Happened) (last : PlainWorld) (r : IsRu
       (said.0, said.1, subst (λ (vs : List Value). SettledFits h.moment said.0 k vs) values said.2)
 
   -- what was answered fits the run
-  pub fits : (p : ℕ) (t : Told) (k : ℕ) → StandsAt r.old (events_of hs) (replies_of hs) r.new r.run p t k → Fits first hs last r p t k
+  pub fits : (p : ℕ) (t : CallEvent) (k : ℕ) → StandsAt r.old (events_of hs) (replies_of hs) r.new r.run p t k → Fits first hs last r p t k
   fits p (Began event reply) k a = tt
   fits p (Edited e Done) k a = acknowledged_once r.old (events_of hs) (replies_of hs) r.new k p e.number r.headline.is a.happens
   fits p (Edited e (Overtaken noted seen)) k a = r.headline.is.run.ledger k (Step p) (Answered (Edit (end_of e.processes e.number (Overtaken noted seen)))) a.happens
   fits p (Worked e end) k a = r.headline.is.run.works k p end a.happens
   fits p (Recovered e Nothing) k a = (r.headline.is.run.ledger k (Step p) (Answered (Recovery Nothing)) a.happens, tt)
-  fits p (Recovered e (Last told)) k a = (r.headline.is.run.ledger k (Step p) (Answered (Recovery (Last told))) a.happens, resolved_once r.old (events_of hs) (replies_of hs) r.new k p told r.headline.is a.happens)
+  fits p (Recovered e (Last resolved)) k a = (r.headline.is.run.ledger k (Step p) (Answered (Recovery (Last resolved))) a.happens, resolved_once r.old (events_of hs) (replies_of hs) r.new k p resolved r.headline.is a.happens)
   fits p (Reported e Settled) k a = show_right p e k a
   fits p (Reported e (Unsettled place word)) k a = r.headline.is.run.reports.unsettled k p place word a.happens
 
-  pub answered_so : (p : ℕ) (t : Told) → In (told_by p hs) t → WasRight first hs last r p t
+  pub answered_so : (p : ℕ) (t : CallEvent) → In (answered_by p hs) t → WasRight first hs last r p t
   answered_so p t inside = let s = stands p t inside in record { place = s.place; stands = s.at; fits = fits p t s.place s.at }
 
   -- a beginning of all that happened is a history of which each entry stands in the run
@@ -179,39 +179,39 @@ module _ (first : PlainWorld) (hs : List Happened) (last : PlainWorld) (r : IsRu
         let k : IsEntry b.until until e = entry_at b.until since until e (sym b.is ∙ parts) in
         let whole : hs ≡ (b.since ++ k.after) ++ k.h ∷ k.before = b.parts ∙ (ap (λ (l : List Happened). b.since ++ l) k.parts ∙ sym (append_assoc b.since k.after (k.h ∷ k.before))) in
         let here : StandsAt r.old (events_of hs) (replies_of hs) r.new r.run p t (length until) = subst (StandsAt r.old (events_of hs) (replies_of hs) r.new r.run p t) k.long
-        (r.told (b.since ++ k.after) k.before k.h p t whole (subst (λ (z : HistoryEntry). In (told_to p z.event z.told) t) (sym k.is) inside)) in
+        (r.call_events (b.since ++ k.after) k.before k.h p t whole (subst (λ (z : HistoryEntry). In (answered_to p z.event z.call_events) t) (sym k.is) inside)) in
         (here, fits p t (length until) here);
   }
 
 -- what a stretch says, the whole says
-stretch_told : (p : ℕ) (all since stretch before : List Happened) (t : Told) → all ≡ since ++ (stretch ++ before) → In (told_by p stretch) t → In (told_by p all) t
-stretch_told p all since stretch before t is inside = subst (λ (hs : List Happened). In (told_by p hs) t) (sym is)
-    (subst (λ (ts : List Told). In ts t) (sym (told_both p since (stretch ++ before)))
-    (in_right (told_by p since) (told_by p (stretch ++ before)) t
-    (subst (λ (ts : List Told). In ts t) (sym (told_both p stretch before)) (in_left (told_by p stretch) (told_by p before) t inside))))
+stretch_answered : (p : ℕ) (all since stretch before : List Happened) (t : CallEvent) → all ≡ since ++ (stretch ++ before) → In (answered_by p stretch) t → In (answered_by p all) t
+stretch_answered p all since stretch before t is inside = subst (λ (hs : List Happened). In (answered_by p hs) t) (sym is)
+    (subst (λ (ts : List CallEvent). In ts t) (sym (answered_both p since (stretch ++ before)))
+    (in_right (answered_by p since) (answered_by p (stretch ++ before)) t
+    (subst (λ (ts : List CallEvent). In ts t) (sym (answered_both p stretch before)) (in_left (answered_by p stretch) (answered_by p before) t inside))))
 
-pub rests_with_run : (layout : Layout) (words : List ℕ) (b : Behind) (past : List Seated) → AtRest layout words b → AreTrue layout words b past → begun_in (all_of b) ≤ SETTLED_MOST → HasRun layout words b past
+pub rests_with_run : (layout : Layout) (words : List ℕ) (b : Witness) (past : List Seated) → AtRest layout words b → AreTrue layout words b past → begun_in (all_of b) ≤ SETTLED_MOST → HasRun layout words b past
 rests_with_run layout words b past c true_then few =
     let run = run_both b.origin.first b.origin.opened (world_on layout words b) b.origin.older b.happened c.from.run c.run in
     let stood = stood_both b.happened b.origin.older c.stood c.from.stood in
     let r : IsRun b.origin.first (all_of b) (world_on layout words b) = histories_are_runs b.origin.first (world_on layout words b) (all_of b) c.from.new run stood (record { sound = c.sound; tidy = tidy_on layout words b c.bare }) few in
-    let by : (e : Seated) (t : Told) → In past e → In e.deeds.told t → In (told_by e.process (all_of b)) t =
-    λ e t there inside. let w = (true_then e there).was in stretch_told e.process (all_of b) w.since w.stretch w.before t w.parts (subst (λ (ts : List Told). In ts t) w.told inside) in record {
+    let by : (e : Seated) (t : CallEvent) → In past e → In e.deeds.call_events t → In (answered_by e.process (all_of b)) t =
+    λ e t there inside. let w = (true_then e there).was in stretch_answered e.process (all_of b) w.since w.stretch w.before t w.parts (subst (λ (ts : List CallEvent). In ts t) w.call_events inside) in record {
       run = r;
-      told = λ e there. (true_then e there).was;
+      call_events = λ e there. (true_then e there).was;
       seen = λ e seen there is. is_seen b.origin.first (all_of b) (world_on layout words b) r seen ((true_then e there).saw seen is);
       answered = λ e t there inside. answered_so b.origin.first (all_of b) (world_on layout words b) r e.process t (by e t there inside);
     }
 
 -- what a seat was answered, of a table that others step on, too
-pub views_told : (layout : Layout) (start : Start) (s : State ℕ View) (h : Ruled layout start s) → begun_in (all_of h.behind) ≤ SETTLED_MOST → SeenRun layout start s h
-views_told layout start s h few =
-    let b = h.behind in
+pub views_answered : (layout : Layout) (start : Start) (s : State ℕ View) (h : Ruled layout start s) → begun_in (all_of h.witness) ≤ SETTLED_MOST → SeenRun layout start s h
+views_answered layout start s h few =
+    let b = h.witness in
     let run = run_both b.origin.first b.origin.opened (world_on layout s.words b) b.origin.older b.happened h.from.run h.run in
     let stood = stood_both b.happened b.origin.older h.stood h.from.stood in
     let r : IsRun b.origin.first (all_of b) (world_on layout s.words b) = histories_are_runs b.origin.first (world_on layout s.words b) (all_of b) h.from.new run stood (record { sound = h.sound; tidy = tidy_on layout s.words b h.bare }) few in record {
       run = r;
       seen = λ j v at e seen there is. is_seen b.origin.first (all_of b) (world_on layout s.words b) r seen ((h.knows j v at e there).stands.saw seen is).begins;
       answered = λ j v at e t there inside. answered_so b.origin.first (all_of b) (world_on layout s.words b) r e.process t
-          (stretch_told e.process (all_of b) [] b.happened b.origin.older t refl (subst (λ (ts : List Told). In ts t) (h.knows j v at e there).stands.deeds inside));
+          (stretch_answered e.process (all_of b) [] b.happened b.origin.older t refl (subst (λ (ts : List CallEvent). In ts t) (h.knows j v at e there).stands.deeds inside));
     }

@@ -8,16 +8,16 @@ use Rattle.ds_layout.specs.declared.layout.Layout.{Layout}
 use Rattle.ds_state.specs.World.{PlainWorld}
 use Rattle.ds_drives.specs.declared.board.HistoryEntry.{HistoryEntry}
 use Rattle.ds_drives.specs.declared.board.Seated.{Seated}
-use Rattle.ds_drives.specs.declared.board.Told.{Told}
+use Rattle.ds_drives.specs.declared.board.CallEvent.{CallEvent}
 use Rattle.ds_drives.specs.Views.{In}
-use Rattle.ds_drives.specs.History.{Happened, told_to}
-use Rattle.ds_drives.specs.Rule.{Behind, IsBeginning, Ruled, Start, WasTold, all_of, world_on}
+use Rattle.ds_drives.specs.History.{Happened, answered_to}
+use Rattle.ds_drives.specs.Rule.{Witness, IsBeginning, Ruled, Start, WasAnswered, all_of, world_on}
 use Rattle.ds_shared_runs.specs.Fitting.{Fits}
 use Rattle.ds_shared_runs.specs.Runs.{IsRun, events_of, replies_of}
-use Rattle.ds_shared_runs.specs.Told.{StandsAt}
+use Rattle.ds_shared_runs.specs.CallEvents.{StandsAt}
 
 -- what the process was answered stands at a place of the run, and fits it
-pub record WasRight (first : PlainWorld) (hs : List Happened) (last : PlainWorld) (r : IsRun first hs last) (p : ℕ) (t : Told) : Type 0 where
+pub record WasRight (first : PlainWorld) (hs : List Happened) (last : PlainWorld) (r : IsRun first hs last) (p : ℕ) (t : CallEvent) : Type 0 where
   pub place : ℕ
   pub stands : StandsAt r.old (events_of hs) (replies_of hs) r.new r.run p t place
   pub fits : Fits first hs last r p t place
@@ -26,7 +26,7 @@ pub record WasRight (first : PlainWorld) (hs : List Happened) (last : PlainWorld
 -- how many entries came before it; what was answered there fits the run
 pub record IsSeen (first : PlainWorld) (hs : List Happened) (last : PlainWorld) (r : IsRun first hs last) (seen : List HistoryEntry) : Type 0 where
   pub begins : IsBeginning hs seen
-  pub stands : (since until : List HistoryEntry) (e : HistoryEntry) (p : ℕ) (t : Told) → seen ≡ since ++ e ∷ until → In (told_to p e.event e.told) t
+  pub stands : (since until : List HistoryEntry) (e : HistoryEntry) (p : ℕ) (t : CallEvent) → seen ≡ since ++ e ∷ until → In (answered_to p e.event e.call_events) t
       → StandsAt r.old (events_of hs) (replies_of hs) r.new r.run p t (length until) × Fits first hs last r p t (length until)
 
 -- the entry stands in the history, with these before it, which are more than those others are: so its place is after
@@ -39,16 +39,16 @@ pub record IsBehind (seen : List HistoryEntry) (e : HistoryEntry) (before others
 -- a run of the core from a new sheet, which has the headline, ends in this world of a closed sheet, through all closes,
 -- crashes and openings before. What each of these processes had seen of the history is a beginning of it; what it was
 -- answered is just what it was answered by a stretch of the run, stands there at a place of its own, and fits the run
-pub record HasRun (layout : Layout) (words : List ℕ) (b : Behind) (past : List Seated) : Type 0 where
+pub record HasRun (layout : Layout) (words : List ℕ) (b : Witness) (past : List Seated) : Type 0 where
   pub run : IsRun b.origin.first (all_of b) (world_on layout words b)
-  pub told : (e : Seated) → In past e → WasTold (all_of b) e
+  pub call_events : (e : Seated) → In past e → WasAnswered (all_of b) e
   pub seen : (e : Seated) (seen : List HistoryEntry) → In past e → e.deeds.seen ≡ Some seen → IsSeen b.origin.first (all_of b) (world_on layout words b) run seen
-  pub answered : (e : Seated) (t : Told) → In past e → In e.deeds.told t → WasRight b.origin.first (all_of b) (world_on layout words b) run e.process t
+  pub answered : (e : Seated) (t : CallEvent) → In past e → In e.deeds.call_events t → WasRight b.origin.first (all_of b) (world_on layout words b) run e.process t
 
 -- it is so at each moment of a table, with what each seat was answered until then
 pub record SeenRun (layout : Layout) (start : Start) (s : State ℕ View) (h : Ruled layout start s) : Type 0 where
-  pub run : IsRun h.behind.origin.first (all_of h.behind) (world_on layout s.words h.behind)
-  pub answered : (j : ℕ) (v : View) → get_elem? s.views j ≡ some v → (e : Seated) (t : Told) → In v.entries e → In e.deeds.told t
-      → WasRight h.behind.origin.first (all_of h.behind) (world_on layout s.words h.behind) run e.process t
+  pub run : IsRun h.witness.origin.first (all_of h.witness) (world_on layout s.words h.witness)
+  pub answered : (j : ℕ) (v : View) → get_elem? s.views j ≡ some v → (e : Seated) (t : CallEvent) → In v.entries e → In e.deeds.call_events t
+      → WasRight h.witness.origin.first (all_of h.witness) (world_on layout s.words h.witness) run e.process t
   pub seen : (j : ℕ) (v : View) → get_elem? s.views j ≡ some v → (e : Seated) (seen : List HistoryEntry) → In v.entries e → e.deeds.seen ≡ Some seen
-      → IsSeen h.behind.origin.first (all_of h.behind) (world_on layout s.words h.behind) run seen
+      → IsSeen h.witness.origin.first (all_of h.witness) (world_on layout s.words h.witness) run seen

@@ -16,8 +16,8 @@ use Rattle.ds_core.specs.Headline.{IsAcknowledged, IsToldDone, IsCall, SettledFi
 use Rattle.ds_core.specs.LedgerSteps.{Closes, IsOvertakenBy, Resolves}
 use Rattle.ds_core.specs.Moments.{Ledger}
 use Rattle.ds_drives.specs.History.{Happened}
-use Rattle.ds_drives.specs.declared.board.Told.{Told}
-use Rattle.ds_drives.specs.declared.board.Told.TheVariants.{Began, Edited, Worked, Recovered, Reported}
+use Rattle.ds_drives.specs.declared.board.CallEvent.{CallEvent}
+use Rattle.ds_drives.specs.declared.board.CallEvent.TheVariants.{Began, Edited, Worked, Recovered, Reported}
 use Rattle.ds_shared_runs.specs.Runs.{IsRun, events_of, replies_of}
 
 module _ (first : PlainWorld) (hs : List Happened) (last : PlainWorld) (r : IsRun first hs last) where
@@ -46,10 +46,10 @@ module _ (first : PlainWorld) (hs : List Happened) (last : PlainWorld) (r : IsRu
   -- answered last; one that is reported as done stands in the run's last list exactly once, as it was asked for
   abbrev pub IfDone : ℕ → ℕ → RecoveryEnd → Type 0
   IfDone p k Nothing = Unit {0}
-  IfDone p k (Last told) = told.counts ≡ true → IsToldDone r.old (events_of hs) (replies_of hs) k p told r.new.counted
+  IfDone p k (Last resolved) = resolved.counts ≡ true → IsToldDone r.old (events_of hs) (replies_of hs) k p resolved r.new.counted
 
   -- what the process was answered at this place fits the run: a work's answer has its cause in its call
-  abbrev pub Fits : ℕ → Told → ℕ → Type 0
+  abbrev pub Fits : ℕ → CallEvent → ℕ → Type 0
   Fits p (Began event reply) k = Unit {0}
   Fits p (Edited e how) k = EditFits p k e how
   Fits p (Worked e end) k = HasCause r.headline.is.run.moment (events_of hs) (replies_of hs) k p end

@@ -1,4 +1,4 @@
-pub mod Told
+pub mod CallEvents
 pub mod Runs
 pub mod Fitting
 pub mod Closed

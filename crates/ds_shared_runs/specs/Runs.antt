@@ -8,10 +8,10 @@ use Rattle.ds_core.specs.Headline.{HasHeadline}
 use Rattle.ds_core.specs.declared.event.Event.{Event}
 use Rattle.ds_core.specs.declared.event.Event.TheVariants.{BeginShow}
 use Rattle.ds_core.specs.declared.reply.Reply.{Reply}
-use Rattle.ds_drives.specs.declared.board.Told.{Told}
+use Rattle.ds_drives.specs.declared.board.CallEvent.{CallEvent}
 use Rattle.ds_drives.specs.Views.{In}
-use Rattle.ds_drives.specs.History.{Happened, told_from}
-use Rattle.ds_shared_runs.specs.Told.{StandsAt}
+use Rattle.ds_drives.specs.History.{Happened, answered_from}
+use Rattle.ds_shared_runs.specs.CallEvents.{StandsAt}
 
 -- its events, the first one first
 abbrev pub events_of : List Happened → List Event
@@ -43,5 +43,5 @@ pub record IsRun (first : PlainWorld) (hs : List Happened) (last : PlainWorld) :
   pub run : WorldRun old (events_of hs) (replies_of hs) new
   pub first_is : world_of old ≡ first
   pub last_is : world_of new ≡ last
-  pub told : (since until : List Happened) (h : Happened) (p : ℕ) (t : Told) → hs ≡ since ++ h ∷ until → In (told_from p h.before h.event h.reply) t → StandsAt old (events_of hs) (replies_of hs) new run p t (length until)
+  pub call_events : (since until : List Happened) (h : Happened) (p : ℕ) (t : CallEvent) → hs ≡ since ++ h ∷ until → In (answered_from p h.before h.event h.reply) t → StandsAt old (events_of hs) (replies_of hs) new run p t (length until)
   pub headline : HasHeadline old (events_of hs) (replies_of hs) new run

@@ -5,15 +5,15 @@ ghost use Rattle.atomic_table.specs.Table.{State};
 ghost use Rattle.ds_drives.specs.declared.board.View.{View};
 ghost use Rattle.ds_layout.specs.declared.layout.Layout.{Layout};
 ghost use Rattle.ds_drives.specs.declared.board.Seated.{Seated};
-ghost use Rattle.ds_drives.specs.declared.board.Told.{Told};
+ghost use Rattle.ds_drives.specs.declared.board.CallEvent.{CallEvent};
 ghost use Rattle.ds_drives.specs.declared.board.HistoryEntry.{HistoryEntry};
 ghost use Rattle.ds_drives.specs.Views.{In};
-ghost use Rattle.ds_drives.specs.Rule.{Behind, IsBeginning, AtRest, AreTrue, Ruled, Start, all_of};
+ghost use Rattle.ds_drives.specs.Rule.{Witness, IsBeginning, AtRest, AreTrue, Ruled, Start, all_of};
 ghost use Rattle.ds_shared_runs.specs.Closed.{IsBehind, IsSeen, WasRight, HasRun, SeenRun};
 ghost use Rattle.ds_state.specs.World.{PlainWorld};
 ghost use Rattle.ds_state.specs.Fresh.{IsNew};
 ghost use Rattle.ds_state.specs.declared.reports.TheConstants.{SETTLED_MOST};
-ghost use Rattle.ds_drives.specs.History.{Extends, Happened, Run, Stood, IsStanding, told_by};
+ghost use Rattle.ds_drives.specs.History.{Extends, Happened, Run, Stood, IsStanding, answered_by};
 ghost use Rattle.ds_shared_runs.specs.Runs.{begun_in, IsRun};
 
 /// What has happened to a sheet, from its making on, is a run of the core from a new sheet, as long as its shows can
@@ -32,8 +32,8 @@ pub fn histories_are_runs()
 /// word of an unsettled one was there at such a moment; a work's answer has its cause in its call.
 #[tactic(auto, using(crate::proofs::Right::answered_so))]
 pub fn answers_are_right()
-    ensures { (first last : PlainWorld) (hs : List Happened) (r : IsRun first hs last) (p : ℕ) (t : Told)
-        → In (told_by p hs) t → WasRight first hs last r p t }
+    ensures { (first last : PlainWorld) (hs : List Happened) (r : IsRun first hs last) (p : ℕ) (t : CallEvent)
+        → In (answered_by p hs) t → WasRight first hs last r p t }
 {}
 
 /// Each history that a seat has seen is a beginning of the run, and stays so: what stands in it stands in the run at the
@@ -50,10 +50,10 @@ pub fn seen_histories_are_beginnings()
 /// linearizable: there is one run of the core, through all crashes, in which each call stands as a begin and an answer
 /// of its own, with the reply that its caller got, in the order in which callers were answered (Herlihy and Wing,
 /// "Linearizability", TOPLAS 1990; Izraelevitz, Mendes and Scott, DISC 2016).
-#[tactic(auto, using(crate::proofs::Orders::stands_behind))]
+#[tactic(auto, using(crate::proofs::Orders::stands_witness))]
 pub fn calls_stand_in_order()
-    ensures { (told seen late since until after before : List HistoryEntry) (answer begin : HistoryEntry)
-        → told ≡ since ++ answer ∷ until → Extends seen told → late ≡ after ++ begin ∷ before
+    ensures { (returned seen late since until after before : List HistoryEntry) (answer begin : HistoryEntry)
+        → returned ≡ since ++ answer ∷ until → Extends seen returned → late ≡ after ++ begin ∷ before
         → IsBehind (late ++ seen) begin (before ++ seen) until }
 {}
 
@@ -62,13 +62,13 @@ pub fn calls_stand_in_order()
 /// sheet it was of, is a beginning of it, and each thing that it was answered stands in it and fits it.
 #[tactic(auto, using(crate::proofs::Right::rests_with_run))]
 pub fn closed_sheets_have_runs()
-    ensures { (layout : Layout) (words : List ℕ) (b : Behind) (past : List Seated) → AtRest layout words b → AreTrue layout words b past
+    ensures { (layout : Layout) (words : List ℕ) (b : Witness) (past : List Seated) → AtRest layout words b → AreTrue layout words b past
         → begun_in (all_of b) ≤ SETTLED_MOST → HasRun layout words b past }
 {}
 
 /// A table that threads share has the headline at each moment, too, with what each seat was answered until then.
-#[tactic(auto, using(crate::proofs::Right::views_told))]
+#[tactic(auto, using(crate::proofs::Right::views_answered))]
 pub fn open_sheets_have_runs()
     ensures { (layout : Layout) (start : Start) (s : State ℕ View) (h : Ruled layout start s)
-        → begun_in (all_of h.behind) ≤ SETTLED_MOST → SeenRun layout start s h }
+        → begun_in (all_of h.witness) ≤ SETTLED_MOST → SeenRun layout start s h }
 {}

@@ -20,15 +20,15 @@ use Rattle.ds_recover.specs.RecoverySteps as recoveries
 use Rattle.ds_state.specs.declared.recovery.RecoveryEnd.{RecoveryEnd}
 use Rattle.ds_core.specs.declared.event.Event.TheVariants.{BeginEdit, BeginWork, BeginShow, BeginRecover}
 use Rattle.ds_core.specs.declared.reply.Reply.TheVariants.{Begun, Entered}
-use Rattle.ds_drives.specs.declared.board.Told.{Told}
-use Rattle.ds_drives.specs.declared.board.Told.TheVariants.{Began, Edited, Worked, Recovered, Reported}
+use Rattle.ds_drives.specs.declared.board.CallEvent.{CallEvent}
+use Rattle.ds_drives.specs.declared.board.CallEvent.TheVariants.{Began, Edited, Worked, Recovered, Reported}
 use Rattle.ds_drives.specs.Views.{In, second_rest}
 use Rattle.ds_drives.specs.EditRules.{IsFirst, edit_rules}
 use Rattle.ds_drives.specs.WorkRules.{work_rules}
 use Rattle.ds_drives.specs.RecoverRules.{recover_rules}
 use Rattle.ds_drives.specs.ShowRules.{show_rules}
 use Rattle.ds_shared.specs.Known.{outcomes, steps_of}
-use Rattle.ds_shared.specs.Answers.{HasFewSteps, IfAnswered, IfBegun, IfRefused, IfStopped, BreaksOff, IsWorkOf, ShowsValues, Tells, doing, number_behind}
+use Rattle.ds_shared.specs.Answers.{HasFewSteps, IfAnswered, IfBegun, IfRefused, IfStopped, BreaksOff, IsWorkOf, ShowsValues, Tells, doing, number_witness}
 use Rattle.ds_shared.specs.declared.ended.Ended.{Ended}
 use Rattle.ds_shared.specs.declared.pass.Pass.{Pass}
 use Rattle.ds_shared.specs.declared.sheet.SharedSheet.{SharedSheet}
@@ -41,7 +41,7 @@ pub record Goes {E : Type 0} (fuse : ℕ) (old new : Pass) (how : Ended E) : Typ
   pub few : taken ≤ fuse
   pub all : IfStopped how (taken ≡ fuse)
   pub process : new.process ≡ old.process
-  pub kept : (t : Told) → In (outcomes old.place) t → In (outcomes new.place) t
+  pub kept : (t : CallEvent) → In (outcomes old.place) t → In (outcomes new.place) t
 
 -- the next edit of the pass: of this cell, to this text
 abbrev pub edit_asked : SharedSheet → Pass → Cell → List ℕ → PlainEdit
@@ -71,7 +71,7 @@ pub record Works (s : SharedSheet) (cell : Cell) (fuse : ℕ) (old new : Pass) (
 pub record Recovers (s : SharedSheet) (fuse : ℕ) (old new : Pass) (how : Ended RecoveryEnd) : Type 0 where
   pub goes : Goes fuse old new how
   pub answered : IfAnswered how (λ end. (e : PlainRecoverCall) × (e.process ≡ old.process) × Tells old new (Began (BeginRecover old.process) Entered) (Recovered e end))
-  pub runs : IfAnswered how (λ end. (new.stopped ≡ false) × (new.number ≡ number_behind end))
+  pub runs : IfAnswered how (λ end. (new.stopped ≡ false) × (new.number ≡ number_witness end))
   pub stopped : IfStopped how ((e : PlainRecoverCall) × (e ≡ recoveries.fresh old.process (cells_of s.board.layout) s.board.layout.processes) × BreaksOff recover_rules s.board.layout e old new)
   pub refused : IfRefused how (λ r. ⊥)
   pub short : HasFewSteps old new (cells_of s.board.layout * (3 * cells_of s.board.layout + 30) + 23)

@@ -8,7 +8,7 @@ use Rattle.ds_state.specs.Shown.{last_text}
 use Rattle.ds_state.specs.Sound.{IsSound}
 use Rattle.ds_state.specs.World.{of_cell}
 use Rattle.ds_drives.specs.declared.board.Seated.{Seated}
-use Rattle.ds_drives.specs.Rule.{AreTrue, AtRest, Behind, HasSideLeft, world_on}
+use Rattle.ds_drives.specs.Rule.{AreTrue, AtRest, Witness, HasSideLeft, world_on}
 use Rattle.ds_drives.specs.Views.{In, past_of}
 use Rattle.ds_shared.specs.declared.sheet.ClosedSheet.{ClosedSheet}
 use Rattle.ds_shared_seats.specs.declared.fault.Fault.{Fault}
@@ -16,7 +16,7 @@ use Rattle.ds_shared_seats.specs.declared.fault.Fault.TheVariants.{NoCell, NoMem
 
 -- a sound world at rest has the words, and all that is remembered is true of it
 abbrev pub Rests : ClosedSheet → Type 0
-Rests c = (b : Behind) × AtRest c.layout (slots_items c.table.words) b × AreTrue c.layout (slots_items c.table.words) b (past_of c.before)
+Rests c = (b : Witness) × AtRest c.layout (slots_items c.table.words) b × AreTrue c.layout (slots_items c.table.words) b (past_of c.before)
 
 -- all that the one remembers the other remembers, of the same layout
 pub record Remembers (old new : ClosedSheet) : Type 0 where
@@ -41,7 +41,7 @@ CanNotCrash choice c why = ⊥
 
 -- the bytes are the text of the cell: that of the last of its edits that count, in every sound world with these words
 abbrev pub IsTextIn : ClosedSheet → Cell → List ℕ → Type 0
-IsTextIn c cell bytes = (b : Behind) → IsSound (world_on c.layout (slots_items c.table.words) b) → bytes ≡ last_text (of_cell (index_of c.layout.shape cell) b.counted)
+IsTextIn c cell bytes = (b : Witness) → IsSound (world_on c.layout (slots_items c.table.words) b) → bytes ≡ last_text (of_cell (index_of c.layout.shape cell) b.counted)
 
 -- the sheet has no such cell, or an allocation failed
 abbrev pub LacksText : ClosedSheet → Cell → Fault → Type 0

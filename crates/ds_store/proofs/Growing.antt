@@ -4,7 +4,7 @@ use Rattle.std.proofs.lemmas.List.{map-append}
 use Rattle.std.proofs.lemmas.Bool.{cases_lt}
 use Rattle.ds_state.specs.Value.{WorldValue}
 use Rattle.ds_store_journal.specs.Journals.{Keeps}
-use Rattle.ds_store.specs.declared.edit.ToldEdit.{ToldEdit}
+use Rattle.ds_store.specs.declared.edit.AnsweredEdit.{AnsweredEdit}
 use Rattle.ds_store.specs.Stores.{KeepAll, asked_by}
 
 -- what holds below a number, and of it, holds below the next
@@ -15,7 +15,7 @@ extends P n all last k low = elim (cases_lt k n) [
 ]
 
 -- lines that keep edits, with one more
-pub keeps_one : {A : Type 0} (f : A → List ℕ) (old mid new : WorldValue) (edits more : List ToldEdit) (edit : ToldEdit) (texts grown : List A) (text : A)
+pub keeps_one : {A : Type 0} (f : A → List ℕ) (old mid new : WorldValue) (edits more : List AnsweredEdit) (edit : AnsweredEdit) (texts grown : List A) (text : A)
     → KeepAll old edits (map f texts) mid → Keeps mid (asked_by edit) edit.number (f text) new → more ≡ edits ++ edit ∷ [] → grown ≡ texts ++ text ∷ []
     → KeepAll old more (map f grown) new
 keeps_one f old mid new edits more edit texts grown text so one is are =

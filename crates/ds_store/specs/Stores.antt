@@ -11,17 +11,17 @@ use Rattle.ds_core.specs.declared.reply.Reply.{Reply}
 use Rattle.ds_store_journal.specs.Journals.{Follows, Keeps}
 use Rattle.ds_store_table.specs.Tables.{MayHold}
 use Rattle.sqlite.specs.Tree.{Trees}
-use Rattle.ds_store.specs.declared.edit.ToldEdit.{ToldEdit}
+use Rattle.ds_store.specs.declared.edit.AnsweredEdit.{AnsweredEdit}
 
 -- what the edit asked for
-abbrev pub asked_by : ToldEdit → PlainRequest
+abbrev pub asked_by : AnsweredEdit → PlainRequest
 asked_by edit = record { process = edit.process; cell = edit.cell; text = edit.text.items }
 
 -- the lines keep these edits, each its own, and lead from the one world to the other: each edit, made as a whole after
 -- those before it, is answered Done with the number that was answered
-pub data KeepAll : WorldValue → List ToldEdit → List (List ℕ) → WorldValue → Type 0 where
+pub data KeepAll : WorldValue → List AnsweredEdit → List (List ℕ) → WorldValue → Type 0 where
   none : (world : WorldValue) → KeepAll world [] [] world
-  one : (old mid new : WorldValue) (edits : List ToldEdit) (lines : List (List ℕ)) (edit : ToldEdit) (line : List ℕ)
+  one : (old mid new : WorldValue) (edits : List AnsweredEdit) (lines : List (List ℕ)) (edit : AnsweredEdit) (line : List ℕ)
       → KeepAll old edits lines mid → Keeps mid (asked_by edit) edit.number line new → KeepAll old (edits ++ edit ∷ []) (lines ++ line ∷ []) new
 
 -- the sheet is what a crash makes of one that the lines lead to
@@ -32,7 +32,7 @@ pub record IsRestarted (lines : List (List ℕ)) (sheet : WorldValue) : Type 0 w
   pub crashed : Fits world Crash reply sheet
 
 -- the trees of a database that has these lines, and after them some that keep these edits
-pub record MayKeep (world : WorldValue) (edits : List ToldEdit) (before : List (List ℕ)) (trees : Trees) : Type 0 where
+pub record MayKeep (world : WorldValue) (edits : List AnsweredEdit) (before : List (List ℕ)) (trees : Trees) : Type 0 where
   pub lines : List (List ℕ)
   pub new : WorldValue
   pub keep : KeepAll world edits lines new

@@ -14,7 +14,7 @@ use std::str;
 
 /// An edit that was answered Done, and that is to be kept.
 #[derive(Debug, Drop)]
-pub struct ToldEdit {
+pub struct AnsweredEdit {
     /// The process of the edit, below those of the sheet.
     pub process: usize,
     /// The number of the edit among those of the process, 0 to 255.
@@ -39,16 +39,16 @@ pub(crate) fn text_of(alloc: Global, line: &[u8]) -> Result<String, JournalFault
 }
 
 // The line that keeps an edit in the journal of this world, which follows it.
-fn kept(alloc: Global, world: &mut World, edit: &ToldEdit) -> Result<String, JournalFault>
+fn kept(alloc: Global, world: &mut World, edit: &AnsweredEdit) -> Result<String, JournalFault>
     ensures { IfOk result (λ text. Keeps world.old (asked_by edit.now) edit.now.number (string_bytes text) world.new) }
 {
-    let told = KeptEdit {
+    let kept = KeptEdit {
         process: edit.process,
         number: edit.number,
         cell: edit.cell,
         text: edit.text.as_slice(),
     };
-    let line = keep(alloc, world, told)?;
+    let line = keep(alloc, world, kept)?;
     text_of(alloc, &line)
 }
 
@@ -57,7 +57,7 @@ fn kept(alloc: Global, world: &mut World, edit: &ToldEdit) -> Result<String, Jou
 pub(crate) fn kept_all(
     alloc: Global,
     world: &mut World,
-    edits: &[ToldEdit],
+    edits: &[AnsweredEdit],
 ) -> Result<Vec<String>, JournalFault>
     ensures { IfOk result (λ texts. KeepAll world.old edits.now (map string_bytes texts.items) world.new) }
 {

@@ -8,7 +8,7 @@ ghost use Rattle.ds_store_journal.specs.Journals.{Follows, Opens};
 ghost use Rattle.ds_store_table.specs.Tables.{Holds, IsBare};
 ghost use Rattle.ds_store.specs.Stores.{IsAsked, IsRestarted, KeepAll, MayKeep};
 
-use crate::edit::{ToldEdit, kept_all, text_of};
+use crate::edit::{AnsweredEdit, kept_all, text_of};
 use crate::fault::StoreFault;
 use ds_core::event::Event;
 use ds_core::take::take;
@@ -160,7 +160,7 @@ impl<S: Alter + Drop> Store<S> {
 
     /// Keeps edits, in their order: their lines are committed together, all or none, when it returns. Each was seen to
     /// be followed, and to be answered Done with the number that was answered.
-    pub fn keep_all(&mut self, alloc: Global, edits: &[ToldEdit]) -> Result<(), StoreFault>
+    pub fn keep_all(&mut self, alloc: Global, edits: &[AnsweredEdit]) -> Result<(), StoreFault>
         ensures kept { OnOk result ((lines : List (List ℕ)) × KeepAll self.old.world edits.now lines self.new.world
             × (HasCleanDisk (state S.Store self.new.conn) → (before : List (List ℕ)) → Holds before (state S.Store self.old.conn).now
             → Holds (before ++ lines) (state S.Store self.new.conn).now × Holds (before ++ lines) (state S.Store self.new.conn).committed)) }

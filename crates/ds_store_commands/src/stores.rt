@@ -20,13 +20,13 @@ pub type Disk = FileStore<FileFrom<Wary>>;
 
 /// Reports on standard error what is wrong with the store at this path, and gives its status.
 pub fn tell_fault(rt: &impl Eprint, path: &str, fault: &StoreFault) -> u8 {
-    let _told = eprintln!(rt; "dsheet: {path}: {fault}");
+    let _reported = eprintln!(rt; "dsheet: {path}: {fault}");
     store_status(fault)
 }
 
 // Reports on standard error what is wrong with the file at this path, and gives the status.
 fn tell_error(rt: &impl Eprint, path: &str, error: &io::Error) -> u8 {
-    let _told = eprintln!(rt; "dsheet: {path}: {error}");
+    let _reported = eprintln!(rt; "dsheet: {path}: {error}");
     STREAM_FAILED
 }
 
@@ -60,7 +60,7 @@ fn open_new<R: AllocGlobal + Eprint + Databases>(
     if is_bare(&conn) {
         Ok(conn)
     } else {
-        let _told = eprintln!(rt; "dsheet: {path}: it has a store, or something else, already");
+        let _reported = eprintln!(rt; "dsheet: {path}: it has a store, or something else, already");
         Err(BAD_STORE)
     }
 }
@@ -187,7 +187,7 @@ fn read_lines<R: AllocGlobal + Input + Eprint>(rt: &R) -> Result<Vec<String>, u8
         (InputEnd::TooLong, _) => "over 1048576 bytes",
         (InputEnd::Failed, _) => "a read failed",
     };
-    let _told = eprintln!(rt; "dsheet: standard input: {what}");
+    let _reported = eprintln!(rt; "dsheet: standard input: {what}");
     Err(STREAM_FAILED)
 }
 

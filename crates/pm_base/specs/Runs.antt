@@ -4,7 +4,7 @@ use Rattle.ds_words.specs.declared.access.Access.{Access}
 use Rattle.ds_words.specs.Memory.{Performs, EvictsAt, StopsAt, Crashes}
 use Rattle.pm_base.specs.Structures.{In, World, Structure, IsFirst, first_world, after_begin, after_step, after_evict, after_stop, after_crash}
 use Rattle.pm_base.specs.declared.history.Deed.{Deed}
-use Rattle.pm_base.specs.declared.history.Deed.TheVariants.{Began, Told}
+use Rattle.pm_base.specs.declared.history.Deed.TheVariants.{Began, Response}
 use Rattle.pm_base.specs.declared.history.Entry.{Entry}
 use Rattle.pm_base.specs.declared.history.Event.{Event}
 use Rattle.pm_base.specs.declared.history.Event.TheVariants.{Begin, Step, Evict, Stop, Crash}
@@ -12,7 +12,7 @@ use Rattle.pm_base.specs.declared.history.Event.TheVariants.{Begin, Step, Evict,
 -- what an event with what it answered says of what the process did
 abbrev pub deeds_of : {S T : Type 0} → ℕ → Event S → List T → List (Deed S T)
 deeds_of p (Begin q call) says = if q == p then Began call ∷ [] else []
-deeds_of p (Step q) says = if q == p then map Told says else []
+deeds_of p (Step q) says = if q == p then map Response says else []
 deeds_of p (Evict n) says = []
 deeds_of p (Stop q) says = []
 deeds_of p Crash says = []
@@ -20,7 +20,7 @@ deeds_of p Crash says = []
 -- what the process did in a history, the last thing first: each call that it began, and each thing that it was answered
 abbrev pub deeds_by : {S T : Type 0} → ℕ → List (Entry S T) → List (Deed S T)
 deeds_by p [] = []
-deeds_by p (e ∷ es) = deeds_of p e.event e.told ++ deeds_by p es
+deeds_by p (e ∷ es) = deeds_of p e.event e.responses ++ deeds_by p es
 
 module _ {K S T : Type 0} (s : Structure K S T) (key : K) where
   -- an event, with the world that it came upon and what it answered
@@ -49,7 +49,7 @@ module _ {K S T : Type 0} (s : Structure K S T) (key : K) where
   -- a run from the first world to the last, the last event first
   abbrev pub Run : World S s.Hidden → List Happened → World S s.Hidden → Type 0
   Run first [] last = last ≡ first
-  Run first (h ∷ hs) last = Moves h.before h.entry.event h.entry.told last × Run first hs h.before
+  Run first (h ∷ hs) last = Moves h.before h.entry.event h.entry.responses last × Run first hs h.before
 
   -- the world is that of a new structure
   pub record IsNew (w : World S s.Hidden) : Type 0 where
@@ -65,7 +65,7 @@ module _ {K S T : Type 0} (s : Structure K S T) (key : K) where
   -- then on
   pub record RunHolds (hs : List Happened) (last : World S s.Hidden) : Type 0 where
     pub sound : s.sound key last
-    pub told : (p : ℕ) (t : T) → In (deeds_by p (history_of hs)) (Told t) → s.told key last p t
+    pub responses : (p : ℕ) (t : T) → In (deeds_by p (history_of hs)) (Response t) → s.is_right key last p t
 
   -- so it is with every run from a new structure
   abbrev pub RunsHold : Type 0

@@ -44,7 +44,7 @@ pub record Structure (K S T : Type 0) : Type 1 where
   pub first_hidden : K → Hidden
   pub hidden_after : K → World S Hidden → Event S → Memory ℕ → Hidden
   pub sound : K → World S Hidden → Type 0
-  pub told : K → World S Hidden → ℕ → T → Type 0
+  pub is_right : K → World S Hidden → ℕ → T → Type 0
 
 -- calls of one kind, C, which end in E: the process of a call; whether the process may begin it where it does this; what
 -- the process does in the call, and after it where the call is over; what it is answered at its last step; the access of the
@@ -138,7 +138,7 @@ module _ {K S T : Type 0} (s : Structure K S T) (key : K) where
 
   -- what was answered in the one world is true in the other
   abbrev pub Keeps : Plain → Plain → Type 0
-  Keeps w w' = (q : ℕ) (t : T) → s.told key w q t → s.told key w' q t
+  Keeps w w' = (q : ℕ) (t : T) → s.is_right key w q t → s.is_right key w' q t
 
   -- the other world is sound, and what was answered is true there
   pub record Goes (w w' : Plain) : Type 0 where
@@ -149,7 +149,7 @@ module _ {K S T : Type 0} (s : Structure K S T) (key : K) where
   pub record GoesTelling (w w' : Plain) (p : ℕ) (says : List T) : Type 0 where
     pub sound : s.sound key w'
     pub keeps : Keeps w w'
-    pub tells : (t : T) → In says t → s.told key w' p t
+    pub tells : (t : T) → In says t → s.is_right key w' p t
 
   -- what a structure owes: a new one is sound; each event leads from a sound world to a sound world, what was answered stays
   -- true, and what is answered is true

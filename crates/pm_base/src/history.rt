@@ -26,7 +26,7 @@ pub enum Deed<D, T> {
     /// It began a call.
     Began(D),
     /// It was answered this by a step.
-    Told(T),
+    Response(T),
 }
 
 /// An entry of a history. No value of it is made: clauses alone speak of it.
@@ -34,5 +34,5 @@ pub struct Entry<D, T> {
     /// What happened.
     pub event: Event<D>,
     /// What the process was answered by it.
-    pub told: LinkedList<T>,
+    pub responses: LinkedList<T>,
 }

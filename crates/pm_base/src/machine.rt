@@ -13,9 +13,9 @@ pub trait Structured {
     /// What a process does.
     type Doing;
     /// What a process is answered.
-    type Told;
+    type Response;
 
-    ghost structure: { Structure Self.Key Self.Doing Self.Told };
+    ghost structure: { Structure Self.Key Self.Doing Self.Response };
 
     /// How many words it has.
     fn words(key: &Self::Key) -> usize
@@ -43,7 +43,7 @@ pub trait Machine<P: Structured> {
     /// How calls of this kind end.
     type End;
 
-    ghost calls: { Calls P.Key P.Doing P.Told Self Self.End };
+    ghost calls: { Calls P.Key P.Doing P.Response Self Self.End };
 
     /// How it has ended, or None where a step is left.
     fn turn(&self, key: &P::Key) -> Option<Self::End>

@@ -14,7 +14,7 @@ use Rattle.pm_board.specs.declared.board.Seated.{Seated}
 use Rattle.pm_board.specs.declared.board.View.{View}
 use Rattle.pm_board.specs.Table.{two_sided}
 use Rattle.pm_board.specs.Views.{lone, newcomer, newcomers_from, first_now, first_seen, first_view, whole_view, RunsFrom, seen_so_far, headed, tailed, united, nobody, bygone, HasRest}
-use Rattle.pm_board.specs.Rule.{Behind, Start, IsOrigin, all_of, HasSeen, IsPast, world_on, Fits, AreTrue, AreFirst, Ruled, Closes}
+use Rattle.pm_board.specs.Rule.{Witness, Start, IsOrigin, all_of, HasSeen, IsPast, world_on, Fits, AreTrue, AreFirst, Ruled, Closes}
 use Rattle.pm_board.proofs.Histories.{run_all, seen_all}
 use Rattle.pm_board.proofs.Resting.{rests}
 use Rattle.pm_board.proofs.Seating.{newcomers_have, seated_join, seated_more, seated_set, seated_split}
@@ -39,7 +39,7 @@ was : {A : Type 0} (l : List A) (i j : ℕ) (a b : A) → ¬ (j ≡ i) → get_e
 was l i j a b n e = ⊎_elim (λ t. absurd (n t.0)) (λ t. t.1) (at_set l i j a b e)
 
 module _ {K S T : Type 0} (s : Structure K S T) (key : K) where
-  owned : (b : Behind s key) (f g : ℕ → ℕ) (i j : ℕ) (e : Seated S T) → Fits s key b f i e → g e.process ≡ j → Fits s key b g j e
+  owned : (b : Witness s key) (f g : ℕ → ℕ) (i j : ℕ) (e : Seated S T) → Fits s key b f i e → g e.process ≡ j → Fits s key b g j e
   owned b f g i j e h mine = record { low = h.low; mine = mine; stands = h.stands }
 
   -- the first process, which no other of the view is, gets a seat of its own
@@ -49,7 +49,7 @@ module _ {K S T : Type 0} (s : Structure K S T) (key : K) where
       let rest : View S T = record { entries = es; past = past } in
       let last : ℕ = length (set t.views id rest) in
       let mine = h.knows id v at e (inl refl) in record {
-        behind = h.behind;
+        witness = h.witness;
         owner = put h.owner e.process last;
         long = h.long;
         run = h.run;
@@ -62,14 +62,14 @@ module _ {K S T : Type 0} (s : Structure K S T) (key : K) where
             (λ (a : (j ≡ id) × (rest ≡ u)).
             let here : In es x = subst (λ (z : (View S T)). In z.entries x) (sym a.1) inside in
             let f = h.knows id v at x (inr here) in
-            owned h.behind h.owner (put h.owner e.process last) id j x f (put_else h.owner e.process last x.process (apart x here) ∙ (f.mine ∙ sym a.0)))
+            owned h.witness h.owner (put h.owner e.process last) id j x f (put_else h.owner e.process last x.process (apart x here) ∙ (f.mine ∙ sym a.0)))
             (λ (b : (j ≢ id) × (get_elem? t.views j ≡ some u)).
             let f = h.knows j u b.1 x inside in
-            owned h.behind h.owner (put h.owner e.process last) j j x f (put_else h.owner e.process last x.process (λ same. b.0 (sym f.mine ∙ (ap h.owner same ∙ mine.mine))) ∙ f.mine))
+            owned h.witness h.owner (put h.owner e.process last) j j x f (put_else h.owner e.process last x.process (λ same. b.0 (sym f.mine ∙ (ap h.owner same ∙ mine.mine))) ∙ f.mine))
             (at_set t.views id j rest u k.1))
             (λ (k : (j ≡ last) × (lone e ≡ u)). ⊎_elim
-            (λ (same : e ≡ x). subst (λ (z : ℕ × (Seated S T)). Fits s key h.behind (put h.owner e.process last) z.0 z.1) (λ i. (sym k.0 i, same i))
-            (owned h.behind h.owner (put h.owner e.process last) id last e mine (put_here h.owner e.process last e.process refl)))
+            (λ (same : e ≡ x). subst (λ (z : ℕ × (Seated S T)). Fits s key h.witness (put h.owner e.process last) z.0 z.1) (λ i. (sym k.0 i, same i))
+            (owned h.witness h.owner (put h.owner e.process last) id last e mine (put_here h.owner e.process last e.process refl)))
             (λ none. absurd none)
             (subst (λ (z : (View S T)). In z.entries x) (sym k.1) inside))
             (snoc_at (set t.views id rest) (lone e) u j there);
@@ -83,11 +83,11 @@ module _ {K S T : Type 0} (s : Structure K S T) (key : K) where
       }
 
   -- what a view knows is true
-  pub known_true : (start : Start) (t : State ℕ (View S T)) (h : Ruled s key {X = ℕ} start t) (j : ℕ) (v : (View S T)) → get_elem? t.views j ≡ some v → (x : (Seated S T)) → In (v.past ++ v.entries) x → IsPast s key h.behind x
+  pub known_true : (start : Start) (t : State ℕ (View S T)) (h : Ruled s key {X = ℕ} start t) (j : ℕ) (v : (View S T)) → get_elem? t.views j ≡ some v → (x : (Seated S T)) → In (v.past ++ v.entries) x → IsPast s key h.witness x
   known_true start t h j v at x inside = ⊎_elim
       (λ (a : In v.past x). h.past j v at x a)
       (λ (b : In v.entries x). let k = (h.knows j v at x b).stands in record {
-        was = record { since = []; stretch = h.behind.happened; before = h.behind.origin.older; parts = refl; done = k.done };
+        was = record { since = []; stretch = h.witness.happened; before = h.witness.origin.older; parts = refl; done = k.done };
         saw = λ seen is. (k.saw seen is).begins;
       })
       (in_append v.past v.entries x inside)
@@ -96,7 +96,7 @@ module _ {K S T : Type 0} (s : Structure K S T) (key : K) where
   pub remembers : (start : Start) (id : ℕ) (v : (View S T)) → Splits (Ruled s key {X = ℕ} start) id v v (bygone v)
   remembers start id v t h at =
       let last : ℕ = length (set t.views id v) in record {
-        behind = h.behind;
+        witness = h.witness;
         owner = h.owner;
         long = h.long;
         run = h.run;
@@ -106,7 +106,7 @@ module _ {K S T : Type 0} (s : Structure K S T) (key : K) where
         all = λ p low. seated_more s key (set t.views id v) (bygone v) p (seated_set s key t.views id v at p v (λ k. k) (h.all p low));
         knows = λ j u there x inside. ⊎_elim
             (λ (k : (j < last) × (get_elem? (set t.views id v) j ≡ some u)). ⊎_elim
-            (λ (a : (j ≡ id) × (v ≡ u)). subst (λ (n : ℕ). Fits s key h.behind h.owner n x) (sym a.0) (h.knows id v at x (subst (λ (z : (View S T)). In z.entries x) (sym a.1) inside)))
+            (λ (a : (j ≡ id) × (v ≡ u)). subst (λ (n : ℕ). Fits s key h.witness h.owner n x) (sym a.0) (h.knows id v at x (subst (λ (z : (View S T)). In z.entries x) (sym a.1) inside)))
             (λ (b : (j ≢ id) × (get_elem? t.views j ≡ some u)). h.knows j u b.1 x inside)
             (at_set t.views id j v u k.1))
             (λ (k : (j ≡ last) × (bygone v ≡ u)). absurd (subst (λ (z : (View S T)). In z.entries x) (sym k.1) inside))
@@ -122,7 +122,7 @@ module _ {K S T : Type 0} (s : Structure K S T) (key : K) where
 
   pub joins : (start : Start) (id other : ℕ) (v w : (View S T)) → Joins (Ruled s key {X = ℕ} start) id v other w (united v w) nobody
   joins start id other v w t h at apart there = record {
-    behind = h.behind;
+    witness = h.witness;
     owner = swapped h.owner other id;
     long = h.long;
     run = h.run;
@@ -135,12 +135,12 @@ module _ {K S T : Type 0} (s : Structure K S T) (key : K) where
         (λ (k : (j ≢ other) × (get_elem? (set t.views id (united v w)) j ≡ some u)). ⊎_elim
         (λ (a : (j ≡ id) × (united v w ≡ u)). ⊎_elim
         (λ (in_v : In v.entries x). let f = h.knows id v at x in_v in
-        owned h.behind h.owner (swapped h.owner other id) id j x f (swapped_else h.owner other id x.process (λ e. apart (sym e ∙ f.mine)) ∙ (f.mine ∙ sym a.0)))
+        owned h.witness h.owner (swapped h.owner other id) id j x f (swapped_else h.owner other id x.process (λ e. apart (sym e ∙ f.mine)) ∙ (f.mine ∙ sym a.0)))
         (λ (in_w : In w.entries x). let f = h.knows other w (was t.views id other (united v w) w apart there) x in_w in
-        owned h.behind h.owner (swapped h.owner other id) other j x f (swapped_here h.owner other id x.process f.mine ∙ sym a.0))
+        owned h.witness h.owner (swapped h.owner other id) other j x f (swapped_here h.owner other id x.process f.mine ∙ sym a.0))
         (in_append v.entries w.entries x (subst (λ (z : (View S T)). In z.entries x) (sym a.1) inside)))
         (λ (b : (j ≢ id) × (get_elem? t.views j ≡ some u)). let f = h.knows j u b.1 x inside in
-        owned h.behind h.owner (swapped h.owner other id) j j x f (swapped_else h.owner other id x.process (λ e. k.0 (sym f.mine ∙ e)) ∙ f.mine))
+        owned h.witness h.owner (swapped h.owner other id) j j x f (swapped_else h.owner other id x.process (λ e. k.0 (sym f.mine ∙ e)) ∙ f.mine))
         (at_set t.views id j (united v w) u k.1))
         (at_set (set t.views id (united v w)) other j nobody u now);
     past = λ j u now x inside. ⊎_elim
@@ -182,11 +182,11 @@ module _ {K S T : Type 0} (s : Structure K S T) (key : K) where
 
   -- a table opens with a world to which a run leads, in which each process does the same and has flushed nothing, and what
   -- is remembered is what happened
-  pub opens : (words : List ℕ) (b : Behind s key) (stopped : Bool) (past : List (Seated S T)) → Run s key b.origin.opened b.happened (world_on s key words b) → IsOrigin s key b.origin → (stopped ≡ false → all_of s key b ≡ []) → length words ≡ 8 * s.words key
+  pub opens : (words : List ℕ) (b : Witness s key) (stopped : Bool) (past : List (Seated S T)) → Run s key b.origin.opened b.happened (world_on s key words b) → IsOrigin s key b.origin → (stopped ≡ false → all_of s key b ≡ []) → length words ≡ 8 * s.words key
       → ((p : ℕ) → p < s.processes key → b.situation p ≡ first_now s stopped) → ((p : ℕ) → p < s.processes key → b.buffer p ≡ []) → AreTrue s key b past
       → Ruled s key {X = ℕ} (record { stopped = stopped; words = words }) (opening words [] (first_view s key stopped past))
   opens words b stopped past run from made long now buffer true_then = record {
-    behind = afresh;
+    witness = afresh;
     owner = λ q. 0;
     long = long;
     run = refl;
@@ -198,7 +198,7 @@ module _ {K S T : Type 0} (s : Structure K S T) (key : K) where
     past = one_past;
   }
     where
-      afresh : Behind s key
+      afresh : Witness s key
       afresh = record { situation = b.situation; buffer = b.buffer; hidden = b.hidden; origin = record { first = b.origin.first; older = all_of s key b; opened = world_on s key words b }; happened = [] }
 
       one_seat : (j : ℕ) (v : View S T) → get_elem? (first_view s key stopped past ∷ []) j ≡ some v → (x : Seated S T) → In v.entries x → Fits s key afresh (λ q. 0) j x
@@ -225,14 +225,14 @@ module _ {K S T : Type 0} (s : Structure K S T) (key : K) where
   first_on : List ℕ → World S s.Hidden
   first_on words = first_world s key (two_sided words (λ p. []))
 
-  blank : List ℕ → Behind s key
+  blank : List ℕ → Witness s key
   blank words = record { situation = λ p. s.first; buffer = λ p. []; hidden = s.first_hidden key; origin = record { first = first_on words; older = []; opened = first_on words }; happened = [] }
 
   -- a table of a new structure's words opens
   pub opens_new : (words : List ℕ) → AreFirst s key (s.words key) words → Ruled s key {X = ℕ} (record { stopped = false; words = words }) (opening words [] (first_view s key false []))
   unfolding blank first_on
   opens_new words first =
-      let b : Behind s key = blank words in
+      let b : Witness s key = blank words in
       let memory : IsFirst s key (two_sided words (λ p. [])) = record { cached = first.cached; persisted = first.persisted; buffer = λ q. refl } in
       opens words b false [] refl (record { new = record { memory = memory; is = refl }; run = refl }) (λ new_one. refl) first.long (λ p low. refl) (λ p low. refl) (λ x none. absurd none)
 
@@ -259,18 +259,18 @@ module _ {K S T : Type 0} (s : Structure K S T) (key : K) where
   pub ended : (start : Start) (id : ℕ) (v : View S T) (ws xs : List ℕ) → Final (Seen (Ruled s key {X = ℕ} start) id v) ws xs → Closes s key start ws v.entries (v.past ++ v.entries)
   ended start id v ws xs f =
       let h = f.1.0 in
-      let ran : Run s key h.behind.origin.opened h.behind.happened (world_on s key ws h.behind) = subst (λ (l : List ℕ). Run s key h.behind.origin.opened h.behind.happened (world_on s key l h.behind)) f.2 h.run in
-      let r = rests s key ws h.behind ran h.from in record {
-        last = h.behind;
+      let ran : Run s key h.witness.origin.opened h.witness.happened (world_on s key ws h.witness) = subst (λ (l : List ℕ). Run s key h.witness.origin.opened h.witness.happened (world_on s key l h.witness)) f.2 h.run in
+      let r = rests s key ws h.witness ran h.from in record {
+        last = h.witness;
         run = ran;
         from = h.from;
         opens = h.opens;
         made = h.made;
         stands = λ e t. (h.knows id v f.1.1 e t).stands;
-        behind = r.behind;
+        witness = r.witness;
         stops = r.by;
         rests = r.rests;
-        told = λ e t. r.told e (known_true s key start f.0 h id v f.1.1 e t);
+        responses = λ e t. r.responses e (known_true s key start f.0 h id v f.1.1 e t);
       }
 
   -- a seat of all processes runs those from the first one on

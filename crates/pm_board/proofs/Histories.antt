@@ -15,7 +15,7 @@ use Rattle.pm_board.specs.Views.{seen_so_far}
 
 pub deeds_both : {S T : Type 0} (p : ℕ) (ys xs : List (Entry S T)) → deeds_by p (ys ++ xs) ≡ deeds_by p ys ++ deeds_by p xs
 deeds_both p [] xs = refl
-deeds_both {S} {T} p (y ∷ ys) xs = ap (λ (z : List (Deed S T)). deeds_of p y.event y.told ++ z) (deeds_both p ys xs) ∙ sym (append_assoc (deeds_of p y.event y.told) (deeds_by p ys) (deeds_by p xs))
+deeds_both {S} {T} p (y ∷ ys) xs = ap (λ (z : List (Deed S T)). deeds_of p y.event y.responses ++ z) (deeds_both p ys xs) ∙ sym (append_assoc (deeds_of p y.event y.responses) (deeds_by p ys) (deeds_by p xs))
 
 -- a deed is its own process's alone
 pub deed_own : {A : Type 0} (p : ℕ) (ts : List A) → (if p == p then ts else []) ≡ ts

@@ -12,7 +12,7 @@ use Rattle.pm_base.specs.declared.history.Entry.{Entry}
 use Rattle.pm_board.specs.declared.board.Seated.{Seated}
 use Rattle.pm_board.specs.declared.board.View.{View}
 use Rattle.pm_board.specs.Looks.{Extends, looking, looked, Looks}
-use Rattle.pm_board.specs.Rule.{Behind, Start, all_of, IsBeginning, HasSeen, Fits, Ruled}
+use Rattle.pm_board.specs.Rule.{Witness, Start, all_of, IsBeginning, HasSeen, Fits, Ruled}
 use Rattle.pm_board.specs.Views.{newcomer, newcomers_from, seen_so_far}
 use Rattle.pm_board.proofs.Seating.{looked_has, seated_set}
 use Rattle.pm_board.proofs.Histories.{history_both, seen_all}
@@ -38,7 +38,7 @@ module _ {K S T : Type 0} (s : Structure K S T) (key : K) where
   abbrev pub extends : (all : List (Happened s key)) (xs : List (Entry S T)) → IsBeginning s key all xs → Extends (history_of s key all) xs
   extends all xs h = (history_of s key h.since, ap (history_of s key) h.parts ∙ (history_both s key h.since h.until ∙ ap (λ (z : List (Entry S T)). history_of s key h.since ++ z) (sym h.is)))
 
-  sees_all : (b : Behind s key) (f : ℕ → ℕ) (i : ℕ) (e : Seated S T) → Fits s key b f i e → Fits s key b f i (looking (history_of s key (all_of s key b)) e)
+  sees_all : (b : Witness s key) (f : ℕ → ℕ) (i : ℕ) (e : Seated S T) → Fits s key b f i e → Fits s key b f i (looking (history_of s key (all_of s key b)) e)
   sees_all b f i e h = record {
     low = h.low;
     mine = h.mine;
@@ -52,11 +52,11 @@ module _ {K S T : Type 0} (s : Structure K S T) (key : K) where
 
   module _ (start : Start) where
     still_ruled : (t : State ℕ (View S T)) (h : Ruled s key {X = ℕ} start t) (id : ℕ) (v : View S T) (kept : List (Seated S T)) → ((e : Seated S T) → In kept e → In v.past e) → get_elem? t.views id ≡ some v
-        → Ruled s key {X = ℕ} start (record { words = t.words; homes = t.homes; views = set t.views id (record { entries = looked (history_of s key (all_of s key h.behind)) v.entries; past = kept }) })
+        → Ruled s key {X = ℕ} start (record { words = t.words; homes = t.homes; views = set t.views id (record { entries = looked (history_of s key (all_of s key h.witness)) v.entries; past = kept }) })
     still_ruled t h id v kept fewer at =
-        let seen : List (Entry S T) = history_of s key (all_of s key h.behind) in
+        let seen : List (Entry S T) = history_of s key (all_of s key h.witness) in
         let new : View S T = record { entries = looked seen v.entries; past = kept } in record {
-          behind = h.behind;
+          witness = h.witness;
           owner = h.owner;
           long = h.long;
           run = h.run;
@@ -67,7 +67,7 @@ module _ {K S T : Type 0} (s : Structure K S T) (key : K) where
           knows = λ j u there x inside. ⊎_elim
               (λ (k : (j ≡ id) × (new ≡ u)).
               let w = was_in seen v.entries x (subst (λ (z : View S T). In z.entries x) (sym k.1) inside) in
-              subst (λ (z : ℕ × Seated S T). Fits s key h.behind h.owner z.0 z.1) (λ i. (sym k.0 i, w.is i)) (sees_all h.behind h.owner id w.e (h.knows id v at w.e w.there)))
+              subst (λ (z : ℕ × Seated S T). Fits s key h.witness h.owner z.0 z.1) (λ i. (sym k.0 i, w.is i)) (sees_all h.witness h.owner id w.e (h.knows id v at w.e w.there)))
               (λ (k : (j ≢ id) × (get_elem? t.views j ≡ some u)). h.knows j u k.1 x inside)
               (at_set t.views id j new u there);
           past = λ j u there x inside. ⊎_elim
@@ -79,7 +79,7 @@ module _ {K S T : Type 0} (s : Structure K S T) (key : K) where
     -- the rule allows a look, after which the seat remembers these others of those that it did before
     pub looks : (slots id : ℕ) (v : View S T) (kept : List (Seated S T)) → ((e : Seated S T) → In kept e → In v.past e) → Allows (Ruled s key {X = ℕ} start) slots id (v, []) 0 (λ n. n) (λ n m'. (m'.1 ≡ []) × Looks v kept m'.0)
     looks slots id v kept fewer t h homes at small =
-        let b : Behind s key = h.behind in
+        let b : Witness s key = h.witness in
         let seen : List (Entry S T) = history_of s key (all_of s key b) in
         let new : View S T = record { entries = looked seen v.entries; past = kept } in (
           new,

@@ -12,7 +12,7 @@ use Rattle.pm_base.specs.Structures.{World, Structure}
 use Rattle.pm_base.specs.Runs.{Happened, Run}
 use Rattle.pm_base.specs.declared.history.Event.TheVariants.{Evict, Crash}
 use Rattle.pm_board.specs.Table.{two_sided}
-use Rattle.pm_board.specs.Rule.{Behind, world_on, IsOrigin, AtRest, GoesOnBy, IsLoss, Survives}
+use Rattle.pm_board.specs.Rule.{Witness, world_on, IsOrigin, AtRest, GoesOnBy, IsLoss, Survives}
 use Rattle.pm_board.proofs.Resting.{past_on, goes_nowhere, goes_further}
 
 pub elem_index : (l : List ℕ) (i a : ℕ) → get_elem? l i ≡ some a → a ≡ get_or l i 0
@@ -23,7 +23,7 @@ elem_index (x ∷ xs) (suc i) a e = elem_index xs i a e
 abbrev pub left_side : (ℕ → Bool) → List ℕ → ℕ → ℕ
 left_side c ws n = if c n then get_or ws (8 * n) 0 else get_or ws (8 * n + 1) 0
 
-module _ {K S T : Type 0} (s : Structure K S T) (key : K) (c : ℕ → Bool) (ws : List ℕ) (long : length ws ≡ 8 * s.words key) (b : Behind s key) (rests : AtRest s key ws b) where
+module _ {K S T : Type 0} (s : Structure K S T) (key : K) (c : ℕ → Bool) (ws : List ℕ) (long : length ws ≡ 8 * s.words key) (b : Witness s key) (rests : AtRest s key ws b) where
   -- the first k words that were chosen are evicted
   record Evicted (k : ℕ) : Type 0 where
     words : List ℕ
@@ -31,9 +31,9 @@ module _ {K S T : Type 0} (s : Structure K S T) (key : K) (c : ℕ → Bool) (ws
     cached : (n : ℕ) → get_or words (8 * n) 0 ≡ get_or ws (8 * n) 0
     done : (n : ℕ) → n < k → get_or words (8 * n + 1) 0 ≡ left_side c ws n
     rest : (n : ℕ) → k ≤ n → get_or words (8 * n + 1) 0 ≡ get_or ws (8 * n + 1) 0
-    behind : Behind s key
-    by : GoesOnBy s key (IsLoss s key) b behind
-    run : Run s key behind.origin.opened behind.happened (world_on s key words behind)
+    witness : Witness s key
+    by : GoesOnBy s key (IsLoss s key) b witness
+    run : Run s key witness.origin.opened witness.happened (world_on s key words witness)
 
   -- one more is evicted
   evicted_one : (k : ℕ) → k < s.words key → c k ≡ true → Evicted k → Evicted (suc k)
@@ -42,15 +42,15 @@ module _ {K S T : Type 0} (s : Structure K S T) (key : K) (c : ℕ → Bool) (ws
       let v : ℕ = get_or w (8 * k) 0 in
       let w' : List ℕ = set w (8 * k + 1) v in
       let size = r.size in
-      let old : World S s.Hidden = world_on s key w r.behind in
-      let at : EvictsAt k (two_sided w r.behind.buffer) (two_sided w' r.behind.buffer) = record {
+      let old : World S s.Hidden = world_on s key w r.witness in
+      let at : EvictsAt k (two_sided w r.witness.buffer) (two_sided w' r.witness.buffer) = record {
         cached = λ n. get_or-set_other w (8 * k + 1) (8 * n) v 0 (λ e. omega arith);
         there = get_or-set_same w (8 * k + 1) v 0 (omega arith);
         elsewhere = λ n ne. get_or-set_other w (8 * k + 1) (8 * n + 1) v 0 (λ e. ne (omega arith));
         buffer = λ q. refl;
       } in
-      let h : Happened s key = record { before = old; entry = record { event = Evict k; told = [] } } in
-      let b' : Behind s key = record { situation = r.behind.situation; buffer = r.behind.buffer; hidden = s.hidden_after key old (Evict k) (two_sided w' r.behind.buffer); origin = r.behind.origin; happened = h ∷ r.behind.happened } in
+      let h : Happened s key = record { before = old; entry = record { event = Evict k; responses = [] } } in
+      let b' : Witness s key = record { situation = r.witness.situation; buffer = r.witness.buffer; hidden = s.hidden_after key old (Evict k) (two_sided w' r.witness.buffer); origin = r.witness.origin; happened = h ∷ r.witness.happened } in
       record {
         words = w';
         size = length-set w (8 * k + 1) v ∙ r.size;
@@ -59,8 +59,8 @@ module _ {K S T : Type 0} (s : Structure K S T) (key : K) (c : ℕ → Bool) (ws
             (λ e. ap (λ (m : ℕ). get_or w' (8 * m + 1) 0) e ∙ (get_or-set_same w (8 * k + 1) v 0 (omega arith) ∙ (r.cached k ∙ sym (ap (λ (m : ℕ). left_side c ws m) e ∙ ap (λ (z : Bool). if z then get_or ws (8 * k) 0 else get_or ws (8 * k + 1) 0) chosen))))
             (λ ne. get_or-set_other w (8 * k + 1) (8 * n + 1) v 0 (λ e. ne (omega arith)) ∙ r.done n (omega arith));
         rest = λ n less. get_or-set_other w (8 * k + 1) (8 * n + 1) v 0 (λ e. omega arith) ∙ r.rest n (omega arith);
-        behind = b';
-        by = goes_further s key (IsLoss s key) b r.behind b' r.by (record { origin = refl; more = h ∷ []; happened = refl; allowed = λ x inside. ⊎_elim (λ same. subst (λ (z : Happened s key). IsLoss s key z.entry.event) same tt) (λ none. absurd none) inside });
+        witness = b';
+        by = goes_further s key (IsLoss s key) b r.witness b' r.by (record { origin = refl; more = h ∷ []; happened = refl; allowed = λ x inside. ⊎_elim (λ same. subst (λ (z : Happened s key). IsLoss s key z.entry.event) same tt) (λ none. absurd none) inside });
         run = ((low, at, refl, refl), r.run);
       }
 
@@ -74,13 +74,13 @@ module _ {K S T : Type 0} (s : Structure K S T) (key : K) (c : ℕ → Bool) (ws
         (λ e. ap (λ (m : ℕ). get_or r.words (8 * m + 1) 0) e ∙ (r.rest k (le_refl k) ∙ sym (ap (λ (m : ℕ). left_side c ws m) e ∙ ap (λ (z : Bool). if z then get_or ws (8 * k) 0 else get_or ws (8 * k + 1) 0) left)))
         (λ ne. r.done n (omega arith));
     rest = λ n less. r.rest n (omega arith);
-    behind = r.behind;
+    witness = r.witness;
     by = r.by;
     run = r.run;
   }
 
   evicted : (k : ℕ) → k ≤ s.words key → Evicted k
-  evicted zero few = record { words = ws; size = refl; cached = λ n. refl; done = λ n low. absurd (omega arith); rest = λ n low. refl; behind = b; by = goes_nowhere s key (IsLoss s key) b; run = rests.run }
+  evicted zero few = record { words = ws; size = refl; cached = λ n. refl; done = λ n low. absurd (omega arith); rest = λ n low. refl; witness = b; by = goes_nowhere s key (IsLoss s key) b; run = rests.run }
   evicted (suc k) few = next (evicted k (omega arith)) (c k) refl
     where
       next : Evicted k → (z : Bool) → c k ≡ z → Evicted (suc k)
@@ -102,20 +102,20 @@ module _ {K S T : Type 0} (s : Structure K S T) (key : K) (c : ℕ → Bool) (ws
 
     crashed : Evicted (s.words key) → Survives s key ws ws' b
     crashed r =
-        let old : World S s.Hidden = world_on s key r.words r.behind in
-        let h : Happened s key = record { before = old; entry = record { event = Crash; told = [] } } in
-        let b' : Behind s key = record { situation = λ q. s.stopped; buffer = λ q. []; hidden = s.hidden_after key old Crash (two_sided ws' (λ q. [])); origin = r.behind.origin; happened = h ∷ r.behind.happened } in
-        let falls : Crashes (two_sided r.words r.behind.buffer) (two_sided ws' (λ q. [])) = record {
+        let old : World S s.Hidden = world_on s key r.words r.witness in
+        let h : Happened s key = record { before = old; entry = record { event = Crash; responses = [] } } in
+        let b' : Witness s key = record { situation = λ q. s.stopped; buffer = λ q. []; hidden = s.hidden_after key old Crash (two_sided ws' (λ q. [])); origin = r.witness.origin; happened = h ∷ r.witness.happened } in
+        let falls : Crashes (two_sided r.words r.witness.buffer) (two_sided ws' (λ q. [])) = record {
           cached = both r (λ n. get_or ws' (8 * n) 0) cached (λ n far. beyond ws' (8 * n) (omega arith));
           persisted = both r (λ n. get_or ws' (8 * n + 1) 0) persisted (λ n far. beyond ws' (8 * n + 1) (omega arith));
           buffer = λ q. refl;
         } in
-        let losses = goes_further s key (IsLoss s key) b r.behind b' r.by (record { origin = refl; more = h ∷ []; happened = refl; allowed = λ x inside. ⊎_elim (λ same. subst (λ (z : Happened s key). IsLoss s key z.entry.event) same tt) (λ none. absurd none) inside }) in
+        let losses = goes_further s key (IsLoss s key) b r.witness b' r.by (record { origin = refl; more = h ∷ []; happened = refl; allowed = λ x inside. ⊎_elim (λ same. subst (λ (z : Happened s key). IsLoss s key z.entry.event) same tt) (λ none. absurd none) inside }) in
         record {
-          behind = b';
+          witness = b';
           rests = record { run = ((falls, refl, refl), r.run); from = subst (IsOrigin s key) (sym losses.origin) rests.from; stopped = λ p low. refl; buffer = λ p low. refl };
           losses = losses;
-          told = λ e k. past_on s key b b' losses.more losses.origin losses.happened e k;
+          responses = λ e k. past_on s key b b' losses.more losses.origin losses.happened e k;
         }
 
     pub survives : Survives s key ws ws' b

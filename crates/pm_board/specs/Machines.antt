@@ -5,18 +5,18 @@ use Rattle.ds_words.specs.declared.access.BufferEntry.{BufferEntry}
 use Rattle.pm_base.specs.Structures.{Structure, Calls, Serves}
 use Rattle.pm_base.specs.Runs.{deeds_by}
 use Rattle.pm_base.specs.declared.history.Deed.{Deed}
-use Rattle.pm_base.specs.declared.history.Deed.TheVariants.{Began, Told}
+use Rattle.pm_base.specs.declared.history.Deed.TheVariants.{Began, Response}
 use Rattle.pm_base.specs.declared.history.Entry.{Entry}
 use Rattle.pm_board.specs.declared.board.Deeds.{Deeds}
 use Rattle.pm_board.specs.declared.board.Seated.{Seated}
 use Rattle.pm_board.specs.declared.board.View.{View}
-use Rattle.pm_board.specs.Table.{word_of, change, answer, told, oldest_of, buffer_after}
+use Rattle.pm_board.specs.Table.{word_of, change, answer, returned, oldest_of, buffer_after}
 use Rattle.pm_board.specs.Views.{lone, seated, one_step_later, deeds_at, deeds_in, seen_so_far}
 use Rattle.pm_board.specs.Rule.{Start, Ruled}
 
 -- the things, as deeds
-abbrev pub told_so : {S T : Type 0} → List T → List (Deed S T)
-told_so ts = map Told ts
+abbrev pub answered_so : {S T : Type 0} → List T → List (Deed S T)
+answered_so ts = map Response ts
 
 -- between these two the process took n steps, and what it did more is just what stands of it in the entries by which the
 -- history that it has seen grew
@@ -53,14 +53,14 @@ module _ {K S T C E : Type 0} (s : Structure K S T) (c : Calls K S T C E) (key :
   -- happened until now; what it did more is what stands in the history since it last looked
   pub record Landed (begun : Bool) (me : Me ℕ (View S T)) (call : C) (x : List (BufferEntry ℕ)) (found : ℕ) (v : View S T) : Type 0 where
     pub seen : List (Entry S T)
-    pub at : v ≡ lone (seated (c.process (stepped call found)) (c.doing (stepped call found)) (left call x found) (one_step_later (deeds_at me) (told_so (c.says (stepped call found)) ++ due begun call) seen))
+    pub at : v ≡ lone (seated (c.process (stepped call found)) (c.doing (stepped call found)) (left call x found) (one_step_later (deeds_at me) (answered_so (c.says (stepped call found)) ++ due begun call) seen))
     pub grows : Grows (c.process call) (deeds_at me) (deeds_in v.entries) 1
     pub serves : IsServed (stepped call found) (left call x found)
 
   -- the step of the call is one that the rule allows
   abbrev pub MayStep : Start → ℕ → ℕ → Bool → Me ℕ (View S T) → C → List (BufferEntry ℕ) → Type 0
   MayStep start slots id begun me call x = Allows (Ruled s key {X = ℕ} start) slots id me (word_of (c.access key call) (oldest_of x)) (change (c.access key call) (oldest_of x))
-      (λ n m'. (m'.1 ≡ me.1) × Landed begun me call x (told (c.access key call) (oldest_of x) n) m'.0)
+      (λ n m'. (m'.1 ≡ me.1) × Landed begun me call x (returned (c.access key call) (oldest_of x) n) m'.0)
 
   -- the process may begin the call: from what it does, or after a stop
   abbrev pub MayBegin : S → C → Type 0
@@ -78,11 +78,11 @@ module _ {K S T C E : Type 0} (s : Structure K S T) (c : Calls K S T C E) (key :
   -- the seat of a call that has come here from its beginning: its process began it, was answered this on the way, and did
   -- nothing else
   pub record IsIn (first : C) (old me : Me ℕ (View S T)) (call : C) (x : List (BufferEntry ℕ)) (n : ℕ) : Type 0 where
-    pub told : List T
-    pub ran : Ran c first call told n
+    pub responses : List T
+    pub ran : Ran c first call returned n
     pub held : Deeds S T
     pub at : me ≡ (lone (seated (c.process call) (c.doing call) x held), [])
-    pub done : held.done ≡ told_so told ++ (Began (c.doing first) ∷ (deeds_at old).done)
+    pub done : held.done ≡ answered_so returned ++ (Began (c.doing first) ∷ (deeds_at old).done)
     pub grows : Grows (c.process first) (deeds_at old) held n
 
   -- before its first step, or in it

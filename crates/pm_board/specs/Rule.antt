@@ -7,7 +7,7 @@ use Rattle.ds_words.specs.declared.access.BufferEntry.{BufferEntry}
 use Rattle.pm_base.specs.Structures.{In, World, Structure}
 use Rattle.pm_base.specs.Runs.{Happened, Run, IsNew, deeds_by, history_of, RunHolds}
 use Rattle.pm_base.specs.declared.history.Deed.{Deed}
-use Rattle.pm_base.specs.declared.history.Deed.TheVariants.{Told}
+use Rattle.pm_base.specs.declared.history.Deed.TheVariants.{Response}
 use Rattle.pm_base.specs.declared.history.Entry.{Entry}
 use Rattle.pm_base.specs.declared.history.Event.{Event}
 use Rattle.pm_base.specs.declared.history.Event.TheVariants.{Evict, Stop, Crash}
@@ -35,7 +35,7 @@ module _ {K S T : Type 0} (s : Structure K S T) (key : K) where
     pub opened : World S s.Hidden
 
   -- what a world has beside its words; also where its table comes from, and what has happened since, the last event first
-  pub record Behind : Type 0 where
+  pub record Witness : Type 0 where
     pub situation : ℕ → S
     pub buffer : ℕ → List (BufferEntry ℕ)
     pub hidden : s.Hidden
@@ -43,7 +43,7 @@ module _ {K S T : Type 0} (s : Structure K S T) (key : K) where
     pub happened : List (Happened s key)
 
   -- the world with these words
-  abbrev pub world_on : List ℕ → Behind → World S s.Hidden
+  abbrev pub world_on : List ℕ → Witness → World S s.Hidden
   world_on words b = record { memory = two_sided words b.buffer; situation = b.situation; hidden = b.hidden }
 
   -- a run leads from a new structure to the world with which the table was made
@@ -53,10 +53,10 @@ module _ {K S T : Type 0} (s : Structure K S T) (key : K) where
 
   -- the world with which the table was made has these words
   abbrev pub OpensWith : List ℕ → Origin → Type 0
-  OpensWith words o = (b : Behind) × (o.opened ≡ world_on words b)
+  OpensWith words o = (b : Witness) × (o.opened ≡ world_on words b)
 
   -- all that has happened since the structure was new, the last event first
-  abbrev pub all_of : Behind → List (Happened s key)
+  abbrev pub all_of : Witness → List (Happened s key)
   all_of b = b.happened ++ b.origin.older
 
   -- a history that was seen is a beginning of all that happened
@@ -80,26 +80,26 @@ module _ {K S T : Type 0} (s : Structure K S T) (key : K) where
     pub done : e.deeds.done ≡ deeds_by e.process (history_of s key stretch)
 
   -- a process of a view: its situation and its buffer are these, and it has done just what it did since the table was made
-  pub record Stands (b : Behind) (e : Seated S T) : Type 0 where
+  pub record Stands (b : Witness) (e : Seated S T) : Type 0 where
     pub now : b.situation e.process ≡ e.now
     pub buffer : b.buffer e.process ≡ e.buffer
     pub done : e.deeds.done ≡ deeds_by e.process (history_of s key b.happened)
     pub saw : (seen : List (Entry S T)) → e.deeds.seen ≡ Some seen → HasSeen (all_of b) e.process seen
 
   -- it is one of the structure's, and this seat runs it
-  pub record Fits (b : Behind) (owner : ℕ → ℕ) (seat : ℕ) (e : Seated S T) : Type 0 where
+  pub record Fits (b : Witness) (owner : ℕ → ℕ) (seat : ℕ) (e : Seated S T) : Type 0 where
     pub low : e.process < s.processes key
     pub mine : owner e.process ≡ seat
     pub stands : Stands b e
 
   -- what a process did at a board before, or in another seat, it did in a stretch of what happened; what it had seen is a
   -- beginning of that
-  pub record IsPast (b : Behind) (e : Seated S T) : Type 0 where
+  pub record IsPast (b : Witness) (e : Seated S T) : Type 0 where
     pub was : DidSo (all_of b) e
     pub saw : (seen : List (Entry S T)) → e.deeds.seen ≡ Some seen → IsBeginning (all_of b) seen
 
   -- so it is with each process of the list
-  abbrev pub AreTrue : Behind → List (Seated S T) → Type 0
+  abbrev pub AreTrue : Witness → List (Seated S T) → Type 0
   AreTrue b past = (e : Seated S T) → In past e → IsPast b e
 
   -- the process is one of a view
@@ -115,22 +115,22 @@ module _ {K S T : Type 0} (s : Structure K S T) (key : K) where
   -- view's, whose seat alone runs it, and what each seat knows is what happened. The run goes on from the world with which
   -- the table was made, which has the words that it was made with
   pub record Ruled {X : Type 0} (start : Start) (t : State X (View S T)) : Type 0 where
-    pub behind : Behind
+    pub witness : Witness
     pub owner : ℕ → ℕ
     pub long : length t.words ≡ 8 * s.words key
-    pub run : Run s key behind.origin.opened behind.happened (world_on t.words behind)
-    pub from : IsOrigin behind.origin
-    pub opens : OpensWith start.words behind.origin
-    pub made : start.stopped ≡ false → behind.origin.older ≡ []
+    pub run : Run s key witness.origin.opened witness.happened (world_on t.words witness)
+    pub from : IsOrigin witness.origin
+    pub opens : OpensWith start.words witness.origin
+    pub made : start.stopped ≡ false → witness.origin.older ≡ []
     pub all : (p : ℕ) → p < s.processes key → IsSeated t.views p
-    pub knows : (j : ℕ) (v : View S T) → get_elem? t.views j ≡ some v → (e : Seated S T) → In v.entries e → Fits behind owner j e
-    pub past : (j : ℕ) (v : View S T) → get_elem? t.views j ≡ some v → AreTrue behind v.past
+    pub knows : (j : ℕ) (v : View S T) → get_elem? t.views j ≡ some v → (e : Seated S T) → In v.entries e → Fits witness owner j e
+    pub past : (j : ℕ) (v : View S T) → get_elem? t.views j ≡ some v → AreTrue witness v.past
 
   -- ---- one process goes on
 
   -- the process p is in this situation with this buffer, the others are as they were; a run leads there, in which p did
   -- this, and no other process anything
-  pub record After (words words' : List ℕ) (b b' : Behind) (p : ℕ) (now : S) (x : List (BufferEntry ℕ)) (deeds : List (Deed S T)) : Type 0 where
+  pub record After (words words' : List ℕ) (b b' : Witness) (p : ℕ) (now : S) (x : List (BufferEntry ℕ)) (deeds : List (Deed S T)) : Type 0 where
     pub doing : b'.situation p ≡ now
     pub buffer : b'.buffer p ≡ x
     pub others : (q : ℕ) → q ≢ p → b'.situation q ≡ b.situation q
@@ -145,7 +145,7 @@ module _ {K S T : Type 0} (s : Structure K S T) (key : K) where
   -- ---- at rest
 
   -- a run from a new structure leads to a world with these words in which every process has stopped
-  pub record AtRest (words : List ℕ) (b : Behind) : Type 0 where
+  pub record AtRest (words : List ℕ) (b : Witness) : Type 0 where
     pub run : Run s key b.origin.opened b.happened (world_on words b)
     pub from : IsOrigin b.origin
     pub stopped : (p : ℕ) → p < s.processes key → b.situation p ≡ s.stopped
@@ -153,10 +153,10 @@ module _ {K S T : Type 0} (s : Structure K S T) (key : K) where
 
   -- so it is with a world in which what these processes did stands in the run
   abbrev pub IsRested : List ℕ → List (Seated S T) → Type 0
-  IsRested words past = (b : Behind) × AtRest words b × AreTrue b past
+  IsRested words past = (b : Witness) × AtRest words b × AreTrue b past
 
   -- the one world comes from the other by these events
-  pub record GoesOnBy (Allowed : Event S → Type 0) (b b' : Behind) : Type 0 where
+  pub record GoesOnBy (Allowed : Event S → Type 0) (b b' : Witness) : Type 0 where
     pub origin : b'.origin ≡ b.origin
     pub more : List (Happened s key)
     pub happened : b'.happened ≡ more ++ b.happened
@@ -176,23 +176,23 @@ module _ {K S T : Type 0} (s : Structure K S T) (key : K) where
   -- these words are those of a world to which a run leads from a new structure, in which each process that was handed in
   -- does what its seat says; stops alone lead from it to one at rest, and what is remembered is what happened
   pub record Closes (start : Start) (words : List ℕ) (entries past : List (Seated S T)) : Type 0 where
-    pub last : Behind
+    pub last : Witness
     pub run : Run s key last.origin.opened last.happened (world_on words last)
     pub from : IsOrigin last.origin
     pub opens : OpensWith start.words last.origin
     pub made : start.stopped ≡ false → last.origin.older ≡ []
     pub stands : (e : Seated S T) → In entries e → Stands last e
-    pub behind : Behind
-    pub stops : GoesOnBy IsStop last behind
-    pub rests : AtRest words behind
-    pub told : AreTrue behind past
+    pub witness : Witness
+    pub stops : GoesOnBy IsStop last witness
+    pub rests : AtRest words witness
+    pub responses : AreTrue witness past
 
   -- these words, too, are those of a world at rest, to which evictions and a crash lead
-  pub record Survives (words words' : List ℕ) (b : Behind) : Type 0 where
-    pub behind : Behind
-    pub rests : AtRest words' behind
-    pub losses : GoesOnBy IsLoss b behind
-    pub told : (e : Seated S T) → IsPast b e → IsPast behind e
+  pub record Survives (words words' : List ℕ) (b : Witness) : Type 0 where
+    pub witness : Witness
+    pub rests : AtRest words' witness
+    pub losses : GoesOnBy IsLoss b witness
+    pub responses : (e : Seated S T) → IsPast b e → IsPast witness e
 
   -- ---- the sentence over runs
 
@@ -203,11 +203,11 @@ module _ {K S T : Type 0} (s : Structure K S T) (key : K) where
     pub first : World S s.Hidden
     pub new : IsNew s key first
     pub happened : List (Happened s key)
-    pub behind : Behind
-    pub run : Run s key first happened (world_on words behind)
-    pub holds : RunHolds s key happened (world_on words behind)
+    pub witness : Witness
+    pub run : Run s key first happened (world_on words witness)
+    pub holds : RunHolds s key happened (world_on words witness)
     pub did : (e : Seated S T) → In known e → DidSo happened e
-    pub told : (e : Seated S T) (t : T) → In known e → In e.deeds.done (Told t) → s.told key (world_on words behind) e.process t
+    pub responses : (e : Seated S T) (t : T) → In known e → In e.deeds.done (Response t) → s.is_right key (world_on words witness) e.process t
     pub saw : (e : Seated S T) (seen : List (Entry S T)) → In known e → e.deeds.seen ≡ Some seen → IsBeginning happened seen
 
   -- so it is between any two steps on an open board, with what any seat knows
@@ -216,7 +216,7 @@ module _ {K S T : Type 0} (s : Structure K S T) (key : K) where
 
   -- and so it is of a board that is closed or crashed
   abbrev pub ClosedBoardsHaveRuns : Type 0
-  ClosedBoardsHaveRuns = (words : List ℕ) (b : Behind) (past : List (Seated S T)) → AtRest words b → AreTrue b past → HasRun words past
+  ClosedBoardsHaveRuns = (words : List ℕ) (b : Witness) (past : List (Seated S T)) → AtRest words b → AreTrue b past → HasRun words past
 
 -- the table's words of a structure's first n words are on both sides what those are at first
 pub record AreFirst {K S T : Type 0} (s : Structure K S T) (key : K) (n : ℕ) (words : List ℕ) : Type 0 where

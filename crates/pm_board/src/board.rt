@@ -5,7 +5,7 @@ ghost use Rattle.std.specs.Mem.Slots.{slots_items, slots_len, IsFull};
 ghost use Rattle.pm_base.specs.declared.history.Entry.{Entry};
 ghost use Rattle.pm_board.specs.Views.{RunsFrom, Sits, HasRest, first_now, first_view, whole_view, lone, newcomer, past_of, bygone, united};
 ghost use Rattle.pm_board.specs.Looks.{BeginsWithAll, Looks};
-ghost use Rattle.pm_board.specs.Rule.{AreFirst, AreTrue, AtRest, Behind, Closes};
+ghost use Rattle.pm_board.specs.Rule.{AreFirst, AreTrue, AtRest, Witness, Closes};
 
 use atomic_table::{Closed, Join, Play, Seat, Split, Table, TableRule};
 use ds_words::access::BufferEntry;
@@ -47,7 +47,7 @@ pub struct View<D, T> {
 }
 
 /// A seat at a table: the right to act for the processes of its view.
-pub type Place<D, T> = Seat<u8, View<D, T>>;
+pub type TableSeat<D, T> = Seat<u8, View<D, T>>;
 
 /// What is fixed when the table is made.
 #[derive(Drop)]
@@ -57,7 +57,7 @@ pub struct Fixed<K: Drop, D, T> {
     /// Whether every process is stopped at first.
     pub stopped: bool,
     /// A seat of a board before, which remembers what was done.
-    pub before: Option<Place<D, T>>,
+    pub before: Option<TableSeat<D, T>>,
     /// The words with which it is made, which clauses alone read.
     pub words: Snapshot<Vec<u64>>,
 }
@@ -67,7 +67,7 @@ pub struct Law<P> {
     of: PhantomData<P>,
 }
 
-impl<P: Structured> TableRule<u8, View<P::Doing, P::Told>, Fixed<P::Key, P::Doing, P::Told>>
+impl<P: Structured> TableRule<u8, View<P::Doing, P::Response>, Fixed<P::Key, P::Doing, P::Response>>
     for Law<P> {
     ghost use Rattle.pm_board.specs.Rule.{Ruled};
     ghost use Rattle.pm_board.specs.Starts.{start_of};
@@ -125,7 +125,7 @@ struct Behead<P> {
     of: PhantomData<P>,
 }
 
-impl<P: Structured> Split<View<P::Doing, P::Told>> for Behead<P> {
+impl<P: Structured> Split<View<P::Doing, P::Response>> for Behead<P> {
     ghost use Rattle.pm_board.specs.Views.{RunsFrom, Sits, headed, tailed};
 
     ghost left = { tailed };
@@ -159,12 +159,12 @@ impl<D, T> Join<View<D, T>> for Unite {
 #[derive(Drop)]
 pub struct Board<P: Structured>
 where
-    Law<P>: TableRule<u8, View<P::Doing, P::Told>, Fixed<P::Key, P::Doing, P::Told>>,
+    Law<P>: TableRule<u8, View<P::Doing, P::Response>, Fixed<P::Key, P::Doing, P::Response>>,
 {
     pub(crate) table: Table<
         u8,
-        View<P::Doing, P::Told>,
-        Fixed<P::Key, P::Doing, P::Told>,
+        View<P::Doing, P::Response>,
+        Fixed<P::Key, P::Doing, P::Response>,
         Law<P>,
         Global,
     >,
@@ -195,7 +195,7 @@ impl<P: Structured> Board<P> {
     pub fn make(
         alloc: Global,
         key: P::Key,
-    ) -> Result<(Board<P>, Place<P::Doing, P::Told>), AllocError>
+    ) -> Result<(Board<P>, TableSeat<P::Doing, P::Response>), AllocError>
         requires some { 0 < P.structure.words key }
         requires few { P.structure.words key < 2 ^ 28 }
         ensures key { IfOk result (λ r. r.0.key ≡ key) }
@@ -225,10 +225,10 @@ impl<P: Structured> Board<P> {
     /// A seat for the first process of one that runs all from this one on, before their first call.
     pub fn deal(
         &self,
-        rest: &mut Place<P::Doing, P::Told>,
+        rest: &mut TableSeat<P::Doing, P::Response>,
         process: usize,
         stopped: bool,
-    ) -> Place<P::Doing, P::Told>
+    ) -> TableSeat<P::Doing, P::Response>
         requires table { rest.old.table_id ≡ self.now.table.shared.table_id }
         requires low { process < P.structure.processes self.now.key }
         requires rest { RunsFrom P.structure self.now.key stopped process rest.old.me }
@@ -244,7 +244,7 @@ impl<P: Structured> Board<P> {
 
     /// A seat of no process, which remembers what another one knows. It can go to another thread, whose seat takes it in by
     /// `join` and `look`.
-    pub fn note(&self, place: &mut Place<P::Doing, P::Told>) -> Place<P::Doing, P::Told>
+    pub fn note(&self, place: &mut TableSeat<P::Doing, P::Response>) -> TableSeat<P::Doing, P::Response>
         requires { (place.old.table_id ≡ self.now.table.shared.table_id) × (place.old.me.1 ≡ []) }
         ensures place { (place.new.table_id ≡ place.old.table_id) × (place.new.me ≡ place.old.me) }
         ensures note { (result.table_id ≡ place.old.table_id) × (result.me ≡ (bygone place.old.me.0, [])) }
@@ -255,7 +255,7 @@ impl<P: Structured> Board<P> {
 
     /// A seat looks at the table, by a load of one word: its processes have then seen all that has happened. It remembers
     /// nobody any more.
-    pub fn look(&self, place: &mut Place<P::Doing, P::Told>)
+    pub fn look(&self, place: &mut TableSeat<P::Doing, P::Response>)
         requires { (place.old.table_id ≡ self.now.table.shared.table_id) × (place.old.me.1 ≡ []) }
         ensures { (place.new.table_id ≡ place.old.table_id) × (place.new.me.1 ≡ []) × Looks place.old.me.0 [] place.new.me.0 }
     {
@@ -264,7 +264,7 @@ impl<P: Structured> Board<P> {
     }
 
     /// A seat takes in the processes of another one, and what that remembers.
-    pub fn join(&self, place: &mut Place<P::Doing, P::Told>, other: Place<P::Doing, P::Told>)
+    pub fn join(&self, place: &mut TableSeat<P::Doing, P::Response>, other: TableSeat<P::Doing, P::Response>)
         requires place { place.old.table_id ≡ self.now.table.shared.table_id }
         requires other { (other.table_id ≡ self.now.table.shared.table_id) × (other.me.1 ≡ []) }
         ensures { (place.new.table_id ≡ place.old.table_id) × (place.new.me ≡ (united place.old.me.0 other.me.0, place.old.me.1)) }

@@ -4,11 +4,11 @@ ghost use Rattle.std.specs.Prelude.{◌≡◌, ◌+◌, ◌*◌, ◌<◌, ◌^�
 ghost use Rattle.std.specs.Mem.Slots.{slots_items, slots_len, IsFull};
 ghost use Rattle.pm_base.specs.declared.history.Entry.{Entry};
 ghost use Rattle.pm_board.specs.Looks.{BeginsWithAll};
-ghost use Rattle.pm_board.specs.Rule.{AtRest, Behind, Closes, HasRun, HasSideLeft, IsRested, Survives};
+ghost use Rattle.pm_board.specs.Rule.{AtRest, Witness, Closes, HasRun, HasSideLeft, IsRested, Survives};
 ghost use Rattle.pm_board.specs.Starts.{start_of};
 ghost use Rattle.pm_board.specs.Views.{RunsFrom, past_of, whole_view};
 
-use crate::board::{Board, Fixed, Opens, Place, Remember};
+use crate::board::{Board, Fixed, Opens, TableSeat, Remember};
 use atomic_table::{Closed, Table};
 use pm_base::machine::Structured;
 use std::alloc::{AllocError, Global};
@@ -19,7 +19,7 @@ pub struct ClosedBoard<P: Structured> {
     pub(crate) table: Closed<u8, Global>,
     /// The layout.
     pub key: P::Key,
-    pub(crate) before: Option<Place<P::Doing, P::Told>>,
+    pub(crate) before: Option<TableSeat<P::Doing, P::Response>>,
     pub ghost full: { IsFull table.words × (slots_len table.slots ≡ 0) },
     pub ghost sized: { slots_len table.words ≡ 8 * P.structure.words key },
     pub ghost some: { (0 < P.structure.words key) × (P.structure.words key < 2 ^ 28) },
@@ -29,7 +29,7 @@ impl<P: Structured> Board<P> {
     /// Ends the board, with a seat. Its words are those of a world to which a run of the structure leads, in which each
     /// process of the seat does what the seat says; stops alone lead from there to one at rest. What the seat knows is
     /// remembered. What other seats know is lost, but for what this one took in by `join`.
-    pub fn close(self, mut place: Place<P::Doing, P::Told>) -> ClosedBoard<P>
+    pub fn close(self, mut place: TableSeat<P::Doing, P::Response>) -> ClosedBoard<P>
         requires { (place.table_id ≡ self.table.shared.table_id) × (place.me.1 ≡ []) }
         ensures key { result.key ≡ self.key }
         ensures past { past_of result.before ≡ place.me.0.past ++ place.me.0.entries }
@@ -104,7 +104,7 @@ impl<P: Structured> ClosedBoard<P> {
         ensures before { past_of self.new.before ≡ past_of self.old.before }
         ensures words { (n : ℕ) → n < P.structure.words self.old.key → HasSideLeft (slice_index_or choice.now n false) (slots_items self.old.table.words) (slots_items self.new.table.words) n }
         ensures rests { IsRested P.structure self.old.key (slots_items self.old.table.words) (past_of self.old.before) → IsRested P.structure self.new.key (slots_items self.new.table.words) (past_of self.new.before) }
-        ensures survives { (b : Behind P.structure self.old.key) → AtRest P.structure self.old.key (slots_items self.old.table.words) b → Survives P.structure self.old.key (slots_items self.old.table.words) (slots_items self.new.table.words) b }
+        ensures survives { (b : Witness P.structure self.old.key) → AtRest P.structure self.old.key (slots_items self.old.table.words) b → Survives P.structure self.old.key (slots_items self.old.table.words) (slots_items self.new.table.words) b }
     {
         for number in 0..P::words(&self.key) {
             let side = if choice[number] {
@@ -125,10 +125,10 @@ impl<P: Structured> ClosedBoard<P> {
     pub fn reopen(
         self,
         alloc: Global,
-    ) -> Result<(Board<P>, Place<P::Doing, P::Told>), ClosedBoard<P>>
+    ) -> Result<(Board<P>, TableSeat<P::Doing, P::Response>), ClosedBoard<P>>
         requires { IsRested P.structure self.key (slots_items self.table.words) (past_of self.before) }
         ensures key { IfOk result (λ r. r.0.key ≡ self.key) }
-        ensures place { IfOk result (λ r. (r.1.table_id ≡ r.0.table.shared.table_id) × ((seen : List (Entry P.Doing P.Told)) × (r.1.me ≡ (whole_view P.structure self.key true (Some seen) (past_of self.before), [])) × BeginsWithAll seen (past_of self.before))) }
+        ensures place { IfOk result (λ r. (r.1.table_id ≡ r.0.table.shared.table_id) × ((seen : List (Entry P.Doing P.Response)) × (r.1.me ≡ (whole_view P.structure self.key true (Some seen) (past_of self.before), [])) × BeginsWithAll seen (past_of self.before))) }
         ensures rest { IfOk result (λ r. RunsFrom P.structure r.0.key true 0 r.1.me) }
         ensures words { IfOk result (λ r. r.0.table.shared.key.words.value.items ≡ slots_items self.table.words) }
         ensures back { IfErr result (λ c. (c.table ≡ self.table) × (c.key ≡ self.key) × (c.before ≡ self.before)) }

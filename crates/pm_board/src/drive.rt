@@ -4,7 +4,7 @@ ghost use Rattle.std.specs.Prelude.{◌≡◌, ℕ, [], MatchOption};
 ghost use Rattle.pm_board.specs.Fuses.{Asked};
 ghost use Rattle.pm_board.specs.Machines.{Breaks, CanBegin, IsServed, Settles};
 
-use crate::board::{Board, Place};
+use crate::board::{Board, TableSeat};
 use crate::fuse::Fuse;
 use crate::steps::{Buffer, access, answer, flushed, keep, oldest};
 use arrayvec::ArrayVec;
@@ -15,7 +15,7 @@ use std::marker::Brand;
 /// of the seat may begin the call, or may once it has stopped.
 pub fn drive<P: Structured, M: Machine<P>, F: Fuse>(
     board: &Board<P>,
-    seat: &mut Place<P::Doing, P::Told>,
+    seat: &mut TableSeat<P::Doing, P::Response>,
     call: &mut M,
     fuse: &mut F,
 ) -> Option<M::End>

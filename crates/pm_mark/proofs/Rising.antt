@@ -50,4 +50,4 @@ one n w (Stop q) says w' sound m calm = same_is_least _ _ (m.1.cached 0)
 one n w Crash says w' sound m calm = absurd calm
 
 pub rise : (n : ℕ) → IsStructure mark n → MarksRise n
-rise n structure first last h hs new run calm = one n h.before h.entry.event h.entry.told last (runs mark n structure first h.before hs new run.1).sound run.0 calm
+rise n structure first last h hs new run calm = one n h.before h.entry.event h.entry.responses last (runs mark n structure first h.before hs new run.1).sound run.0 calm

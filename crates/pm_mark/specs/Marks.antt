@@ -118,5 +118,5 @@ mark = record {
   first_hidden = λ n. tt;
   hidden_after = λ n w event memory. tt;
   sound = λ n w. (w.memory.persisted 0 ≤ w.memory.cached 0) × ((p : ℕ) → Knows (w.memory.cached 0) (w.memory.buffer p) (w.situation p));
-  told = λ n w p v. v ≤ w.memory.persisted 0;
+  is_right = λ n w p v. v ≤ w.memory.persisted 0;
 }

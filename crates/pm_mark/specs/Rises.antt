@@ -2,7 +2,7 @@
 use Rattle.std.specs.Prelude.{ℕ, ◌≤◌, List, ◌∷◌}
 use Rattle.pm_base.specs.Structures.{In, World}
 use Rattle.pm_base.specs.Runs.{Happened, Run, IsNew, deeds_by, history_of}
-use Rattle.pm_base.specs.declared.history.Deed.TheVariants.{Told}
+use Rattle.pm_base.specs.declared.history.Deed.TheVariants.{Response}
 use Rattle.pm_base.specs.declared.history.Event.{Event}
 use Rattle.pm_base.specs.declared.history.Event.TheVariants.{Crash}
 use Rattle.pm_mark.specs.Marks.{mark}
@@ -19,4 +19,4 @@ MarksRise n = (first last : World Doing (Unit {0})) (h : Happened mark n) (hs : 
 
 -- where a process was answered that the mark is up, no event takes it back, not even a crash
 abbrev pub RaisesLast : ℕ → Type 0
-RaisesLast n = (first last : World Doing (Unit {0})) (hs : List (Happened mark n)) (p v : ℕ) → IsNew mark n first → Run mark n first hs last → In (deeds_by p (history_of mark n hs)) (Told v) → v ≤ last.memory.persisted 0
+RaisesLast n = (first last : World Doing (Unit {0})) (hs : List (Happened mark n)) (p v : ℕ) → IsNew mark n first → Run mark n first hs last → In (deeds_by p (history_of mark n hs)) (Response v) → v ≤ last.memory.persisted 0

@@ -75,7 +75,7 @@ impl Structured for Mark {
 
     type Doing = Doing;
 
-    type Told = u64;
+    type Response = u64;
 
     ghost use Rattle.pm_mark.specs.Marks.{mark};
 

@@ -19,8 +19,8 @@ use Rattle.pm_registers.specs.declared.calls.RecoverStage.{RecoverStage}
 use Rattle.pm_registers.specs.declared.calls.RecoverStage.TheVariants as recover
 use Rattle.pm_registers.specs.declared.calls.Doing.{Doing}
 use Rattle.pm_registers.specs.declared.calls.Doing.TheVariants.{Idle, Writing, Recovering, Stopped}
-use Rattle.pm_registers.specs.declared.calls.Told.{Told}
-use Rattle.pm_registers.specs.declared.calls.Told.TheVariants.{Wrote}
+use Rattle.pm_registers.specs.declared.calls.Response.{Response}
+use Rattle.pm_registers.specs.declared.calls.Response.TheVariants.{Wrote}
 use Rattle.pm_registers.proofs.Sound.{registers_hold}
 use Rattle.pm_registers.proofs.Writes.{doing_writing}
 
@@ -114,7 +114,7 @@ module _ (n p : ℕ) where
     stepped c write.BackHead answer at is now knows k = tt
     stepped c write.Done answer at is now knows k = tt
 
-    one : (event : Event Doing) (says : List Told) (last : World Doing (ℕ → List ℕ)) → h.entry.event ≡ event → registers.sound n h.before → Moves registers n h.before event says last → Phase hs (h.before.situation p) → Phase (h ∷ hs) (last.situation p)
+    one : (event : Event Doing) (says : List Response) (last : World Doing (ℕ → List ℕ)) → h.entry.event ≡ event → registers.sound n h.before → Moves registers n h.before event says last → Phase hs (h.before.situation p) → Phase (h ∷ hs) (last.situation p)
     one (Begin q call) says last is sound m k = subst (λ (w : World Doing (ℕ → List ℕ)). Phase (h ∷ hs) (w.situation p)) (sym m.2) (dite (ℕ_discrete q p)
         (λ same. subst (Phase (h ∷ hs)) (sym (put_here h.before.situation q call p (sym same))) (begun q (h.before.situation q) call is same m.1))
         (λ other. subst (Phase (h ∷ hs)) (sym (put_else h.before.situation q call p (λ e. other (sym e)))) (phase_on (h.before.situation p) (subst (LeavesOpen p) (sym is) other) k)))
@@ -137,38 +137,38 @@ module _ (n p : ℕ) where
 
   phase : (first last : World Doing (ℕ → List ℕ)) (hs : List (Happened registers n)) → IsNew registers n first → Run registers n first hs last → Phase hs (last.situation p)
   phase first last [] new run = subst (λ (w : World Doing (ℕ → List ℕ)). Phase [] (w.situation p)) (sym (run ∙ new.is)) tt
-  phase first last (h ∷ hs) new run = one hs h h.entry.event h.entry.told last refl (runs registers n (registers_hold n) first h.before hs new run.1).sound run.0 (phase first h.before hs new run.1)
+  phase first last (h ∷ hs) new run = one hs h h.entry.event h.entry.responses last refl (runs registers n (registers_hold n) first h.before hs new run.1).sound run.0 (phase first h.before hs new run.1)
 
   -- a write tells at its last step alone
-  told_last : (hs : List (Happened registers n)) (c : WriteCall) (s : WriteStage) (answer v : ℕ) → In (write_says (write_next c answer) (write_stage s answer)) (Wrote v) → WriteGoes s → PhaseAt hs c.value s → TookEffect n hs p v
-  told_last hs c write.StoreAnnounce answer v inside go k = absurd inside
-  told_last hs c write.FlushAnnounce answer v inside go k = absurd inside
-  told_last hs c write.BackAnnounce answer v inside go k = absurd inside
-  told_last hs c write.LoadHead answer v inside go k = absurd inside
-  told_last hs c (write.Swap seen) answer v inside go k = absurd inside
-  told_last hs c write.FlushHead answer v inside go k = absurd inside
-  told_last hs c write.BackHead answer v (inl is) go k = subst (TookEffect n hs p) (cc) k
-  told_last hs c write.BackHead answer v (inr none) go k = absurd none
-  told_last hs c write.Done answer v inside go k = absurd go
+  answered_last : (hs : List (Happened registers n)) (c : WriteCall) (s : WriteStage) (answer v : ℕ) → In (write_says (write_next c answer) (write_stage s answer)) (Wrote v) → WriteGoes s → PhaseAt hs c.value s → TookEffect n hs p v
+  answered_last hs c write.StoreAnnounce answer v inside go k = absurd inside
+  answered_last hs c write.FlushAnnounce answer v inside go k = absurd inside
+  answered_last hs c write.BackAnnounce answer v inside go k = absurd inside
+  answered_last hs c write.LoadHead answer v inside go k = absurd inside
+  answered_last hs c (write.Swap seen) answer v inside go k = absurd inside
+  answered_last hs c write.FlushHead answer v inside go k = absurd inside
+  answered_last hs c write.BackHead answer v (inl is) go k = subst (TookEffect n hs p) (cc) k
+  answered_last hs c write.BackHead answer v (inr none) go k = absurd none
+  answered_last hs c write.Done answer v inside go k = absurd go
 
   -- a recovery tells of no write
-  told_never : (s : RecoverStage) (answer v : ℕ) → In (recover_says (recover_stage s answer)) (Wrote v) → ⊥
-  told_never recover.LoadAnnounce answer v inside = inside
-  told_never (recover.FlushAnnounce last) answer v inside = inside
-  told_never (recover.BackAnnounce last) answer v inside = inside
-  told_never (recover.LoadHead last) answer v inside = inside
-  told_never (recover.FlushHead last head) answer v inside = inside
-  told_never (recover.BackHead last head) answer v (inl is) = cc
-  told_never (recover.BackHead last head) answer v (inr none) = none
-  told_never (recover.Done last head) answer v (inl is) = cc
-  told_never (recover.Done last head) answer v (inr none) = none
+  answered_never : (s : RecoverStage) (answer v : ℕ) → In (recover_says (recover_stage s answer)) (Wrote v) → ⊥
+  answered_never recover.LoadAnnounce answer v inside = inside
+  answered_never (recover.FlushAnnounce last) answer v inside = inside
+  answered_never (recover.BackAnnounce last) answer v inside = inside
+  answered_never (recover.LoadHead last) answer v inside = inside
+  answered_never (recover.FlushHead last head) answer v inside = inside
+  answered_never (recover.BackHead last head) answer v (inl is) = cc
+  answered_never (recover.BackHead last head) answer v (inr none) = none
+  answered_never (recover.Done last head) answer v (inl is) = cc
+  answered_never (recover.Done last head) answer v (inr none) = none
 
 pub linearize : (n : ℕ) → WritesLinearize n
 linearize n first last h hs p v new run is inside =
-    let m = subst (λ (e : Event Doing). Moves registers n h.before e h.entry.told last) is run.0 in
+    let m = subst (λ (e : Event Doing). Moves registers n h.before e h.entry.responses last) is run.0 in
     elim m.takes [
       | inl d ↦ (
           let now : h.before.situation p ≡ Writing d.call = d.at ∙ doing_writing d.call d.call.stage d.goes in
-          told_last n p hs d.call d.call.stage m.answer v (subst (λ (l : List Told). In l (Wrote v)) d.tells inside) d.goes (subst (Phase n p hs) now (phase n p first h.before hs new run.1)))
-      | inr d ↦ absurd (told_never n p d.call.stage m.answer v (subst (λ (l : List Told). In l (Wrote v)) d.tells inside))
+          answered_last n p hs d.call d.call.stage m.answer v (subst (λ (l : List Response). In l (Wrote v)) d.tells inside) d.goes (subst (Phase n p hs) now (phase n p first h.before hs new run.1)))
+      | inr d ↦ absurd (answered_never n p d.call.stage m.answer v (subst (λ (l : List Response). In l (Wrote v)) d.tells inside))
     ]

@@ -8,10 +8,10 @@ use Rattle.ds_words.specs.Memory.{Memory, SameMemory, StoresAt, FlushesAt, Write
 use Rattle.ds_words.specs.declared.access.Class.TheVariants.{Stamped}
 use Rattle.pm_base.specs.Structures.{In, World, put, GoesTelling}
 use Rattle.pm_base.proofs.Puts.{put_here, put_else}
-use Rattle.pm_registers.specs.Registers.{Own, own_of, entry, IsWell, up_to, LeavesOut, IsTrueTold, registers}
+use Rattle.pm_registers.specs.Registers.{Own, own_of, entry, IsWell, up_to, LeavesOut, IsTrueResponse, registers}
 use Rattle.pm_registers.specs.declared.calls.Doing.{Doing}
-use Rattle.pm_registers.specs.declared.calls.Told.{Told}
-use Rattle.pm_registers.specs.declared.calls.Told.TheVariants.{Wrote, Recalled}
+use Rattle.pm_registers.specs.declared.calls.Response.{Response}
+use Rattle.pm_registers.specs.declared.calls.Response.TheVariants.{Wrote, Recalled}
 
 -- ---- values up to one
 
@@ -47,10 +47,10 @@ pub record Grows (o o' : Own) (now now' : Doing) : Type 0 where
   pub came : (v : ℕ) → v ≤ o.announced_kept → LeavesOut v now → In o'.had v → In o.had v
   pub leaves : (v : ℕ) → v ≤ o.announced_kept → LeavesOut v now → LeavesOut v now'
 
-pub told_on : (o o' : Own) (now now' : Doing) (t : Told) → Grows o o' now now' → IsTrueTold o now t → IsTrueTold o' now' t
-told_on o o' now now' (Wrote v) g h = (g.kept v h.0 h.1, le_trans h.1 g.head)
-told_on o o' now now' (Recalled v true) g h = (g.kept v h.0 h.1, le_trans h.1 g.head)
-told_on o o' now now' (Recalled v false) g h = ((λ has. h.0 (g.came v h.1 h.2 has)), le_trans h.1 g.announced, g.leaves v h.1 h.2)
+pub answered_on : (o o' : Own) (now now' : Doing) (t : Response) → Grows o o' now now' → IsTrueResponse o now t → IsTrueResponse o' now' t
+answered_on o o' now now' (Wrote v) g h = (g.kept v h.0 h.1, le_trans h.1 g.head)
+answered_on o o' now now' (Recalled v true) g h = (g.kept v h.0 h.1, le_trans h.1 g.head)
+answered_on o o' now now' (Recalled v false) g h = ((λ has. h.0 (g.came v h.1 h.2 has)), le_trans h.1 g.announced, g.leaves v h.1 h.2)
 
 -- ---- the others
 
@@ -69,18 +69,18 @@ own_else p m m' had had' f q ne same =
     λ i. record { announced = a i; announced_kept = b i; head = c i; head_kept = d i; buffer = x i; had = same i }
 
 -- what a step of a process makes of its register
-pub record Moves (w : World Doing (ℕ → List ℕ)) (p : ℕ) (m' : Memory ℕ) (now' : Doing) (says : List Told) : Type 0 where
+pub record Moves (w : World Doing (ℕ → List ℕ)) (p : ℕ) (m' : Memory ℕ) (now' : Doing) (says : List Response) : Type 0 where
   pub own : Own
   pub is : own_of m' (put w.hidden p own.had) p ≡ own
   pub well : IsWell p own now'
   pub grows : Grows (own_of w.memory w.hidden p) own (w.situation p) now'
-  pub tells : (t : Told) → In says t → IsTrueTold own now' t
+  pub tells : (t : Response) → In says t → IsTrueResponse own now' t
 
 -- the world with this memory, this situation of one process, and these values
 abbrev pub moved : World Doing (ℕ → List ℕ) → Memory ℕ → ℕ → Doing → (ℕ → List ℕ) → World Doing (ℕ → List ℕ)
 moved w memory p now had = record { memory = memory; situation = put w.situation p now; hidden = had }
 
-module _ (n : ℕ) (w : World Doing (ℕ → List ℕ)) (p : ℕ) (m' : Memory ℕ) (now' : Doing) (says : List Told) (sound : registers.sound n w) (low : p < n) (f : Others p w.memory m') (d : Moves w p m' now' says) where
+module _ (n : ℕ) (w : World Doing (ℕ → List ℕ)) (p : ℕ) (m' : Memory ℕ) (now' : Doing) (says : List Response) (sound : registers.sound n w) (low : p < n) (f : Others p w.memory m') (d : Moves w p m' now' says) where
   abbrev had' : ℕ → List ℕ
   had' = put w.hidden p d.own.had
 
@@ -96,21 +96,21 @@ module _ (n : ℕ) (w : World Doing (ℕ → List ℕ)) (p : ℕ) (m' : Memory �
   here_now : put w.situation p now' p ≡ now'
   here_now = put_here w.situation p now' p refl
 
-  pub told_here : (t : Told) → IsTrueTold d.own now' t → registers.told n w' p t
-  told_here t h = (low, subst (λ (z : Own × Doing). IsTrueTold z.0 z.1 t) (λ i. (sym d.is i, sym here_now i)) h)
+  pub answered_here : (t : Response) → IsTrueResponse d.own now' t → registers.responses n w' p t
+  answered_here t h = (low, subst (λ (z : Own × Doing). IsTrueResponse z.0 z.1 t) (λ i. (sym d.is i, sym here_now i)) h)
 
   well_each : (q : ℕ) → q < n → IsWell q (own_of m' had' q) (put w.situation p now' q)
   well_each q lq = dite (ℕ_discrete q p)
       (λ same. subst (λ (z : ℕ). IsWell z (own_of m' had' z) (put w.situation p now' z)) (sym same) (subst (λ (z : Own × Doing). IsWell p z.0 z.1) (λ i. (sym d.is i, sym here_now i)) d.well))
       (λ ne. subst (λ (z : Own × Doing). IsWell q z.0 z.1) (λ i. (sym (same_own q ne) i, sym (same_now q ne) i)) (sound q lq))
 
-  told_each : (q : ℕ) (t : Told) → registers.told n w q t → registers.told n w' q t
-  told_each q t h = dite (ℕ_discrete q p)
-      (λ same. subst (λ (z : ℕ). registers.told n w' z t) (sym same) (told_here t (told_on _ _ _ _ t d.grows (subst (λ (z : ℕ). IsTrueTold (own_of w.memory w.hidden z) (w.situation z) t) same h.1))))
-      (λ ne. (h.0, subst (λ (z : Own × Doing). IsTrueTold z.0 z.1 t) (λ i. (sym (same_own q ne) i, sym (same_now q ne) i)) h.1))
+  answered_each : (q : ℕ) (t : Response) → registers.responses n w q t → registers.responses n w' q t
+  answered_each q t h = dite (ℕ_discrete q p)
+      (λ same. subst (λ (z : ℕ). registers.responses n w' z t) (sym same) (answered_here t (answered_on _ _ _ _ t d.grows (subst (λ (z : ℕ). IsTrueResponse (own_of w.memory w.hidden z) (w.situation z) t) same h.1))))
+      (λ ne. (h.0, subst (λ (z : Own × Doing). IsTrueResponse z.0 z.1 t) (λ i. (sym (same_own q ne) i, sym (same_now q ne) i)) h.1))
 
   pub stepped : GoesTelling registers n w w' p says
-  stepped = record { sound = well_each; keeps = told_each; tells = λ t inside. told_here t (d.tells t inside) }
+  stepped = record { sound = well_each; keeps = answered_each; tells = λ t inside. answered_here t (d.tells t inside) }
 
 -- ---- what each access does
 

@@ -8,8 +8,8 @@ use Rattle.pm_registers.specs.declared.calls.WriteStage.TheVariants as write
 use Rattle.pm_registers.specs.declared.calls.RecoverCall.{RecoverCall}
 use Rattle.pm_registers.specs.declared.calls.RecoverStage.{RecoverStage}
 use Rattle.pm_registers.specs.declared.calls.RecoverStage.TheVariants as recover
-use Rattle.pm_registers.specs.declared.calls.Told.{Told}
-use Rattle.pm_registers.specs.declared.calls.Told.TheVariants.{Recalled}
+use Rattle.pm_registers.specs.declared.calls.Response.{Response}
+use Rattle.pm_registers.specs.declared.calls.Response.TheVariants.{Recalled}
 
 -- the access of each stage of a write of this value by process p
 abbrev pub write_access_at : ℕ → ℕ → WriteStage → Access ℕ
@@ -70,5 +70,5 @@ abbrev pub recover_next : RecoverCall → ℕ → RecoverCall
 recover_next c word = record c { stage = recover_stage c.stage word }
 
 -- what a recovery answers that read this announcement and this head
-abbrev pub recalled : ℕ → ℕ → Told
+abbrev pub recalled : ℕ → ℕ → Response
 recalled last head = Recalled last (head == last)

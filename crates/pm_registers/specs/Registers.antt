@@ -15,8 +15,8 @@ use Rattle.pm_registers.specs.declared.calls.RecoverStage.{RecoverStage}
 use Rattle.pm_registers.specs.declared.calls.RecoverStage.TheVariants as recover
 use Rattle.pm_registers.specs.declared.calls.Doing.{Doing}
 use Rattle.pm_registers.specs.declared.calls.Doing.TheVariants.{Idle, Writing, Recovering, Stopped}
-use Rattle.pm_registers.specs.declared.calls.Told.{Told}
-use Rattle.pm_registers.specs.declared.calls.Told.TheVariants.{Wrote, Recalled}
+use Rattle.pm_registers.specs.declared.calls.Response.{Response}
+use Rattle.pm_registers.specs.declared.calls.Response.TheVariants.{Wrote, Recalled}
 
 -- what a register has: both sides of its two words, the buffer of its process, and the values that it had which no
 -- crash took back
@@ -76,7 +76,7 @@ Knows p o Stopped = o.buffer ≡ []
 pub record IsWell (p : ℕ) (o : Own) (now : Doing) : Type 0 where
   pub announced : o.announced_kept ≤ o.announced
   pub head : o.head_kept ≤ o.head
-  pub behind : o.head ≤ o.announced_kept
+  pub witness : o.head ≤ o.announced_kept
   pub has : In o.had o.head
   pub has_kept : In o.had o.head_kept
   pub most : (v : ℕ) → In o.had v → v ≤ o.head
@@ -93,10 +93,10 @@ LeavesOut v (Writing c) = c.value ≢ v
 LeavesOut v _ = Unit {0}
 
 -- an answer is true, for good: the value is one that the register had, and its head is persisted up to there; or it is none, and will not be one
-abbrev pub IsTrueTold : Own → Doing → Told → Type 0
-IsTrueTold o now (Wrote v) = In o.had v × (v ≤ o.head_kept)
-IsTrueTold o now (Recalled v true) = In o.had v × (v ≤ o.head_kept)
-IsTrueTold o now (Recalled v false) = (In o.had v → ⊥) × (v ≤ o.announced_kept) × LeavesOut v now
+abbrev pub IsTrueResponse : Own → Doing → Response → Type 0
+IsTrueResponse o now (Wrote v) = In o.had v × (v ≤ o.head_kept)
+IsTrueResponse o now (Recalled v true) = In o.had v × (v ≤ o.head_kept)
+IsTrueResponse o now (Recalled v false) = (In o.had v → ⊥) × (v ≤ o.announced_kept) × LeavesOut v now
 
 -- what a process does in a write, and after it; and what it is answered at its last step
 abbrev pub write_doing : WriteCall → WriteStage → Doing
@@ -104,7 +104,7 @@ write_doing c write.Done = Idle c.value
 write_doing c stage = Writing (record c { stage = stage })
 
 -- what the process is answered at the last step of a write
-abbrev pub write_says : WriteCall → WriteStage → List Told
+abbrev pub write_says : WriteCall → WriteStage → List Response
 write_says c write.Done = Wrote c.value ∷ []
 write_says c _ = []
 
@@ -130,7 +130,7 @@ MayWrite (Idle last) c = (last < c.value) × (c.stage ≡ write.StoreAnnounce)
 MayWrite _ c = ⊥
 
 -- the writes of registers, as calls
-abbrev pub writes : Calls ℕ Doing Told WriteCall ℕ
+abbrev pub writes : Calls ℕ Doing Response WriteCall ℕ
 writes = record {
   process = λ c. c.process;
   begins = λ n now c. MayWrite now c;
@@ -150,7 +150,7 @@ recover_doing c (recover.Done last head) = Idle last
 recover_doing c stage = Recovering (record c { stage = stage })
 
 -- what it is answered at the last step
-abbrev pub recover_says : RecoverStage → List Told
+abbrev pub recover_says : RecoverStage → List Response
 recover_says (recover.Done last head) = recalled last head ∷ []
 recover_says _ = []
 
@@ -175,7 +175,7 @@ MayRecover Stopped c = c.stage ≡ recover.LoadAnnounce
 MayRecover _ c = ⊥
 
 -- the recoveries of registers, as calls
-abbrev pub recoveries : Calls ℕ Doing Told RecoverCall Told
+abbrev pub recoveries : Calls ℕ Doing Response RecoverCall Response
 recoveries = record {
   process = λ c. c.process;
   begins = λ n now c. MayRecover now c;
@@ -207,7 +207,7 @@ had_then w _ = w.hidden
 
 -- the structure of n registers: a process has one. Hidden are the values that each had which no crash took back, the
 -- last one first
-abbrev pub registers : Structure ℕ Doing Told
+abbrev pub registers : Structure ℕ Doing Response
 registers = record {
   Hidden = ℕ → List ℕ;
   words = λ n. 2 * n;
@@ -221,5 +221,5 @@ registers = record {
   first_hidden = λ n p. 0 ∷ [];
   hidden_after = λ n w event memory. had_then w event;
   sound = λ n w. (p : ℕ) → p < n → IsWell p (own_of w.memory w.hidden p) (w.situation p);
-  told = λ n w p t. (p < n) × IsTrueTold (own_of w.memory w.hidden p) (w.situation p) t;
+  is_right = λ n w p t. (p < n) × IsTrueResponse (own_of w.memory w.hidden p) (w.situation p) t;
 }

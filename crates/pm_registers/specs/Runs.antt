@@ -10,19 +10,19 @@ use Rattle.pm_registers.specs.declared.calls.WriteCall.{WriteCall}
 use Rattle.pm_registers.specs.declared.calls.WriteStage.TheVariants as write
 use Rattle.pm_registers.specs.declared.calls.Doing.{Doing}
 use Rattle.pm_registers.specs.declared.calls.Doing.TheVariants.{Writing}
-use Rattle.pm_registers.specs.declared.calls.Told.{Told}
-use Rattle.pm_registers.specs.declared.calls.Told.TheVariants.{Wrote, Recalled}
+use Rattle.pm_registers.specs.declared.calls.Response.{Response}
+use Rattle.pm_registers.specs.declared.calls.Response.TheVariants.{Wrote, Recalled}
 
 -- what was answered is true: a value that was written is one that the register has had, and so is one that a recovery
 -- recalled, exactly where it said so
-abbrev pub IsTrueOf : World Doing (ℕ → List ℕ) → ℕ → Told → Type 0
+abbrev pub IsTrueOf : World Doing (ℕ → List ℕ) → ℕ → Response → Type 0
 IsTrueOf w p (Wrote v) = In (w.hidden p) v
 IsTrueOf w p (Recalled v had) = IsTrue had ↔ In (w.hidden p) v
 
 -- whatever happens to n new registers, what a process was answered is true from then on
 abbrev pub RunsTellTheTruth : ℕ → Type 0
-RunsTellTheTruth n = (first last : World Doing (ℕ → List ℕ)) (hs : List (Happened registers n)) (p : ℕ) (t : Told) → IsNew registers n first → Run registers n first hs last
-    → In (deeds_by p (history_of registers n hs)) (deed.Told t) → IsTrueOf last p t
+RunsTellTheTruth n = (first last : World Doing (ℕ → List ℕ)) (hs : List (Happened registers n)) (p : ℕ) (t : Response) → IsNew registers n first → Run registers n first hs last
+    → In (deeds_by p (history_of registers n hs)) (deed.Response t) → IsTrueOf last p t
 
 -- ---- linearization points
 
@@ -67,4 +67,4 @@ pub record TookEffect (n : ℕ) (hs : List (Happened registers n)) (p v : ℕ) :
 -- each write that is answered took effect between its begin and its answer
 abbrev pub WritesLinearize : ℕ → Type 0
 WritesLinearize n = (first last : World Doing (ℕ → List ℕ)) (h : Happened registers n) (hs : List (Happened registers n)) (p v : ℕ) → IsNew registers n first → Run registers n first (h ∷ hs) last
-    → h.entry.event ≡ Step p → In h.entry.told (Wrote v) → TookEffect n hs p v
+    → h.entry.event ≡ Step p → In h.entry.responses (Wrote v) → TookEffect n hs p v

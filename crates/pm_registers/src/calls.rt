@@ -80,7 +80,7 @@ pub enum Doing {
 
 /// What a process is answered.
 #[derive(Clone, Copy, Debug, PartialEq, Eq)]
-pub enum Told {
+pub enum Response {
     /// Its register had the value, and no crash takes that back.
     Wrote(u64),
     /// The last value that it announced, and whether its register had it.
@@ -158,8 +158,8 @@ pub fn recover_got(call: &mut RecoverCall, word: u64)
 }
 
 /// What a recovery tells that read these words.
-pub fn recall(last: u64, head: u64) -> Told
+pub fn recall(last: u64, head: u64) -> Response
     ensures { result ≡ recalled last head }
 {
-    Told::Recalled(last, head == last)
+    Response::Recalled(last, head == last)
 }

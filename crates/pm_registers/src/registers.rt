@@ -1,7 +1,7 @@
 //! Registers as a structure on persistent words.
 
 use crate::calls::{
-    Doing, RecoverCall, RecoverStage, Told, WriteCall, WriteStage, recall, recover_got,
+    Doing, RecoverCall, RecoverStage, Response, WriteCall, WriteStage, recall, recover_got,
     recover_want, write_got, write_want,
 };
 use crate::laws::{recoveries_are_calls, registers_are_a_structure, writes_are_calls};
@@ -16,7 +16,7 @@ impl Structured for Registers {
 
     type Doing = Doing;
 
-    type Told = Told;
+    type Response = Response;
 
     ghost use Rattle.pm_registers.specs.Registers.{registers};
 
@@ -72,13 +72,13 @@ impl Machine<Registers> for WriteCall {
 }
 
 impl Machine<Registers> for RecoverCall {
-    type End = Told;
+    type End = Response;
 
     ghost use Rattle.pm_registers.specs.Registers.{recoveries};
 
     ghost calls = { recoveries };
 
-    fn turn(&self, key: &usize) -> Option<Told> {
+    fn turn(&self, key: &usize) -> Option<Response> {
         let _key = key;
         match self.stage {
             RecoverStage::Done(last, head) => Some(recall(last, head)),

@@ -5,7 +5,7 @@ use Rattle.atomic_table.specs.Table.{Me}
 use Rattle.pm_base.specs.declared.history.Deed.{Deed}
 use Rattle.pm_base.specs.declared.history.Deed.TheVariants as deed
 use Rattle.pm_board.specs.declared.board.View.{View}
-use Rattle.pm_board.specs.Machines.{told_so, Grows, Ran, still, steps, Breaks, Settles}
+use Rattle.pm_board.specs.Machines.{answered_so, Grows, Ran, still, steps, Breaks, Settles}
 use Rattle.pm_board.specs.Views.{deeds_at}
 use Rattle.pm_mark.specs.Marks.{mark, raises, raise_doing, raise_says, RaiseGoes, RaiseEnds}
 use Rattle.pm_mark.specs.declared.mark.Raise.{Raise}
@@ -36,7 +36,7 @@ ran_raise process value c us m (steps d ts n word ran go) =
     )
 
 -- how it ended, and what it answered
-ended : (c : Raise) (s : Stage) (up : Bool) → RaiseEnds s up → (raise_doing c s ≡ Idle) × (told_so {S = Doing} (raise_says c.value s) ≡ says_up c.value up)
+ended : (c : Raise) (s : Stage) (up : Bool) → RaiseEnds s up → (raise_doing c s ≡ Idle) × (answered_so {S = Doing} (raise_says c.value s) ≡ says_up c.value up)
 ended c stage.Done up is = (refl, ap (says_up c.value) (sym is))
 ended c stage.Lost up is = (refl, ap (says_up c.value) (sym is))
 ended c stage.Load up is = absurd is
@@ -46,11 +46,11 @@ ended c stage.Back up is = absurd is
 
 pub raised : (n process value : ℕ) (old me : Me ℕ (View Doing ℕ)) (c : Raise) (up : Bool) (k : ℕ) → Settles mark raises n (first_raise process value) old me c up k → IsRaised old me process value up k
 raised n process value old me c up k h =
-    let r = ran_raise process value c h.is.told k h.is.ran in
+    let r = ran_raise process value c h.is.responses k h.is.ran in
     let e = ended c c.stage up h.ends in
-    let told : told_so {S = Doing} h.is.told ≡ says_up value up = ap (λ (l : List ℕ). told_so {S = Doing} l) r.2 ∙ (e.1 ∙ ap (λ (v : ℕ). says_up v up) r.1) in record {
+    let returned : answered_so {S = Doing} h.is.responses ≡ says_up value up = ap (λ (l : List ℕ). answered_so {S = Doing} l) r.2 ∙ (e.1 ∙ ap (λ (v : ℕ). says_up v up) r.1) in record {
       sits = sits_at me c.process process (raises.doing c) Idle h.buffer h.is.held _ h.is.at h.is.grows.seen r.0 e.0;
-      done = ap (λ d. d.done) (ap deeds_at h.is.at) ∙ (h.is.done ∙ ap (λ (l : List (Deed Doing ℕ)). l ++ (deed.Began (Raising (first_raise process value)) ∷ (deeds_at old).done)) told);
+      done = ap (λ d. d.done) (ap deeds_at h.is.at) ∙ (h.is.done ∙ ap (λ (l : List (Deed Doing ℕ)). l ++ (deed.Began (Raising (first_raise process value)) ∷ (deeds_at old).done)) returned);
       grows = subst (λ d. Grows process (deeds_at old) d k) (sym (ap deeds_at h.is.at)) h.is.grows;
       few = h.few;
     }
@@ -59,7 +59,7 @@ raised n process value old me c up k h =
 pub raise_out : (A B : ℕ → Type 0) (n process value : ℕ) (old me : Me ℕ (View Doing ℕ)) (c : Raise) (r : Option Bool) → RunsOne old process
     → MatchOption r ((k : ℕ) × A k × Breaks mark raises n (first_raise process value) old me c k) (λ end. (k : ℕ) × B k × Settles mark raises n (first_raise process value) old me c end k)
     → MatchOption r ((k : ℕ) × A k × RunsOne me process) (λ up. (k : ℕ) × B k × IsRaised old me process value up k)
-raise_out A B n process value old me c None runs h = (h.0, h.1, runs_on mark raises n (first_raise process value) old me c h.0 process runs (λ d ts x k m is. (ran_raise process value d is.told k is.ran).0) h.2)
+raise_out A B n process value old me c None runs h = (h.0, h.1, runs_on mark raises n (first_raise process value) old me c h.0 process runs (λ d ts x k m is. (ran_raise process value d is.responses k is.ran).0) h.2)
 raise_out A B n process value old me c (Some up) runs h = (h.0, h.1, raised n process value old me c up h.0 h.2)
 
 -- whatever came of it, the seat runs its process alone

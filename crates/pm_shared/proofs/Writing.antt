@@ -4,7 +4,7 @@ use Rattle.std.proofs.lemmas.List.{append-nil}
 use Rattle.atomic_table.specs.Table.{Me}
 use Rattle.pm_base.specs.declared.history.Deed.TheVariants as deed
 use Rattle.pm_board.specs.declared.board.View.{View}
-use Rattle.pm_board.specs.Machines.{told_so, Grows, Ran, still, steps, Breaks, Settles}
+use Rattle.pm_board.specs.Machines.{answered_so, Grows, Ran, still, steps, Breaks, Settles}
 use Rattle.pm_board.specs.Views.{deeds_at}
 use Rattle.pm_registers.specs.Calls.{recalled}
 use Rattle.pm_registers.specs.Registers.{registers, writes, recoveries, write_doing, write_says, WriteGoes, recover_doing, recover_says, RecoverGoes}
@@ -16,8 +16,8 @@ use Rattle.pm_registers.specs.declared.calls.RecoverStage.{RecoverStage}
 use Rattle.pm_registers.specs.declared.calls.RecoverStage.TheVariants as recover
 use Rattle.pm_registers.specs.declared.calls.Doing.{Doing}
 use Rattle.pm_registers.specs.declared.calls.Doing.TheVariants.{Idle, Writing, Recovering}
-use Rattle.pm_registers.specs.declared.calls.Told.{Told}
-use Rattle.pm_registers.specs.declared.calls.Told.TheVariants.{Wrote}
+use Rattle.pm_registers.specs.declared.calls.Response.{Response}
+use Rattle.pm_registers.specs.declared.calls.Response.TheVariants.{Wrote}
 use Rattle.pm_registers.specs.Runs.{first_write}
 use Rattle.pm_shared.specs.Writes.{first_recovery, last_of, IsWritten, IsRecovered}
 use Rattle.std.specs.Prelude.{Option, Some, None, MatchBool, MatchOption}
@@ -36,22 +36,22 @@ quiet_write c write.BackHead go = refl
 quiet_write c write.Done go = absurd go
 
 -- the process and the value stay, and nothing is answered before the end
-pub ran_write : (process value : ℕ) (c : WriteCall) (ts : List Told) (n : ℕ) → Ran writes (first_write process value) c ts n → (c.process ≡ process) × (c.value ≡ value) × (ts ≡ write_says c c.stage)
+pub ran_write : (process value : ℕ) (c : WriteCall) (ts : List Response) (n : ℕ) → Ran writes (first_write process value) c ts n → (c.process ≡ process) × (c.value ≡ value) × (ts ≡ write_says c c.stage)
 ran_write process value c ts n still = (refl, refl, refl)
 ran_write process value c us m (steps d ts n word ran go) =
     let r = ran_write process value d ts n ran in (
       r.0,
       r.1,
-      ap (λ (l : List Told). write_says (writes.next d word) (writes.next d word).stage ++ l) (r.2 ∙ quiet_write d d.stage go) ∙ append-nil (write_says (writes.next d word) (writes.next d word).stage),
+      ap (λ (l : List Response). write_says (writes.next d word) (writes.next d word).stage ++ l) (r.2 ∙ quiet_write d d.stage go) ∙ append-nil (write_says (writes.next d word) (writes.next d word).stage),
     )
 
-pub written : (n process value : ℕ) (old me : Me ℕ (View Doing Told)) (c : WriteCall) (end k : ℕ) → Settles registers writes n (first_write process value) old me c end k → IsWritten old me process value k
+pub written : (n process value : ℕ) (old me : Me ℕ (View Doing Response)) (c : WriteCall) (end k : ℕ) → Settles registers writes n (first_write process value) old me c end k → IsWritten old me process value k
 written n process value old me c end k h =
-    let r = ran_write process value c h.is.told k h.is.ran in
+    let r = ran_write process value c h.is.responses k h.is.ran in
     let does : writes.doing c ≡ Idle value = ap (write_doing c) h.ends.0 ∙ ap Idle r.1 in
-    let told : h.is.told ≡ Wrote value ∷ [] = r.2 ∙ (ap (write_says c) h.ends.0 ∙ ap (λ (v : ℕ). Wrote v ∷ []) r.1) in record {
+    let returned : h.is.responses ≡ Wrote value ∷ [] = r.2 ∙ (ap (write_says c) h.ends.0 ∙ ap (λ (v : ℕ). Wrote v ∷ []) r.1) in record {
       sits = sits_at me c.process process (writes.doing c) (Idle value) h.buffer h.is.held _ h.is.at h.is.grows.seen r.0 does;
-      done = ap (λ d. d.done) (ap deeds_at h.is.at) ∙ (h.is.done ∙ ap (λ (l : List Told). told_so l ++ (deed.Began (Writing (first_write process value)) ∷ (deeds_at old).done)) told);
+      done = ap (λ d. d.done) (ap deeds_at h.is.at) ∙ (h.is.done ∙ ap (λ (l : List Response). answered_so l ++ (deed.Began (Writing (first_write process value)) ∷ (deeds_at old).done)) returned);
       grows = subst (λ d. Grows process (deeds_at old) d k) (sym (ap deeds_at h.is.at)) h.is.grows;
       few = h.few;
     }
@@ -65,47 +65,47 @@ quiet_recovery (recover.FlushHead last head) go = refl
 quiet_recovery (recover.BackHead last head) go = refl
 quiet_recovery (recover.Done last head) go = absurd go
 
-pub ran_recovery : (process : ℕ) (c : RecoverCall) (ts : List Told) (n : ℕ) → Ran recoveries (first_recovery process) c ts n → (c.process ≡ process) × (ts ≡ recover_says c.stage)
+pub ran_recovery : (process : ℕ) (c : RecoverCall) (ts : List Response) (n : ℕ) → Ran recoveries (first_recovery process) c ts n → (c.process ≡ process) × (ts ≡ recover_says c.stage)
 ran_recovery process c ts n still = (refl, refl)
 ran_recovery process c us m (steps d ts n word ran go) =
     let r = ran_recovery process d ts n ran in (
       r.0,
-      ap (λ (l : List Told). recover_says (recoveries.next d word).stage ++ l) (r.1 ∙ quiet_recovery d.stage go) ∙ append-nil (recover_says (recoveries.next d word).stage),
+      ap (λ (l : List Response). recover_says (recoveries.next d word).stage ++ l) (r.1 ∙ quiet_recovery d.stage go) ∙ append-nil (recover_says (recoveries.next d word).stage),
     )
 
-pub recovered : (n process : ℕ) (old me : Me ℕ (View Doing Told)) (c : RecoverCall) (end : Told) (k : ℕ) → Settles registers recoveries n (first_recovery process) old me c end k → IsRecovered old me process end k
+pub recovered : (n process : ℕ) (old me : Me ℕ (View Doing Response)) (c : RecoverCall) (end : Response) (k : ℕ) → Settles registers recoveries n (first_recovery process) old me c end k → IsRecovered old me process end k
 recovered n process old me c end k h =
-    let r = ran_recovery process c h.is.told k h.is.ran in
+    let r = ran_recovery process c h.is.responses k h.is.ran in
     let last : ℕ = h.ends.0 in
     let head : ℕ = h.ends.1 in
     let at : c.stage ≡ recover.Done last head = h.ends.2 in
     let is : end ≡ recalled last head = h.ends.3 in
-    let does : recoveries.doing c ≡ Idle (last_of end) = ap (recover_doing c) at ∙ ap (λ (t : Told). Idle (last_of t)) (sym is) in
-    let told : h.is.told ≡ end ∷ [] = r.1 ∙ (ap recover_says at ∙ ap (λ (t : Told). t ∷ []) (sym is)) in record {
+    let does : recoveries.doing c ≡ Idle (last_of end) = ap (recover_doing c) at ∙ ap (λ (t : Response). Idle (last_of t)) (sym is) in
+    let returned : h.is.responses ≡ end ∷ [] = r.1 ∙ (ap recover_says at ∙ ap (λ (t : Response). t ∷ []) (sym is)) in record {
       sits = sits_at me c.process process (recoveries.doing c) (Idle (last_of end)) h.buffer h.is.held _ h.is.at h.is.grows.seen r.0 does;
-      done = ap (λ d. d.done) (ap deeds_at h.is.at) ∙ (h.is.done ∙ ap (λ (l : List Told). told_so l ++ (deed.Began (Recovering (first_recovery process)) ∷ (deeds_at old).done)) told);
+      done = ap (λ d. d.done) (ap deeds_at h.is.at) ∙ (h.is.done ∙ ap (λ (l : List Response). answered_so l ++ (deed.Began (Recovering (first_recovery process)) ∷ (deeds_at old).done)) returned);
       grows = subst (λ d. Grows process (deeds_at old) d k) (sym (ap deeds_at h.is.at)) h.is.grows;
       few = h.few;
     }
 
 -- how a write comes out, by what its fuse was asked
-pub write_out : (A B : ℕ → Type 0) (n process value : ℕ) (old me : Me ℕ (View Doing Told)) (c : WriteCall) (r : Option ℕ) → RunsOne old process
+pub write_out : (A B : ℕ → Type 0) (n process value : ℕ) (old me : Me ℕ (View Doing Response)) (c : WriteCall) (r : Option ℕ) → RunsOne old process
     → MatchOption r ((k : ℕ) × A k × Breaks registers writes n (first_write process value) old me c k) (λ end. (k : ℕ) × B k × Settles registers writes n (first_write process value) old me c end k)
     → MatchBool (is_some r) ((k : ℕ) × B k × IsWritten old me process value k) ((k : ℕ) × A k × RunsOne me process)
-write_out A B n process value old me c None runs h = (h.0, h.1, runs_on registers writes n (first_write process value) old me c h.0 process runs (λ d ts x k m is. (ran_write process value d is.told k is.ran).0) h.2)
+write_out A B n process value old me c None runs h = (h.0, h.1, runs_on registers writes n (first_write process value) old me c h.0 process runs (λ d ts x k m is. (ran_write process value d is.responses k is.ran).0) h.2)
 write_out A B n process value old me c (Some end) runs h = (h.0, h.1, written n process value old me c end h.0 h.2)
 
-pub recovery_out : (A B : ℕ → Type 0) (n process : ℕ) (old me : Me ℕ (View Doing Told)) (c : RecoverCall) (r : Option Told) → RunsOne old process
+pub recovery_out : (A B : ℕ → Type 0) (n process : ℕ) (old me : Me ℕ (View Doing Response)) (c : RecoverCall) (r : Option Response) → RunsOne old process
     → MatchOption r ((k : ℕ) × A k × Breaks registers recoveries n (first_recovery process) old me c k) (λ end. (k : ℕ) × B k × Settles registers recoveries n (first_recovery process) old me c end k)
     → MatchOption r ((k : ℕ) × A k × RunsOne me process) (λ t. (k : ℕ) × B k × IsRecovered old me process t k)
-recovery_out A B n process old me c None runs h = (h.0, h.1, runs_on registers recoveries n (first_recovery process) old me c h.0 process runs (λ d ts x k m is. (ran_recovery process d is.told k is.ran).0) h.2)
+recovery_out A B n process old me c None runs h = (h.0, h.1, runs_on registers recoveries n (first_recovery process) old me c h.0 process runs (λ d ts x k m is. (ran_recovery process d is.responses k is.ran).0) h.2)
 recovery_out A B n process old me c (Some t) runs h = (h.0, h.1, recovered n process old me c t h.0 h.2)
 
 -- whatever came of it, the seat runs its process alone
-pub write_runs : (A B : ℕ → Type 0) (old me : Me ℕ (View Doing Told)) (process value : ℕ) (b : Bool) → MatchBool b ((k : ℕ) × B k × IsWritten old me process value k) ((k : ℕ) × A k × RunsOne me process) → RunsOne me process
+pub write_runs : (A B : ℕ → Type 0) (old me : Me ℕ (View Doing Response)) (process value : ℕ) (b : Bool) → MatchBool b ((k : ℕ) × B k × IsWritten old me process value k) ((k : ℕ) × A k × RunsOne me process) → RunsOne me process
 write_runs A B old me process value true h = h.2.sits.runs
 write_runs A B old me process value false h = h.2
 
-pub recovery_runs : (A B : ℕ → Type 0) (old me : Me ℕ (View Doing Told)) (process : ℕ) (r : Option Told) → MatchOption r ((k : ℕ) × A k × RunsOne me process) (λ t. (k : ℕ) × B k × IsRecovered old me process t k) → RunsOne me process
+pub recovery_runs : (A B : ℕ → Type 0) (old me : Me ℕ (View Doing Response)) (process : ℕ) (r : Option Response) → MatchOption r ((k : ℕ) × A k × RunsOne me process) (λ t. (k : ℕ) × B k × IsRecovered old me process t k) → RunsOne me process
 recovery_runs A B old me process None h = h.2
 recovery_runs A B old me process (Some t) h = h.2.sits.runs

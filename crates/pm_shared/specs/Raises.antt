@@ -18,7 +18,7 @@ first_raise process value = record { process = process; value = value; stage = s
 
 -- what a raise tells that ended so: that the mark has reached the value, or nothing, where another process was faster
 abbrev pub says_up : ℕ → Bool → List (Deed Doing ℕ)
-says_up value true = deed.Told value ∷ []
+says_up value true = deed.Response value ∷ []
 says_up value false = []
 
 -- the process began the raise, and it ended so after n steps, at most 4; it did nothing else

@@ -10,8 +10,8 @@ use Rattle.pm_registers.specs.declared.calls.RecoverCall.{RecoverCall}
 use Rattle.pm_registers.specs.declared.calls.RecoverStage.TheVariants as recover
 use Rattle.pm_registers.specs.declared.calls.Doing.{Doing}
 use Rattle.pm_registers.specs.declared.calls.Doing.TheVariants.{Idle, Writing, Recovering}
-use Rattle.pm_registers.specs.declared.calls.Told.{Told}
-use Rattle.pm_registers.specs.declared.calls.Told.TheVariants.{Wrote, Recalled}
+use Rattle.pm_registers.specs.declared.calls.Response.{Response}
+use Rattle.pm_registers.specs.declared.calls.Response.TheVariants.{Wrote, Recalled}
 use Rattle.pm_board.specs.Views.{Sits}
 
 -- a recovery before its first step
@@ -20,20 +20,20 @@ first_recovery process = record { process = process; stage = recover.LoadAnnounc
 
 -- the process began the write, and was answered that it is done, after n steps, at most 7; it did nothing else, and all this
 -- stands in the history that it has seen since
-pub record IsWritten (old new : Me ℕ (View Doing Told)) (process value n : ℕ) : Type 0 where
+pub record IsWritten (old new : Me ℕ (View Doing Response)) (process value n : ℕ) : Type 0 where
   pub sits : Sits new process (Idle value)
-  pub done : (deeds_at new).done ≡ deed.Told (Wrote value) ∷ deed.Began (Writing (first_write process value)) ∷ (deeds_at old).done
+  pub done : (deeds_at new).done ≡ deed.Response (Wrote value) ∷ deed.Began (Writing (first_write process value)) ∷ (deeds_at old).done
   pub grows : Grows process (deeds_at old) (deeds_at new) n
   pub few : n ≤ 7
 
 -- the value of which a recovery tells
-abbrev pub last_of : Told → ℕ
+abbrev pub last_of : Response → ℕ
 last_of (Wrote v) = v
 last_of (Recalled v had) = v
 
 -- the process began a recovery, and was answered this, after n steps, at most 6; it did nothing else
-pub record IsRecovered (old new : Me ℕ (View Doing Told)) (process : ℕ) (told : Told) (n : ℕ) : Type 0 where
-  pub sits : Sits new process (Idle (last_of told))
-  pub done : (deeds_at new).done ≡ deed.Told told ∷ deed.Began (Recovering (first_recovery process)) ∷ (deeds_at old).done
+pub record IsRecovered (old new : Me ℕ (View Doing Response)) (process : ℕ) (returned : Response) (n : ℕ) : Type 0 where
+  pub sits : Sits new process (Idle (last_of returned))
+  pub done : (deeds_at new).done ≡ deed.Response returned ∷ deed.Began (Recovering (first_recovery process)) ∷ (deeds_at old).done
   pub grows : Grows process (deeds_at old) (deeds_at new) n
   pub few : n ≤ 6

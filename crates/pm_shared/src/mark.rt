@@ -6,7 +6,7 @@ ghost use Rattle.pm_mark.specs.declared.mark.Doing.TheVariants.{Idle};
 ghost use Rattle.pm_shared.specs.Raises.{IsRaised};
 ghost use Rattle.pm_board.specs.Views.{RunsOne, Sits};
 
-use pm_board::board::{Board, Place};
+use pm_board::board::{Board, TableSeat};
 use pm_board::drive::drive;
 use pm_board::fuse::Fuse;
 use pm_mark::mark::{Doing, Mark, Raise, Stage};
@@ -15,7 +15,7 @@ use pm_mark::mark::{Doing, Mark, Raise, Stage};
 /// broke the call off. A raise takes at most 4 steps.
 pub fn raise<F: Fuse>(
     board: &Board<Mark>,
-    place: &mut Place<Doing, u64>,
+    place: &mut TableSeat<Doing, u64>,
     process: usize,
     value: u64,
     fuse: &mut F,

@@ -6,17 +6,17 @@ ghost use Rattle.pm_registers.specs.declared.calls.Doing.TheVariants.{Idle};
 ghost use Rattle.pm_board.specs.Views.{RunsOne, Sits};
 ghost use Rattle.pm_shared.specs.Writes.{IsRecovered, IsWritten};
 
-use pm_board::board::{Board, Place};
+use pm_board::board::{Board, TableSeat};
 use pm_board::drive::drive;
 use pm_board::fuse::Fuse;
-use pm_registers::calls::{Doing, RecoverCall, RecoverStage, Told, WriteCall, WriteStage};
+use pm_registers::calls::{Doing, RecoverCall, RecoverStage, Response, WriteCall, WriteStage};
 use pm_registers::registers::Registers;
 
 /// A process writes to its register a value above the last one that it announced: whether it has, or was broken off by
 /// the fuse before. A write takes at most 7 steps.
 pub fn write<F: Fuse>(
     board: &Board<Registers>,
-    place: &mut Place<Doing, Told>,
+    place: &mut TableSeat<Doing, Response>,
     process: usize,
     last: u64,
     value: u64,
@@ -43,16 +43,16 @@ pub fn write<F: Fuse>(
 /// it. None where the fuse broke it off. A recovery takes at most 6 steps.
 pub fn recover<F: Fuse>(
     board: &Board<Registers>,
-    place: &mut Place<Doing, Told>,
+    place: &mut TableSeat<Doing, Response>,
     process: usize,
     fuse: &mut F,
-) -> Option<Told>
+) -> Option<Response>
     requires table { place.old.table_id ≡ board.now.table.shared.table_id }
     requires runs { RunsOne place.old.me process }
     requires low { (process < board.now.key) × (board.now.key < 2 ^ 32) }
     ensures table { place.new.table_id ≡ place.old.table_id }
     ensures runs { RunsOne place.new.me process }
-    ensures told { MatchOption result ((n : ℕ) × Asked F.said fuse.old fuse.new n 1 × RunsOne place.new.me process) (λ t. (n : ℕ) × Asked F.said fuse.old fuse.new n 0 × IsRecovered place.old.me place.new.me process t n) }
+    ensures returned { MatchOption result ((n : ℕ) × Asked F.said fuse.old fuse.new n 1 × RunsOne place.new.me process) (λ t. (n : ℕ) × Asked F.said fuse.old fuse.new n 0 × IsRecovered place.old.me place.new.me process t n) }
 {
     let mut call = RecoverCall {
         process,

@@ -8,10 +8,10 @@ use Rattle.pq.specs.Places.{Belongs, nodes}
 use Rattle.pq.specs.History.{History, Words, words_of, Spent}
 use Rattle.pq.specs.Sound.{IsSound}
 use Rattle.pq.specs.Knows.{Knows, EnqueueInTime, DequeueInTime, RecoverInTime, InTime, tail_place, head_place, buffer_at, entry}
-use Rattle.pq.specs.Queue.{LeavesOut, IsTrueTold}
+use Rattle.pq.specs.Queue.{LeavesOut, IsTrueResponse}
 use Rattle.pq.specs.declared.calls.Doing.{Doing}
 use Rattle.pq.specs.declared.calls.Doing.TheVariants.{Idle, Enqueueing, Dequeueing, Recovering, Stopped, Torn}
-use Rattle.pq.specs.declared.calls.Told.{Told}
+use Rattle.pq.specs.declared.calls.Response.{Response}
 use Rattle.pq.proofs.Logs.{Extends, extends_same}
 use Rattle.pq.proofs.Sides.{Persisted, persisted_same}
 use Rattle.pq.proofs.Later.{Later, later_persisted}
@@ -38,12 +38,12 @@ time_same most v v2 h g Torn tail head pos time = tt
 pub place_same : (f g : ℕ → ℕ) (a b : ℕ) → g ≡ f → b ≡ a → f a ≤ g b
 place_same f g a b e d = (let x : g b ≡ f a = (λ i. e i (d i)) in omega (arith, x))
 
-module _ (n : ℕ) (w : Queue) (p : ℕ) (m2 : Memory ℕ) (now : Doing) (says : List Told) (i : ℕ) (sound : IsSound (nodes n) (words_of w.memory) w.hidden)
+module _ (n : ℕ) (w : Queue) (p : ℕ) (m2 : Memory ℕ) (now : Doing) (says : List Response) (i : ℕ) (sound : IsSound (nodes n) (words_of w.memory) w.hidden)
     (apart : (q j : ℕ) → q ≢ p → Belongs q j → j ≢ i)
     (leaves : (j : ℕ) → Belongs p j → Spent (words_of w.memory).announce p j → LeavesOut j (w.situation p) → (j ≢ i) × LeavesOut j now) where
   -- no word changes
   pub stayed : ((r : ℕ) → m2.cached r ≡ w.memory.cached r) → ((r : ℕ) → m2.persisted r ≡ w.memory.persisted r) → ((q : ℕ) → q ≢ p → m2.buffer q ≡ w.memory.buffer q) → m2.buffer p ≡ buffer_at p now → Knows (words_of w.memory) w.hidden p now
-      → ((t : Told) → In says t → IsTrueTold (words_of w.memory) w.hidden p now t) → InTime (nodes n) (words_of w.memory) w.hidden now → Move n w p m2 now says w.hidden
+      → ((t : Response) → In says t → IsTrueResponse (words_of w.memory) w.hidden p now t) → InTime (nodes n) (words_of w.memory) w.hidden now → Move n w p m2 now says w.hidden
   stayed c k others mine knows tells time = record {
     operation = i;
     words = words_of w.memory;
@@ -62,15 +62,15 @@ module _ (n : ℕ) (w : Queue) (p : ℕ) (m2 : Memory ℕ) (now : Doing) (says :
   }
 
   -- a load, or a swap that misses
-  pub loaded : SameMemory w.memory m2 → w.memory.buffer p ≡ buffer_at p now → Knows (words_of w.memory) w.hidden p now → ((t : Told) → In says t → IsTrueTold (words_of w.memory) w.hidden p now t) → InTime (nodes n) (words_of w.memory) w.hidden now → Move n w p m2 now says w.hidden
+  pub loaded : SameMemory w.memory m2 → w.memory.buffer p ≡ buffer_at p now → Knows (words_of w.memory) w.hidden p now → ((t : Response) → In says t → IsTrueResponse (words_of w.memory) w.hidden p now t) → InTime (nodes n) (words_of w.memory) w.hidden now → Move n w p m2 now says w.hidden
   loaded s mine knows tells time = stayed s.cached s.persisted (λ q ne. s.buffer q) (s.buffer p ∙ mine) knows tells time
 
-  pub flushed : (place : ℕ) → FlushesAt p place Owned w.memory m2 → m2.buffer p ≡ buffer_at p now → Knows (words_of w.memory) w.hidden p now → ((t : Told) → In says t → IsTrueTold (words_of w.memory) w.hidden p now t) → InTime (nodes n) (words_of w.memory) w.hidden now → Move n w p m2 now says w.hidden
+  pub flushed : (place : ℕ) → FlushesAt p place Owned w.memory m2 → m2.buffer p ≡ buffer_at p now → Knows (words_of w.memory) w.hidden p now → ((t : Response) → In says t → IsTrueResponse (words_of w.memory) w.hidden p now t) → InTime (nodes n) (words_of w.memory) w.hidden now → Move n w p m2 now says w.hidden
   flushed place s mine knows tells time = stayed s.cached s.persisted s.others mine knows tells time
 
   -- a word is written back, and perhaps more of the logs is persisted
   pub backed : (place u : ℕ) (g : History) → WritesBack p (entry place u) [] w.memory m2 → Persisted (words_of w.memory) (words_of m2) → IsSound (nodes n) (words_of m2) g → Extends w.hidden.links g.links i → Extends w.hidden.claims g.claims i → g.value ≡ w.hidden.value → g.empty ≡ w.hidden.empty
-      → [] ≡ buffer_at p now → Knows (words_of m2) g p now → ((t : Told) → In says t → IsTrueTold (words_of m2) g p now t) → g.links.pos ≡ w.hidden.links.pos → InTime (nodes n) (words_of w.memory) w.hidden now → Move n w p m2 now says g
+      → [] ≡ buffer_at p now → Knows (words_of m2) g p now → ((t : Response) → In says t → IsTrueResponse (words_of m2) g p now t) → g.links.pos ≡ w.hidden.links.pos → InTime (nodes n) (words_of w.memory) w.hidden now → Move n w p m2 now says g
   backed place u g s e sound2 l c val em mine knows tells pos time = record {
     operation = i;
     words = words_of m2;
@@ -90,7 +90,7 @@ module _ (n : ℕ) (w : Queue) (p : ℕ) (m2 : Memory ℕ) (now : Doing) (says :
 
   -- a word is stored to
   pub put_to : (place u : ℕ) (words : Words) (g : History) → StoresAt place u w.memory m2 → words_of m2 ≡ words → IsSound (nodes n) words g → Later i p (words_of w.memory) w.hidden words g
-      → w.memory.buffer p ≡ buffer_at p now → Knows words g p now → ((t : Told) → In says t → IsTrueTold words g p now t) → InTime (nodes n) words g now → tail_place (words_of w.memory) w.hidden ≤ tail_place words g → head_place (words_of w.memory) w.hidden ≤ head_place words g → Move n w p m2 now says g
+      → w.memory.buffer p ≡ buffer_at p now → Knows words g p now → ((t : Response) → In says t → IsTrueResponse words g p now t) → InTime (nodes n) words g now → tail_place (words_of w.memory) w.hidden ≤ tail_place words g → head_place (words_of w.memory) w.hidden ≤ head_place words g → Move n w p m2 now says g
   put_to place u words g s is sound2 later mine knows tells time tails heads = record {
     operation = i;
     words = words;

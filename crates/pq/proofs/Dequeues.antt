@@ -11,7 +11,7 @@ use Rattle.pq.specs.Calls.{dequeue_access_at, dequeue_stage, dequeue_turns, Dequ
 use Rattle.pq.specs.History.{History, Has, HasKept, kept_to, marked_to, claiming, emptying, with_links, with_claims, Side, Words, words_of, Both, Spent, Fresh}
 use Rattle.pq.specs.Sound.{IsSound}
 use Rattle.pq.specs.Knows.{IsNode, IsLink, IsClaim, IsTaken, IsUnclaimed, IsOwn, KnowsDequeue, Knows, DequeueInTime, InTime, head_place, buffer_at, dequeue_buffer, entry}
-use Rattle.pq.specs.Queue.{LeavesOut, IsTrueTold, dequeue_then, step_then, DequeueEnds, dequeue_doing, dequeue_says, MayDequeue, dequeues, queue}
+use Rattle.pq.specs.Queue.{LeavesOut, IsTrueResponse, dequeue_then, step_then, DequeueEnds, dequeue_doing, dequeue_says, MayDequeue, dequeues, queue}
 use Rattle.pq.specs.declared.places.TheConstants.{MOST_NODES, EMPTY}
 use Rattle.pq.specs.declared.dequeue.Dequeue.{Dequeue}
 use Rattle.pq.specs.declared.dequeue.DequeueStage.{DequeueStage}
@@ -19,7 +19,7 @@ use Rattle.pq.specs.declared.dequeue.DequeueStage.TheVariants as dequeue
 use Rattle.pq.specs.declared.calls.Doing.{Doing}
 use Rattle.pq.specs.declared.calls.Doing.TheVariants.{Idle, Enqueueing, Dequeueing, Recovering, Stopped, Torn}
 use Rattle.pq.specs.declared.calls.Ended.{Ended}
-use Rattle.pq.specs.declared.calls.Told.{Told}
+use Rattle.pq.specs.declared.calls.Response.{Response}
 use Rattle.pq.proofs.Numbers.{one_process, belongs_above, belongs_below, half_odd}
 use Rattle.pq.proofs.Logs.{log_fits, place_of, has_at, kept_has, kept_at, node_at, pos_is, one_place, Extends, extends_same, extends_kept, extends_marked, extends_added}
 use Rattle.pq.proofs.Sides.{stored, both_stored, Persisted}
@@ -169,7 +169,7 @@ module _ (n : ℕ) (w : Queue) (p i t : ℕ) (m2 : Memory ℕ) (answer : ℕ) (f
 
   -- the head is moved, or another process moved it
   head_moves : (a y d : ℕ) (s2 : DequeueStage) (u : ℕ) → w.situation p ≡ Dequeueing (call p i t (dequeue.SwapHead a y d)) → KnowsDequeue v h p i (dequeue.SwapHead a y d) → Performs (queue.class_in n) (dequeue_access_at p i (dequeue.SwapHead a y d)) p m m2 answer
-      → m.buffer p ≡ buffer_at p (dequeue_doing (call p i u s2) s2) → ((z : Words) → z.announce ≡ v.announce → z.result ≡ v.result → Knows z h p (dequeue_doing (call p i u s2) s2)) → ((z : Words) (told : Told) → In (dequeue_says (call p i u s2) s2) told → IsTrueTold z h p (dequeue_doing (call p i u s2) s2) told) → h.links.pos a ≤ head_place v h → ((z : Words) → suc (h.links.pos a) ≤ head_place z h → InTime most z h (dequeue_doing (call p i u s2) s2)) → Reaches u s2 h
+      → m.buffer p ≡ buffer_at p (dequeue_doing (call p i u s2) s2) → ((z : Words) → z.announce ≡ v.announce → z.result ≡ v.result → Knows z h p (dequeue_doing (call p i u s2) s2)) → ((z : Words) (returned : Response) → In (dequeue_says (call p i u s2) s2) returned → IsTrueResponse z h p (dequeue_doing (call p i u s2) s2) returned) → h.links.pos a ≤ head_place v h → ((z : Words) → suc (h.links.pos a) ≤ head_place z h → InTime most z h (dequeue_doing (call p i u s2) s2)) → Reaches u s2 h
   head_moves a y d s2 u at k perf free knows tells reached time = elim perf.1 [
     | inl hit ↦ put_to n w p m2 _ _ i sound apart (leaves (dequeue.SwapHead a y d) at u s2) _ _ (record v { head = stored v.head 0 y }) h hit.1 (head_stored m m2 0 y hit.1)
         (sound_head most v h (suc (h.links.pos a)) y sound (let b = k.3.within in omega (arith, b)) (sym k.3.link))
@@ -240,8 +240,8 @@ module _ (n : ℕ) (w : Queue) (p i t : ℕ) (m2 : Memory ℕ) (answer : ℕ) (f
       let found = says_empty n v h i few sound below k.1 in
       let k2 = kept_knowledge h dequeue.BackEmpty e (extends_same h.links 0) (extends_same h.claims 0) refl refl k in
       backed n w p m2 _ _ i sound apart (leaves dequeue.BackEmpty at t dequeue.DoneEmpty) _ EMPTY h b e (sound_persisted most v (words_of m2) h sound e) (extends_same h.links i) (extends_same h.claims i) refl refl refl
-      k2.0 (λ told inside. elim inside [
-        | inl said ↦ subst (IsTrueTold (words_of m2) h p (Idle (2 * i + 1))) said (record { none = found.0; mine = mine; spent = spent_by (words_of m2) p i (2 * i + 1) (omega arith) k2.0; leaves = tt }, found.1, (k2.1, b.there))
+      k2.0 (λ returned inside. elim inside [
+        | inl said ↦ subst (IsTrueResponse (words_of m2) h p (Idle (2 * i + 1))) said (record { none = found.0; mine = mine; spent = spent_by (words_of m2) p i (2 * i + 1) (omega arith) k2.0; leaves = tt }, found.1, (k2.1, b.there))
         | inr none ↦ absurd none
       ]) refl time
   moves (dequeue.FlushNext a y) at go k time free perf =
@@ -321,7 +321,7 @@ module _ (n : ℕ) (w : Queue) (p i t : ℕ) (m2 : Memory ℕ) (answer : ℕ) (f
       let pos : h.claims.pos i ≡ suc (h.links.pos a) = pos_is most h.claims (suc (h.links.pos a)) i sound.claims (omega (arith, lw, c1, c2)) claim in
       let taken : IsTaken h i y = record { kept = kept; node = ap h.links.at pos ∙ k.3.link } in
       subst (λ (s : DequeueStage). Reaches (dequeue_turns (dequeue.SwapHead a y d) t) s h) (if_true (d == i) (dequeue.LoadValue y) (if t == 0 then dequeue.Torn else dequeue.LoadHead) (eq-eqb d i own))
-      (head_moves a y d (dequeue.LoadValue y) (dequeue_turns (dequeue.SwapHead a y d) t) at k perf free (λ z an re. (refl, mine, (subst (λ (s : Side). Both s p (2 * i + 1)) (sym an) k.0, taken))) (λ z told none. absurd none) time.reached (λ z up. tt)))
+      (head_moves a y d (dequeue.LoadValue y) (dequeue_turns (dequeue.SwapHead a y d) t) at k perf free (λ z an re. (refl, mine, (subst (λ (s : Side). Both s p (2 * i + 1)) (sym an) k.0, taken))) (λ z returned none. absurd none) time.reached (λ z up. tt)))
       (λ ne.
       let clear : IsUnclaimed v h i = elim k.1 [
         | inl same ↦ absurd (ne same)
@@ -330,7 +330,7 @@ module _ (n : ℕ) (w : Queue) (p i t : ℕ) (m2 : Memory ℕ) (answer : ℕ) (f
       subst (λ (s : DequeueStage). Reaches (dequeue_turns (dequeue.SwapHead a y d) t) s h) (if_false (d == i) (dequeue.LoadValue y) (if t == 0 then dequeue.Torn else dequeue.LoadHead) (ne_eqb d i ne)) (dite (ℕ_discrete t 0)
       (λ over. absurd (let x = time.enough in let c1 = k.3.within in let c2 = marked_links in let c3 = log_fits most h.links sound.links in omega (arith, x, over, c1, c2, c3)))
       (λ more. subst (λ (s : DequeueStage). Reaches (dequeue_turns (dequeue.SwapHead a y d) t) s h) (if_false (t == 0) dequeue.Torn dequeue.LoadHead (ne_eqb t 0 more))
-      (head_moves a y d dequeue.LoadHead (dequeue_turns (dequeue.SwapHead a y d) t) at k perf free (λ z an re. (refl, mine, (subst (λ (s : Side). Both s p (2 * i + 1)) (sym an) k.0, record { claims = clear.claims; result = subst (λ (s : Side). Both s i 0) (sym re) clear.result }))) (λ z told none2. absurd none2) time.reached (λ z up. (let x = time.enough in omega (arith, x, up, more)))))))
+      (head_moves a y d dequeue.LoadHead (dequeue_turns (dequeue.SwapHead a y d) t) at k perf free (λ z an re. (refl, mine, (subst (λ (s : Side). Both s p (2 * i + 1)) (sym an) k.0, record { claims = clear.claims; result = subst (λ (s : Side). Both s i 0) (sym re) clear.result }))) (λ z returned none2. absurd none2) time.reached (λ z up. (let x = time.enough in omega (arith, x, up, more)))))))
   moves (dequeue.LoadValue y) at go k time free perf =
       let kept = k.1.kept in
       let r = place_of h.claims i (kept_has most h.claims i sound.claims kept) in
@@ -338,8 +338,8 @@ module _ (n : ℕ) (w : Queue) (p i t : ℕ) (m2 : Memory ℕ) (answer : ℕ) (f
       let cl = claims_links in
       let node : h.links.at (suc r.0) ≡ y = ap h.links.at (sym r.3) ∙ k.1.node in
       let both : Both v.value y (h.value y) = subst (λ (z : ℕ). Both v.value z (h.value z)) node (sound.value r.0 (omega (arith, under, cl))) in
-      loaded n w p m2 _ _ i sound apart (leaves (dequeue.LoadValue y) at t (dequeue.Done answer)) perf.1 free k.0 (λ told inside. elim inside [
-        | inl said ↦ subst (IsTrueTold v h p (Idle (2 * i + 1))) said (kept, ap h.value k.1.node ∙ (sym both.0 ∙ sym perf.0))
+      loaded n w p m2 _ _ i sound apart (leaves (dequeue.LoadValue y) at t (dequeue.Done answer)) perf.1 free k.0 (λ returned inside. elim inside [
+        | inl said ↦ subst (IsTrueResponse v h p (Idle (2 * i + 1))) said (kept, ap h.value k.1.node ∙ (sym both.0 ∙ sym perf.0))
         | inr none ↦ absurd none
       ]) time
   moves dequeue.DoneEmpty at go k time free perf = absurd go

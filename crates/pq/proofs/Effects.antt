@@ -242,7 +242,7 @@ enqueue_owns v h q now c k is =
 
 module _ (n p i : ℕ) (mine : Belongs p i) where
   -- the operation was linked before, with its value, or is linked by this event
-  links_by : (h : Happened queue n) (event : Event Doing) (w2 : Queue) → h.entry.event ≡ event → queue.sound n h.before → Moves queue n h.before event h.entry.told w2 → Has w2.hidden.links i → (Has h.before.hidden.links i × (w2.hidden.value i ≡ h.before.hidden.value i)) ⊎ LinksAt n h p i (w2.hidden.value i)
+  links_by : (h : Happened queue n) (event : Event Doing) (w2 : Queue) → h.entry.event ≡ event → queue.sound n h.before → Moves queue n h.before event h.entry.responses w2 → Has w2.hidden.links i → (Has h.before.hidden.links i × (w2.hidden.value i ≡ h.before.hidden.value i)) ⊎ LinksAt n h p i (w2.hidden.value i)
   links_by h (Begin q call) w2 at s m t = inl (subst (λ (z : Queue). Has z.hidden.links i) m.2 t, ap (λ (z : Queue). z.hidden.value i) m.2)
   links_by h (Evict r) w2 at s m t = inl (subst (λ (z : Queue). Has z.hidden.links i) m.2 t, ap (λ (z : Queue). z.hidden.value i) m.2)
   links_by h (Stop q) w2 at s m t = inl (subst (λ (z : Queue). Has z.hidden.links i) m.2 t, ap (λ (z : Queue). z.hidden.value i) m.2)
@@ -254,7 +254,7 @@ module _ (n p i : ℕ) (mine : Belongs p i) where
   links_by h (Step q) w2 at s m t =
       let v : Words = words_of h.before.memory in
       let old : History = h.before.hidden in
-      let d = queue_moves n h.before q m.access m.answer m.now h.entry.told w2.memory s m.low m.takes m.performs in
+      let d = queue_moves n h.before q m.access m.answer m.now h.entry.responses w2.memory s m.low m.takes m.performs in
       elim (step_links n v old q (h.before.situation q) i s.0 (s.1 q m.low).0 (subst (λ (z : Queue). Has z.hidden.links i) m.lands t)) [
         | inl has ↦ inl (has, ap (λ (z : Queue). z.hidden.value i) m.lands ∙ d.later.values i has)
         | inr new ↦ (
@@ -269,7 +269,7 @@ module _ (n p i : ℕ) (mine : Belongs p i) where
             }))
       ]
 
-  claims_by : (h : Happened queue n) (event : Event Doing) (w2 : Queue) → h.entry.event ≡ event → queue.sound n h.before → Moves queue n h.before event h.entry.told w2 → Has w2.hidden.claims i → Has h.before.hidden.claims i ⊎ ClaimsAt n h p i
+  claims_by : (h : Happened queue n) (event : Event Doing) (w2 : Queue) → h.entry.event ≡ event → queue.sound n h.before → Moves queue n h.before event h.entry.responses w2 → Has w2.hidden.claims i → Has h.before.hidden.claims i ⊎ ClaimsAt n h p i
   claims_by h (Begin q call) w2 at s m t = inl (subst (λ (z : Queue). Has z.hidden.claims i) m.2 t)
   claims_by h (Evict r) w2 at s m t = inl (subst (λ (z : Queue). Has z.hidden.claims i) m.2 t)
   claims_by h (Stop q) w2 at s m t = inl (subst (λ (z : Queue). Has z.hidden.claims i) m.2 t)

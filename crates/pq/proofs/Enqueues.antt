@@ -11,7 +11,7 @@ use Rattle.pq.specs.Calls.{enqueue_access_at, enqueue_stage, enqueue_turns, help
 use Rattle.pq.specs.History.{Log, History, Has, HasNot, HasKept, added, kept_to, marked_to, linking, with_links, Side, Words, words_of, Both, Spent, Fresh}
 use Rattle.pq.specs.Sound.{IsLog, IsSound}
 use Rattle.pq.specs.Knows.{IsNode, IsLink, IsReady, KnowsEnqueue, Knows, IsInTime, EnqueueInTime, InTime, tail_place, buffer_at, enqueue_buffer, entry}
-use Rattle.pq.specs.Queue.{LeavesOut, IsTrueTold, enqueue_then, step_then, EnqueueEnds, enqueue_doing, enqueue_says, MayEnqueue, enqueues, queue}
+use Rattle.pq.specs.Queue.{LeavesOut, IsTrueResponse, enqueue_then, step_then, EnqueueEnds, enqueue_doing, enqueue_says, MayEnqueue, enqueues, queue}
 use Rattle.pq.specs.declared.places.TheConstants.{MOST_NODES}
 use Rattle.pq.specs.declared.enqueue.Enqueue.{Enqueue}
 use Rattle.pq.specs.declared.enqueue.EnqueueStage.{EnqueueStage}
@@ -19,7 +19,7 @@ use Rattle.pq.specs.declared.enqueue.EnqueueStage.TheVariants as enqueue
 use Rattle.pq.specs.declared.calls.Doing.{Doing}
 use Rattle.pq.specs.declared.calls.Doing.TheVariants.{Idle, Enqueueing, Dequeueing, Recovering, Stopped, Torn}
 use Rattle.pq.specs.declared.calls.Ended.{Ended}
-use Rattle.pq.specs.declared.calls.Told.{Told}
+use Rattle.pq.specs.declared.calls.Response.{Response}
 use Rattle.pq.proofs.Numbers.{one_process, belongs_above, belongs_below, half_even}
 use Rattle.pq.proofs.Logs.{place_of, log_fits, kept_at, node_at, pos_is, Extends, extends_same, extends_kept, extends_marked, extends_added}
 use Rattle.pq.proofs.Sides.{stored, Persisted}
@@ -170,7 +170,7 @@ module _ (n : ℕ) (w : Queue) (p i x t : ℕ) (m2 : Memory ℕ) (answer : ℕ) 
 
   -- the tail is moved, or another process moved it
   tail_moves : (a y : ℕ) (s2 : EnqueueStage) (u : ℕ) → w.situation p ≡ Enqueueing (call p i x t (enqueue.SwapTail a y)) → KnowsEnqueue v h p i x (enqueue.SwapTail a y) → Performs (queue.class_in n) (enqueue_access_at p i x (enqueue.SwapTail a y)) p m m2 answer
-      → m.buffer p ≡ buffer_at p (enqueue_doing (call p i x u s2) s2) → ((z : Words) → IsReady z p i x → Knows z h p (enqueue_doing (call p i x u s2) s2)) → ((z : Words) (told : Told) → In (enqueue_says (call p i x u s2) s2) told → IsTrueTold z h p (enqueue_doing (call p i x u s2) s2) told) → h.links.pos a ≤ tail_place v h → ((z : Words) → suc (h.links.pos a) ≤ tail_place z h → InTime most z h (enqueue_doing (call p i x u s2) s2)) → Reaches u s2 h
+      → m.buffer p ≡ buffer_at p (enqueue_doing (call p i x u s2) s2) → ((z : Words) → IsReady z p i x → Knows z h p (enqueue_doing (call p i x u s2) s2)) → ((z : Words) (returned : Response) → In (enqueue_says (call p i x u s2) s2) returned → IsTrueResponse z h p (enqueue_doing (call p i x u s2) s2) returned) → h.links.pos a ≤ tail_place v h → ((z : Words) → suc (h.links.pos a) ≤ tail_place z h → InTime most z h (enqueue_doing (call p i x u s2) s2)) → Reaches u s2 h
   tail_moves a y s2 u at k perf free knows tells reached time = elim perf.1 [
     | inl hit ↦ put_to n w p m2 _ _ i sound apart (leaves (enqueue.SwapTail a y) at u s2) _ _ (record v { tail = stored v.tail 0 y }) h hit.1 (tail_stored m m2 0 y hit.1)
         (sound_tail most v h (suc (h.links.pos a)) y sound (let b = k.3.within in omega (arith, b)) (sym k.3.link))
@@ -292,8 +292,8 @@ module _ (n : ℕ) (w : Queue) (p i x t : ℕ) (m2 : Memory ℕ) (answer : ℕ) 
       let val : h.value i ≡ x = sym (subst (λ (z : ℕ). Both v.value z (h.value z)) link (sound.value (h.links.pos a) (omega (arith, lw, c1, c2)))).0 ∙ k.0.value.0 in
       subst (λ (s : EnqueueStage). Reaches (enqueue_turns (enqueue.SwapTail a y) t) s h) (if_true (y == i) enqueue.Done (if t == 0 then enqueue.Torn else enqueue.LoadTail) (eq-eqb y i own))
       (tail_moves a y enqueue.Done (enqueue_turns (enqueue.SwapTail a y) t) at k perf free (λ z r. r.announce)
-      (λ z told inside. elim inside [
-        | inl e ↦ subst (IsTrueTold z h p (Idle (2 * i))) e (kept, val)
+      (λ z returned inside. elim inside [
+        | inl e ↦ subst (IsTrueResponse z h p (Idle (2 * i))) e (kept, val)
         | inr none ↦ absurd none
       ]) time.reached (λ z up. tt)))
       (λ ne.
@@ -304,7 +304,7 @@ module _ (n : ℕ) (w : Queue) (p i x t : ℕ) (m2 : Memory ℕ) (answer : ℕ) 
       subst (λ (s : EnqueueStage). Reaches (enqueue_turns (enqueue.SwapTail a y) t) s h) (if_false (y == i) enqueue.Done (if t == 0 then enqueue.Torn else enqueue.LoadTail) (ne_eqb y i ne)) (dite (ℕ_discrete t 0)
       (λ over. absurd (let x = time.enough in let c1 = k.3.within in let c2 = le_trans sound.links.marks sound.links.keeps in let c3 = log_fits most h.links sound.links in omega (arith, x, over, c1, c2, c3)))
       (λ more. subst (λ (s : EnqueueStage). Reaches (enqueue_turns (enqueue.SwapTail a y) t) s h) (if_false (t == 0) enqueue.Torn enqueue.LoadTail (ne_eqb t 0 more))
-      (tail_moves a y enqueue.LoadTail (enqueue_turns (enqueue.SwapTail a y) t) at k perf free (λ z r. (refl, mine, (r, none))) (λ z told none2. absurd none2) time.reached (λ z up. (let x = time.enough in omega (arith, x, up, more)))))))
+      (tail_moves a y enqueue.LoadTail (enqueue_turns (enqueue.SwapTail a y) t) at k perf free (λ z r. (refl, mine, (r, none))) (λ z returned none2. absurd none2) time.reached (λ z up. (let x = time.enough in omega (arith, x, up, more)))))))
   moves enqueue.Done at go k time free perf = absurd go
   moves enqueue.Torn at go k time free perf = absurd go
 

@@ -8,7 +8,7 @@ use Rattle.pq.specs.Places.{Belongs}
 use Rattle.pq.specs.History.{Log, History, Has, HasNot, Side, Words, Both, Spent, Fresh}
 use Rattle.pq.specs.Sound.{IsSound}
 use Rattle.pq.specs.Knows.{IsNode, IsLink, IsMine, IsReady, KnowsEnqueue, IsUnclaimed, IsClaim, IsTaken, IsOwn, KnowsDequeue, IsSettled, IsPassed, KnowsRecovery, Knows, IsInTime, EnqueueInTime, DequeueInTime, RecoverInTime, InTime, tail_place, head_place}
-use Rattle.pq.specs.Queue.{LeavesOut, IsOut, IsTrueTold}
+use Rattle.pq.specs.Queue.{LeavesOut, IsOut, IsTrueResponse}
 use Rattle.pq.specs.declared.places.TheConstants.{EMPTY}
 use Rattle.pq.specs.declared.enqueue.EnqueueStage.{EnqueueStage}
 use Rattle.pq.specs.declared.enqueue.EnqueueStage.TheVariants as enqueue
@@ -18,8 +18,8 @@ use Rattle.pq.specs.declared.recover.RecoverStage.{RecoverStage}
 use Rattle.pq.specs.declared.recover.RecoverStage.TheVariants as recover
 use Rattle.pq.specs.declared.calls.Doing.{Doing}
 use Rattle.pq.specs.declared.calls.Doing.TheVariants.{Idle, Enqueueing, Dequeueing, Recovering, Stopped, Torn}
-use Rattle.pq.specs.declared.calls.Told.{Told}
-use Rattle.pq.specs.declared.calls.Told.TheVariants.{Enqueued, Got, Empty, WasEnqueued, NotEnqueued, NotDequeued}
+use Rattle.pq.specs.declared.calls.Response.{Response}
+use Rattle.pq.specs.declared.calls.Response.TheVariants.{Enqueued, Got, Empty, WasEnqueued, NotEnqueued, NotDequeued}
 use Rattle.pq.proofs.Numbers.{one_process}
 use Rattle.pq.proofs.Logs.{has_at, kept_has, Extends, kept_on, kept_pos, not_on, node_on, link_on, mine_on, settled_on, passed_on, one_place}
 use Rattle.pq.proofs.Sides.{stored, both_stored, spent_on, On, on_same, on_stored, both_on, fresh_on, Persisted}
@@ -447,9 +447,9 @@ module _ (most i p : ℕ) (w : Words) (h : History) (v : Words) (g : History) (s
   out_stays : (log new : Log) (q j : ℕ) (now now2 : Doing) → Extends log new i → j ≢ i → LeavesOut j now2 → IsOut w log q j now → IsOut v new q j now2
   out_stays log new q j now now2 x ne leaves n = record { none = not_on log new i j x ne n.none; mine = n.mine; spent = t.spent q j n.spent; leaves = leaves }
 
-  pub told_stays : (q : ℕ) (now now2 : Doing) (told : Told) → ((j : ℕ) → Belongs q j → Spent w.announce q j → LeavesOut j now → (j ≢ i) × LeavesOut j now2) → IsTrueTold w h q now told → IsTrueTold v g q now2 told
-  told_stays q now now2 (Enqueued j x) leaves n = (kept_on most h.links g.links i j s.links t.links n.0, t.values j (kept_has most h.links j s.links n.0) ∙ n.1)
-  told_stays q now now2 (Got j x) leaves n =
+  pub answered_stays : (q : ℕ) (now now2 : Doing) (returned : Response) → ((j : ℕ) → Belongs q j → Spent w.announce q j → LeavesOut j now → (j ≢ i) × LeavesOut j now2) → IsTrueResponse w h q now returned → IsTrueResponse v g q now2 returned
+  answered_stays q now now2 (Enqueued j x) leaves n = (kept_on most h.links g.links i j s.links t.links n.0, t.values j (kept_has most h.links j s.links n.0) ∙ n.1)
+  answered_stays q now now2 (Got j x) leaves n =
       let b = n.0.within in
       let a = n.0.above in
       let d = claims_kept_links in
@@ -457,7 +457,7 @@ module _ (most i p : ℕ) (w : Words) (h : History) (v : Words) (g : History) (s
       let back : h.links.pos (h.links.at (h.claims.pos j)) ≡ h.claims.pos j = s.links.inverse (h.claims.pos j) (le_trans b d) in
       let has : Has h.links (h.links.at (h.claims.pos j)) = record { there = ap h.links.at back; above = omega (arith, a, back); within = omega (arith, b, d, back) } in
       (kept_on most h.claims g.claims i j s.claims t.claims n.0, ap g.value at ∙ (t.values _ has ∙ n.1))
-  told_stays q now now2 (Empty j) leaves n = let l = leaves j n.0.mine n.0.spent n.0.leaves in (out_stays h.claims g.claims q j now now2 t.claims l.0 l.1 n.0, t.empty j n.1, t.results j EMPTY (λ z. omega (arith, z)) n.2)
-  told_stays q now now2 (WasEnqueued j) leaves n = kept_on most h.links g.links i j s.links t.links n
-  told_stays q now now2 (NotEnqueued j) leaves n = let l = leaves j n.mine n.spent n.leaves in out_stays h.links g.links q j now now2 t.links l.0 l.1 n
-  told_stays q now now2 (NotDequeued j) leaves n = let l = leaves j n.0.mine n.0.spent n.0.leaves in (out_stays h.claims g.claims q j now now2 t.claims l.0 l.1 n.0, t.unclaimed j l.0 n.0.none n.1)
+  answered_stays q now now2 (Empty j) leaves n = let l = leaves j n.0.mine n.0.spent n.0.leaves in (out_stays h.claims g.claims q j now now2 t.claims l.0 l.1 n.0, t.empty j n.1, t.results j EMPTY (λ z. omega (arith, z)) n.2)
+  answered_stays q now now2 (WasEnqueued j) leaves n = kept_on most h.links g.links i j s.links t.links n
+  answered_stays q now now2 (NotEnqueued j) leaves n = let l = leaves j n.mine n.spent n.leaves in out_stays h.links g.links q j now now2 t.links l.0 l.1 n
+  answered_stays q now now2 (NotDequeued j) leaves n = let l = leaves j n.0.mine n.0.spent n.0.leaves in (out_stays h.claims g.claims q j now now2 t.claims l.0 l.1 n.0, t.unclaimed j l.0 n.0.none n.1)

@@ -13,12 +13,12 @@ use Rattle.pq.specs.Places.{Belongs, nodes}
 use Rattle.pq.specs.History.{History, Words, side_of, words_of, Spent}
 use Rattle.pq.specs.Sound.{IsSound}
 use Rattle.pq.specs.Knows.{Knows, InTime, tail_place, head_place, buffer_at, entry}
-use Rattle.pq.specs.Queue.{LeavesOut, IsTrueTold, step_then, queue}
+use Rattle.pq.specs.Queue.{LeavesOut, IsTrueResponse, step_then, queue}
 use Rattle.pq.specs.declared.calls.Doing.{Doing}
-use Rattle.pq.specs.declared.calls.Told.{Told}
+use Rattle.pq.specs.declared.calls.Response.{Response}
 use Rattle.pq.proofs.Numbers.{kinds_apart, same_node}
 use Rattle.pq.proofs.Sides.{stored, Persisted}
-use Rattle.pq.proofs.Later.{Later, time_stays, knows_stays, told_stays}
+use Rattle.pq.proofs.Later.{Later, time_stays, knows_stays, answered_stays}
 
 -- ---- words
 
@@ -189,7 +189,7 @@ Queue = World Doing History
 abbrev pub moved : Queue → Memory ℕ → ℕ → Doing → History → Queue
 moved w memory p now history = record { memory = memory; situation = put w.situation p now; hidden = history }
 
-pub record Move (n : ℕ) (w : Queue) (p : ℕ) (m2 : Memory ℕ) (now : Doing) (says : List Told) (history : History) : Type 0 where
+pub record Move (n : ℕ) (w : Queue) (p : ℕ) (m2 : Memory ℕ) (now : Doing) (says : List Response) (history : History) : Type 0 where
   pub operation : ℕ
   pub words : Words
   pub is : words_of m2 ≡ words
@@ -203,9 +203,9 @@ pub record Move (n : ℕ) (w : Queue) (p : ℕ) (m2 : Memory ℕ) (now : Doing) 
   pub heads : head_place (words_of w.memory) w.hidden ≤ head_place words history
   pub apart : (q j : ℕ) → q ≢ p → Belongs q j → j ≢ operation
   pub leaves : (j : ℕ) → Belongs p j → Spent (words_of w.memory).announce p j → LeavesOut j (w.situation p) → (j ≢ operation) × LeavesOut j now
-  pub tells : (t : Told) → In says t → IsTrueTold words history p now t
+  pub tells : (t : Response) → In says t → IsTrueResponse words history p now t
 
-module _ (n : ℕ) (w : Queue) (p : ℕ) (m2 : Memory ℕ) (now : Doing) (says : List Told) (history : History) (sound : queue.sound n w) (low : p < n) (d : Move n w p m2 now says history) where
+module _ (n : ℕ) (w : Queue) (p : ℕ) (m2 : Memory ℕ) (now : Doing) (says : List Response) (history : History) (sound : queue.sound n w) (low : p < n) (d : Move n w p m2 now says history) where
   here_now : put w.situation p now p ≡ now
   here_now = put_here w.situation p now p refl
 
@@ -222,33 +222,33 @@ module _ (n : ℕ) (w : Queue) (p : ℕ) (m2 : Memory ℕ) (now : Doing) (says :
         time_stays (nodes n) d.operation p (words_of w.memory) w.hidden d.words history sound.0 d.later q ne (λ j b. d.apart q j ne b) (w.situation q) d.tails d.heads (sound.1 q lq).0 (sound.1 q lq).2,
       ))
 
-  told_each : (q : ℕ) (t : Told) → queue.told n w q t → queue.told n (moved w m2 p now history) q t
-  told_each q t h = (
+  answered_each : (q : ℕ) (t : Response) → queue.responses n w q t → queue.responses n (moved w m2 p now history) q t
+  answered_each q t h = (
     h.0,
-    subst (λ (z : Words). IsTrueTold z history q (put w.situation p now q) t) (sym d.is) (dite (ℕ_discrete q p)
-        (λ same. subst (λ (z : ℕ). IsTrueTold d.words history z (put w.situation p now z) t) (sym same)
-        (subst (λ (z : Doing). IsTrueTold d.words history p z t) (sym here_now)
-        (told_stays (nodes n) d.operation p (words_of w.memory) w.hidden d.words history sound.0 d.later p (w.situation p) now t d.leaves (subst (λ (z : ℕ). IsTrueTold (words_of w.memory) w.hidden z (w.situation z) t) same h.1))))
-        (λ ne. subst (λ (z : Doing). IsTrueTold d.words history q z t) (sym (same_now q ne))
-        (told_stays (nodes n) d.operation p (words_of w.memory) w.hidden d.words history sound.0 d.later q (w.situation q) (w.situation q) t (λ j b sp out. (d.apart q j ne b, out)) h.1))),
+    subst (λ (z : Words). IsTrueResponse z history q (put w.situation p now q) t) (sym d.is) (dite (ℕ_discrete q p)
+        (λ same. subst (λ (z : ℕ). IsTrueResponse d.words history z (put w.situation p now z) t) (sym same)
+        (subst (λ (z : Doing). IsTrueResponse d.words history p z t) (sym here_now)
+        (answered_stays (nodes n) d.operation p (words_of w.memory) w.hidden d.words history sound.0 d.later p (w.situation p) now t d.leaves (subst (λ (z : ℕ). IsTrueResponse (words_of w.memory) w.hidden z (w.situation z) t) same h.1))))
+        (λ ne. subst (λ (z : Doing). IsTrueResponse d.words history q z t) (sym (same_now q ne))
+        (answered_stays (nodes n) d.operation p (words_of w.memory) w.hidden d.words history sound.0 d.later q (w.situation q) (w.situation q) t (λ j b sp out. (d.apart q j ne b, out)) h.1))),
   )
 
   pub goes_on : GoesTelling queue n w (moved w m2 p now history) p says
   goes_on = record {
     sound = (subst (λ (z : Words). IsSound (nodes n) z history) (sym d.is) d.sound, knows_each);
-    keeps = told_each;
-    tells = λ t inside. (low, subst (λ (z : Words × Doing). IsTrueTold z.0 history p z.1 t) (λ i. (sym d.is i, sym here_now i)) (d.tells t inside));
+    keeps = answered_each;
+    tells = λ t inside. (low, subst (λ (z : Words × Doing). IsTrueResponse z.0 history p z.1 t) (λ i. (sym d.is i, sym here_now i)) (d.tells t inside));
   }
 
 -- each step of a call of this kind is a move
-abbrev pub KindMoves : {C E : Type 0} → ℕ → Calls ℕ Doing Told C E → Type 0
+abbrev pub KindMoves : {C E : Type 0} → ℕ → Calls ℕ Doing Response C E → Type 0
 KindMoves {C} n c = (w : Queue) (call : C) (m2 : Memory ℕ) (answer : ℕ) → queue.sound n w → c.process call < n → w.situation (c.process call) ≡ c.doing call → c.fits n call → c.goes call → Performs (queue.class_in n) (c.access n call) (c.process call) w.memory m2 answer
     → Move n w (c.process call) m2 (c.doing (c.next call answer)) (c.says (c.next call answer)) (step_then w.hidden (words_of w.memory) (w.situation (c.process call)))
 
-pub kind_moves : {C E : Type 0} (n : ℕ) (c : Calls ℕ Doing Told C E) → KindMoves n c → (w : Queue) (p : ℕ) (access : Access ℕ) (answer : ℕ) (now : Doing) (says : List Told) (m2 : Memory ℕ) → queue.sound n w → p < n
+pub kind_moves : {C E : Type 0} (n : ℕ) (c : Calls ℕ Doing Response C E) → KindMoves n c → (w : Queue) (p : ℕ) (access : Access ℕ) (answer : ℕ) (now : Doing) (says : List Response) (m2 : Memory ℕ) → queue.sound n w → p < n
     → StepsOf c n p (w.situation p) access answer now says → Performs (queue.class_in n) access p w.memory m2 answer → Move n w p m2 now says (step_then w.hidden (words_of w.memory) (w.situation p))
 kind_moves n c each w p access answer now says m2 sound low k performs =
     let low2 : c.process k.call < n = subst (λ (q : ℕ). q < n) (sym k.own) low in
     let at : w.situation (c.process k.call) ≡ c.doing k.call = ap w.situation k.own ∙ k.at in
     let does_so : Performs (queue.class_in n) (c.access n k.call) (c.process k.call) w.memory m2 answer = subst (λ (z : Access ℕ × ℕ). Performs (queue.class_in n) z.0 z.1 w.memory m2 answer) (λ i. (k.asks i, sym k.own i)) performs in
-    subst (λ (z : ℕ × Doing × List Told). Move n w z.0 m2 z.1 z.2 (step_then w.hidden (words_of w.memory) (w.situation z.0))) (λ i. (k.own i, sym k.lands i, sym k.tells i)) (each w k.call m2 answer sound low2 at k.fits k.goes does_so)
+    subst (λ (z : ℕ × Doing × List Response). Move n w z.0 m2 z.1 z.2 (step_then w.hidden (words_of w.memory) (w.situation z.0))) (λ i. (k.own i, sym k.lands i, sym k.tells i)) (each w k.call m2 answer sound low2 at k.fits k.goes does_so)

@@ -10,7 +10,7 @@ use Rattle.pq.specs.Calls.{recover_access_at, recover_stage, recover_turns, reco
 use Rattle.pq.specs.History.{Log, History, HasNot, HasKept, kept_to, with_links, with_claims, Words, words_of, Both, Spent}
 use Rattle.pq.specs.Sound.{IsLog, IsSound}
 use Rattle.pq.specs.Knows.{IsNode, IsLink, IsClaim, IsTaken, IsPassed, KnowsRecovery, Knows, RecoverInTime, InTime, buffer_at, recover_buffer, entry}
-use Rattle.pq.specs.Queue.{IsOut, LeavesOut, IsTrueTold, recover_then, step_then, RecoverEnds, recover_doing, recover_says, MayRecover, recoveries, queue}
+use Rattle.pq.specs.Queue.{IsOut, LeavesOut, IsTrueResponse, recover_then, step_then, RecoverEnds, recover_doing, recover_says, MayRecover, recoveries, queue}
 use Rattle.pq.specs.declared.places.TheConstants.{MOST_NODES, EMPTY}
 use Rattle.pq.specs.declared.recover.Recover.{Recover}
 use Rattle.pq.specs.declared.recover.RecoverStage.{RecoverStage}
@@ -19,8 +19,8 @@ use Rattle.pq.specs.declared.recover.Found.TheVariants as found
 use Rattle.pq.specs.declared.calls.Doing.{Doing}
 use Rattle.pq.specs.declared.calls.Doing.TheVariants.{Idle, Enqueueing, Dequeueing, Recovering, Stopped, Torn}
 use Rattle.pq.specs.declared.calls.Ended.{Ended}
-use Rattle.pq.specs.declared.calls.Told.{Told}
-use Rattle.pq.specs.declared.calls.Told.TheVariants.{Got, Empty, WasEnqueued, NotEnqueued, NotDequeued}
+use Rattle.pq.specs.declared.calls.Response.{Response}
+use Rattle.pq.specs.declared.calls.Response.TheVariants.{Got, Empty, WasEnqueued, NotEnqueued, NotDequeued}
 use Rattle.pq.proofs.Numbers.{belongs_above, belongs_below}
 use Rattle.pq.proofs.Logs.{log_fits, place_of, kept_has, kept_at, node_at, pos_is, at_real, one_place, Extends, extends_same, extends_kept}
 use Rattle.pq.proofs.Sides.{Persisted}
@@ -129,13 +129,13 @@ module _ (n : ℕ) (w : Queue) (p u t : ℕ) (m2 : Memory ℕ) (answer : ℕ) (f
   claims_links = le_trans sound.follows sound.links.keeps
 
   -- a step that changes no word
-  sees : (x y : ℕ) (s : RecoverStage) → SameMemory m m2 → m.buffer p ≡ buffer_at p (recover_doing (call p x y s) s) → Knows v h p (recover_doing (call p x y s) s) → ((told : Told) → In (recover_says (call p x y s) s) told → IsTrueTold v h p (recover_doing (call p x y s) s) told) → InTime most v h (recover_doing (call p x y s) s) → Reaches x y s h
+  sees : (x y : ℕ) (s : RecoverStage) → SameMemory m m2 → m.buffer p ≡ buffer_at p (recover_doing (call p x y s) s) → Knows v h p (recover_doing (call p x y s) s) → ((returned : Response) → In (recover_says (call p x y s) s) returned → IsTrueResponse v h p (recover_doing (call p x y s) s) returned) → InTime most v h (recover_doing (call p x y s) s) → Reaches x y s h
   sees x y s same free knows tells time = loaded n w p m2 _ _ 0 sound apart (leaves x y s) same free knows tells time
 
   -- one thing is answered
-  one : (z : Words) (g : History) (now : Doing) (says : Told) → IsTrueTold z g p now says → (told : Told) → In (says ∷ []) told → IsTrueTold z g p now told
-  one z g now says true_told told inside = elim inside [
-    | inl e ↦ subst (IsTrueTold z g p now) e true_told
+  one : (z : Words) (g : History) (now : Doing) (says : Response) → IsTrueResponse z g p now says → (returned : Response) → In (says ∷ []) returned → IsTrueResponse z g p now returned
+  one z g now says true_answered returned inside = elim inside [
+    | inl e ↦ subst (IsTrueResponse z g p now) e true_answered
     | inr none ↦ absurd none
   ]
 
@@ -162,24 +162,24 @@ module _ (n : ℕ) (w : Queue) (p u t : ℕ) (m2 : Memory ℕ) (answer : ℕ) (f
       (λ nz. let b = (sound.announced p answer (omega (arith, low)) (inl (sym perf.0)) nz).1 in omega (arith, b, low, few)) in
       let test = less_true answer 33554432 small in
       subst (λ (z : ℕ × RecoverStage). Reaches z.0 t z.1 h) (λ j. (if_true (nat_lt answer 33554432) answer u test j, if_true (nat_lt answer 33554432) recover.FlushAnnounce recover.Torn test j))
-      (sees answer t recover.FlushAnnounce perf.1 free (refl, sym perf.0) (λ told none. absurd none) time)
+      (sees answer t recover.FlushAnnounce perf.1 free (refl, sym perf.0) (λ returned none. absurd none) time)
   moves recover.FlushAnnounce at go k time free perf =
-      flushed n w p m2 _ _ 0 sound apart (leaves u t recover.BackAnnounce) _ perf.1 (flushed_one p (announce_at p) u m m2 free k perf.1) (refl, k) (λ told none. absurd none) time
+      flushed n w p m2 _ _ 0 sound apart (leaves u t recover.BackAnnounce) _ perf.1 (flushed_one p (announce_at p) u m m2 free k perf.1) (refl, k) (λ returned none. absurd none) time
   moves recover.BackAnnounce at go k time free perf =
       let b = one_back p m m2 (entry (announce_at p) u) free perf.1 in
       let e = back_persists p (announce_at p) u m m2 k b in
       let k2 : (words_of m2).announce.now p ≡ u = kept_knowledge h recover.BackAnnounce e (extends_same h.links 0) (extends_same h.claims 0) refl refl k in
       let both : Both (words_of m2).announce p u = (k2, b.there) in
       let s2 = sound_persisted most v (words_of m2) h sound e in
-      let to : (s : RecoverStage) → [] ≡ buffer_at p (recover_doing (call p u t s) s) → Knows (words_of m2) h p (recover_doing (call p u t s) s) → ((told : Told) → In (recover_says (call p u t s) s) told → IsTrueTold (words_of m2) h p (recover_doing (call p u t s) s) told) → InTime most v h (recover_doing (call p u t s) s) → Reaches u t s h =
+      let to : (s : RecoverStage) → [] ≡ buffer_at p (recover_doing (call p u t s) s) → Knows (words_of m2) h p (recover_doing (call p u t s) s) → ((returned : Response) → In (recover_says (call p u t s) s) returned → IsTrueResponse (words_of m2) h p (recover_doing (call p u t s) s) returned) → InTime most v h (recover_doing (call p u t s) s) → Reaches u t s h =
       λ s mine knows tells time2. backed n w p m2 _ _ 0 sound apart (leaves u t s) _ u h b e s2 (extends_same h.links 0) (extends_same h.claims 0) refl refl mine knows tells refl time2 in
       dite (ℕ_discrete u 0)
-      (λ z. subst (λ (s : RecoverStage). Reaches u t s h) (if_true (u == 0) (recover.Done found.Nothing) (if u % 2 == 0 then recover.LoadTail else recover.LoadHead) (eq-eqb u 0 z)) (to (recover.Done found.Nothing) refl both (λ told none. absurd none) tt))
+      (λ z. subst (λ (s : RecoverStage). Reaches u t s h) (if_true (u == 0) (recover.Done found.Nothing) (if u % 2 == 0 then recover.LoadTail else recover.LoadHead) (eq-eqb u 0 z)) (to (recover.Done found.Nothing) refl both (λ returned none. absurd none) tt))
       (λ nz.
       let mine = s2.announced p u (omega (arith, low)) (inl k2) nz in
       subst (λ (s : RecoverStage). Reaches u t s h) (if_false (u == 0) (recover.Done found.Nothing) (if u % 2 == 0 then recover.LoadTail else recover.LoadHead) (ne_eqb u 0 nz)) (dite (ℕ_discrete (u % 2) 0)
-      (λ z. subst (λ (s : RecoverStage). Reaches u t s h) (if_true (u % 2 == 0) recover.LoadTail recover.LoadHead (eq-eqb (u % 2) 0 z)) (to recover.LoadTail refl (refl, (both, mine)) (λ told none. absurd none) time))
-      (λ odd. subst (λ (s : RecoverStage). Reaches u t s h) (if_false (u % 2 == 0) recover.LoadTail recover.LoadHead (ne_eqb (u % 2) 0 odd)) (to recover.LoadHead refl (refl, (both, mine)) (λ told none. absurd none) time))))
+      (λ z. subst (λ (s : RecoverStage). Reaches u t s h) (if_true (u % 2 == 0) recover.LoadTail recover.LoadHead (eq-eqb (u % 2) 0 z)) (to recover.LoadTail refl (refl, (both, mine)) (λ returned none. absurd none) time))
+      (λ odd. subst (λ (s : RecoverStage). Reaches u t s h) (if_false (u % 2 == 0) recover.LoadTail recover.LoadHead (ne_eqb (u % 2) 0 odd)) (to recover.LoadHead refl (refl, (both, mine)) (λ returned none. absurd none) time))))
   moves recover.LoadTail at go k time free perf =
       let o = sound.tail answer (inl (sym perf.0)) in
       let up = o.1 in
@@ -189,18 +189,18 @@ module _ (n : ℕ) (w : Queue) (p u t : ℕ) (m2 : Memory ℕ) (answer : ℕ) (f
       let node : IsNode h.links answer h.links.count = node_at most h.links o.0 answer h.links.count sound.links under under o.2 in
       let pos : h.links.pos answer ≡ o.0 = pos_is most h.links o.0 answer sound.links under (sym o.2) in
       subst (λ (s : RecoverStage). Reaches u t s h) (if_true (nat_lt answer MOST_NODES) (recover.FindNode answer) recover.Torn (less_true answer MOST_NODES (fits answer (node_real most answer _ h.links sound.links (le_refl _) node))))
-      (sees u t (recover.FindNode answer) perf.1 free (refl, (k.0, k.1, node, (λ has z. omega (arith, z, pos, up)))) (λ told none. absurd none) (omega (arith, time)))
+      (sees u t (recover.FindNode answer) perf.1 free (refl, (k.0, k.1, node, (λ has z. omega (arith, z, pos, up)))) (λ returned none. absurd none) (omega (arith, time)))
   moves (recover.FindNode a) at go k time free perf = dite (ℕ_discrete answer 0)
       (λ z.
       let last : h.links.pos a ≡ h.links.count = is_last most v h a h.links.count sound (le_refl _) k.2 (sym perf.0 ∙ z) in
       subst (λ (s : RecoverStage). Reaches u (recover_turns (recover.FindNode a) t) s h) (if_true (answer == 0) recover.LoadLinked _ (eq-eqb answer 0 z))
-      (sees u (recover_turns (recover.FindNode a) t) recover.LoadLinked perf.1 free (refl, (k.0, k.1, (λ has. k.3 has (let b = has.within in omega (arith, b, last))))) (λ told none. absurd none) tt))
+      (sees u (recover_turns (recover.FindNode a) t) recover.LoadLinked perf.1 free (refl, (k.0, k.1, (λ has. k.3 has (let b = has.within in omega (arith, b, last))))) (λ returned none. absurd none) tt))
       (λ nz.
       let link = found_link a h.links.count (le_refl _) k.2 perf.0 nz in
       let lw = link.within in
       subst (λ (s : RecoverStage). Reaches u (recover_turns (recover.FindNode a) t) s h) (if_false (answer == 0) recover.LoadLinked _ (ne_eqb answer 0 nz)) (dite (ℕ_discrete answer i)
       (λ own. subst (λ (s : RecoverStage). Reaches u (recover_turns (recover.FindNode a) t) s h) (if_true (answer == i) (recover.FlushNext a) _ (eq-eqb answer i own))
-      (sees u (recover_turns (recover.FindNode a) t) (recover.FlushNext a) perf.1 free (refl, (k.0, k.1, record { node = link.node; link = link.link ∙ own; within = link.within })) (λ told none. absurd none) tt))
+      (sees u (recover_turns (recover.FindNode a) t) (recover.FlushNext a) perf.1 free (refl, (k.0, k.1, record { node = link.node; link = link.link ∙ own; within = link.within })) (λ returned none. absurd none) tt))
       (λ ne. subst (λ (s : RecoverStage). Reaches u (recover_turns (recover.FindNode a) t) s h) (if_false (answer == i) (recover.FlushNext a) _ (ne_eqb answer i ne)) (dite (ℕ_discrete t 0)
       (λ over. absurd (let c1 = log_fits most h.links sound.links in omega (arith, time, over, lw, c1)))
       (λ more.
@@ -209,10 +209,10 @@ module _ (n : ℕ) (w : Queue) (p u t : ℕ) (m2 : Memory ℕ) (answer : ℕ) (f
       let passed : IsPassed h.links i (h.links.pos answer) = subst (IsPassed h.links i) (sym pos) (pass_on h.links (h.links.pos a) sound.links lw (λ e. ne (sym link.link ∙ e)) k.3) in
       subst (λ (s : RecoverStage). Reaches u (recover_turns (recover.FindNode a) t) s h) (if_false (t == 0) recover.Torn _ (ne_eqb t 0 more))
       (subst (λ (s : RecoverStage). Reaches u (recover_turns (recover.FindNode a) t) s h) (if_true (nat_lt answer MOST_NODES) (recover.FindNode answer) recover.Torn (less_true answer MOST_NODES (fits answer (node_real most answer _ h.links sound.links (le_refl _) node))))
-      (sees u (recover_turns (recover.FindNode a) t) (recover.FindNode answer) perf.1 free (refl, (k.0, k.1, node, passed)) (λ told none. absurd none) (omega (arith, time, pos, more)))))))))
+      (sees u (recover_turns (recover.FindNode a) t) (recover.FindNode answer) perf.1 free (refl, (k.0, k.1, node, passed)) (λ returned none. absurd none) (omega (arith, time, pos, more)))))))))
   moves (recover.FlushNext a) at go k time free perf =
       let is : v.next.now a ≡ i = ap v.next.now (sym k.2.node) ∙ (sound.next.cached (h.links.pos a) k.2.within ∙ k.2.link) in
-      flushed n w p m2 _ _ 0 sound apart (leaves u t (recover.BackNext a)) _ perf.1 (flushed_one p (next_at a) i m m2 free is perf.1) (refl, k) (λ told none. absurd none) tt
+      flushed n w p m2 _ _ 0 sound apart (leaves u t (recover.BackNext a)) _ perf.1 (flushed_one p (next_at a) i m m2 free is perf.1) (refl, k) (λ returned none. absurd none) tt
   moves (recover.BackNext a) at go k time free perf =
       let is : v.next.now a ≡ i = ap v.next.now (sym k.2.node) ∙ (sound.next.cached (h.links.pos a) k.2.within ∙ k.2.link) in
       let b = one_back p m m2 (entry (next_at a) i) free perf.1 in
@@ -249,19 +249,19 @@ module _ (n : ℕ) (w : Queue) (p u t : ℕ) (m2 : Memory ℕ) (answer : ℕ) (f
       let node : IsNode h.links answer h.claims.count = node_at most h.links o.0 answer h.claims.count sound.links under (omega (arith, up, c1, c2)) o.2 in
       let pos : h.links.pos answer ≡ o.0 = pos_is most h.links o.0 answer sound.links under (sym o.2) in
       subst (λ (s : RecoverStage). Reaches u t s h) (if_true (nat_lt answer MOST_NODES) (recover.FindNext answer) recover.Torn (less_true answer MOST_NODES (fits answer (node_real most answer _ h.links sound.links cl node))))
-      (sees u t (recover.FindNext answer) perf.1 free (refl, (k.0, k.1, node, (λ has z. omega (arith, z, pos, up)))) (λ told none. absurd none) (omega (arith, time)))
+      (sees u t (recover.FindNext answer) perf.1 free (refl, (k.0, k.1, node, (λ has z. omega (arith, z, pos, up)))) (λ returned none. absurd none) (omega (arith, time)))
   moves (recover.FindNext a) at go k time free perf = dite (ℕ_discrete answer 0)
       (λ z.
       let cl = claims_links in
       let last : h.links.pos a ≡ h.links.count = is_last most v h a h.claims.count sound cl k.2 (sym perf.0 ∙ z) in
       subst (λ (s : RecoverStage). Reaches u t s h) (if_true (answer == 0) recover.LoadResult _ (eq-eqb answer 0 z))
-      (sees u t recover.LoadResult perf.1 free (refl, (k.0, k.1, (λ has. k.3 has (let b = has.within in omega (arith, b, last, cl))))) (λ told none. absurd none) tt))
+      (sees u t recover.LoadResult perf.1 free (refl, (k.0, k.1, (λ has. k.3 has (let b = has.within in omega (arith, b, last, cl))))) (λ returned none. absurd none) tt))
       (λ nz.
       let link = found_link a h.claims.count claims_links k.2 perf.0 nz in
       let real = (link_real most a answer _ h.links sound.links (le_refl _) link).1 in
       subst (λ (s : RecoverStage). Reaches u t s h) (if_false (answer == 0) recover.LoadResult _ (ne_eqb answer 0 nz))
       (subst (λ (s : RecoverStage). Reaches u t s h) (if_true (nat_lt answer MOST_NODES) (recover.LoadTaker a answer) recover.Torn (less_true answer MOST_NODES (fits answer real)))
-      (sees u t (recover.LoadTaker a answer) perf.1 free (refl, (k.0, k.1, k.2, k.3, link)) (λ told none. absurd none) time)))
+      (sees u t (recover.LoadTaker a answer) perf.1 free (refl, (k.0, k.1, k.2, k.3, link)) (λ returned none. absurd none) time)))
   moves (recover.LoadTaker a y) at go k time free perf = dite (ℕ_discrete answer 0)
       (λ z.
       let over : h.claims.count ≤ h.links.pos a = dite (ℕ_discrete (h.links.pos a) h.claims.count)
@@ -271,7 +271,7 @@ module _ (n : ℕ) (w : Queue) (p u t : ℕ) (m2 : Memory ℕ) (answer : ℕ) (f
       let under : h.links.pos a < h.claims.count = omega (arith, up, ne) in
       absurd (at_real most h.claims (h.links.pos a) sound.claims under (sym (sound.taker.cached (h.links.pos a) under) ∙ (ap v.taker.now k.4.link ∙ (sym perf.0 ∙ z))))) in
       subst (λ (s : RecoverStage). Reaches u (recover_turns (recover.LoadTaker a y) t) s h) (if_true (answer == 0) recover.LoadResult _ (eq-eqb answer 0 z))
-      (sees u (recover_turns (recover.LoadTaker a y) t) recover.LoadResult perf.1 free (refl, (k.0, k.1, (λ has. k.3 has (let b = has.within in omega (arith, b, over))))) (λ told none. absurd none) tt))
+      (sees u (recover_turns (recover.LoadTaker a y) t) recover.LoadResult perf.1 free (refl, (k.0, k.1, (λ has. k.3 has (let b = has.within in omega (arith, b, over))))) (λ returned none. absurd none) tt))
       (λ nz.
       let real = (link_real most a y _ h.links sound.links (le_refl _) k.4).1 in
       let o = sound.taker.only y answer real (inl (sym perf.0)) nz in
@@ -283,7 +283,7 @@ module _ (n : ℕ) (w : Queue) (p u t : ℕ) (m2 : Memory ℕ) (answer : ℕ) (f
       let within : h.links.pos a < h.claims.count = omega (arith, place, lk) in
       subst (λ (s : RecoverStage). Reaches u (recover_turns (recover.LoadTaker a y) t) s h) (if_false (answer == 0) recover.LoadResult _ (ne_eqb answer 0 nz)) (dite (ℕ_discrete answer i)
       (λ own. subst (λ (s : RecoverStage). Reaches u (recover_turns (recover.LoadTaker a y) t) s h) (if_true (answer == i) (recover.FlushTaker a y) _ (eq-eqb answer i own))
-      (sees u (recover_turns (recover.LoadTaker a y) t) (recover.FlushTaker a y) perf.1 free (refl, (k.0, k.1, record { node = k.4.node; link = k.4.link; claim = claim ∙ own; within = within })) (λ told none. absurd none) tt))
+      (sees u (recover_turns (recover.LoadTaker a y) t) (recover.FlushTaker a y) perf.1 free (refl, (k.0, k.1, record { node = k.4.node; link = k.4.link; claim = claim ∙ own; within = within })) (λ returned none. absurd none) tt))
       (λ ne. subst (λ (s : RecoverStage). Reaches u (recover_turns (recover.LoadTaker a y) t) s h) (if_false (answer == i) (recover.FlushTaker a y) _ (ne_eqb answer i ne)) (dite (ℕ_discrete t 0)
       (λ over. absurd (let c1 = log_fits most h.links sound.links in omega (arith, time, over, lw, c1)))
       (λ more.
@@ -291,10 +291,10 @@ module _ (n : ℕ) (w : Queue) (p u t : ℕ) (m2 : Memory ℕ) (answer : ℕ) (f
       let node : IsNode h.links y h.claims.count = node_at most h.links (suc (h.links.pos a)) y h.claims.count sound.links (omega (arith, lw)) (omega (arith, within)) (sym k.4.link) in
       let passed : IsPassed h.claims i (h.links.pos y) = subst (IsPassed h.claims i) (sym pos) (pass_on h.claims (h.links.pos a) sound.claims within (λ e. ne (sym claim ∙ e)) k.3) in
       subst (λ (s : RecoverStage). Reaches u (recover_turns (recover.LoadTaker a y) t) s h) (if_false (t == 0) recover.Torn _ (ne_eqb t 0 more))
-      (sees u (recover_turns (recover.LoadTaker a y) t) (recover.FindNext y) perf.1 free (refl, (k.0, k.1, node, passed)) (λ told none. absurd none) (omega (arith, time, pos, more))))))))
+      (sees u (recover_turns (recover.LoadTaker a y) t) (recover.FindNext y) perf.1 free (refl, (k.0, k.1, node, passed)) (λ returned none. absurd none) (omega (arith, time, pos, more))))))))
   moves (recover.FlushTaker a y) at go k time free perf =
       let is : v.taker.now y ≡ i = ap v.taker.now (sym k.2.link) ∙ (sound.taker.cached (h.links.pos a) k.2.within ∙ k.2.claim) in
-      flushed n w p m2 _ _ 0 sound apart (leaves u t (recover.BackTaker a y)) _ perf.1 (flushed_one p (taker_at y) i m m2 free is perf.1) (refl, k) (λ told none. absurd none) tt
+      flushed n w p m2 _ _ 0 sound apart (leaves u t (recover.BackTaker a y)) _ perf.1 (flushed_one p (taker_at y) i m m2 free is perf.1) (refl, k) (λ returned none. absurd none) tt
   moves (recover.BackTaker a y) at go k time free perf =
       let is : v.taker.now y ≡ i = ap v.taker.now (sym k.2.link) ∙ (sound.taker.cached (h.links.pos a) k.2.within ∙ k.2.claim) in
       let b = one_back p m m2 (entry (taker_at y) i) free perf.1 in
@@ -307,7 +307,7 @@ module _ (n : ℕ) (w : Queue) (p u t : ℕ) (m2 : Memory ℕ) (answer : ℕ) (f
       let lw = k.2.within in
       let pos : h.claims.pos i ≡ suc (h.links.pos a) = pos_is most h.claims (suc (h.links.pos a)) i sound.claims (omega (arith, lw)) k.2.claim in
       let taken : IsTaken g i y = record { kept = kept; node = ap h.links.at pos ∙ k.2.link } in
-      backed n w p m2 _ _ 0 sound apart (leaves u t (recover.LoadValue y)) _ i g b e s2 (extends_same h.links 0) (extends_kept h.claims (suc (h.links.pos a)) 0) refl refl refl (refl, (k2.0, k2.1, taken)) (λ told none. absurd none) refl tt
+      backed n w p m2 _ _ 0 sound apart (leaves u t (recover.LoadValue y)) _ i g b e s2 (extends_same h.links 0) (extends_kept h.claims (suc (h.links.pos a)) 0) refl refl refl (refl, (k2.0, k2.1, taken)) (λ returned none. absurd none) refl tt
   moves recover.LoadResult at go k time free perf = dite (ℕ_discrete answer 0)
       (λ z.
       let none : HasNot h.claims i = λ has.
@@ -324,7 +324,7 @@ module _ (n : ℕ) (w : Queue) (p u t : ℕ) (m2 : Memory ℕ) (answer : ℕ) (f
       (sees u t (recover.Done found.NotDequeued) perf.1 free k.0 (one v h (Idle u) (NotDequeued i) (out, (sym perf.0 ∙ z, clean))) tt))
       (λ nz. subst (λ (s : RecoverStage). Reaches u t s h) (if_false (answer == 0) (recover.Done found.NotDequeued) _ (ne_eqb answer 0 nz)) (elim (sound.result_only i answer (belongs_below n p i k.1 low) (inl (sym perf.0)) nz) [
         | inl r ↦ subst (λ (s : RecoverStage). Reaches u t s h) (if_true (answer == EMPTY) recover.FlushEmpty _ (eq-eqb answer EMPTY r.0))
-            (sees u t recover.FlushEmpty perf.1 free (refl, (k.0, k.1, sym perf.0 ∙ r.0)) (λ told none. absurd none) tt)
+            (sees u t recover.FlushEmpty perf.1 free (refl, (k.0, k.1, sym perf.0 ∙ r.0)) (λ returned none. absurd none) tt)
         | inr r ↦ (
             let under = r.1 in
             let c2 = sound.claims.keeps in
@@ -335,10 +335,10 @@ module _ (n : ℕ) (w : Queue) (p u t : ℕ) (m2 : Memory ℕ) (answer : ℕ) (f
             let taken : IsTaken h i answer = record { kept = kept; node = ap h.links.at pos ∙ sym r.3 } in
             subst (λ (s : RecoverStage). Reaches u t s h) (if_false (answer == EMPTY) recover.FlushEmpty _ (ne_eqb answer EMPTY (λ z. omega (arith, z, real, few))))
             (subst (λ (s : RecoverStage). Reaches u t s h) (if_true (nat_lt answer MOST_NODES) (recover.LoadValue answer) recover.Torn (less_true answer MOST_NODES (fits answer real)))
-            (sees u t (recover.LoadValue answer) perf.1 free (refl, (k.0, k.1, taken)) (λ told none. absurd none) tt)))
+            (sees u t (recover.LoadValue answer) perf.1 free (refl, (k.0, k.1, taken)) (λ returned none. absurd none) tt)))
       ]))
   moves recover.FlushEmpty at go k time free perf =
-      flushed n w p m2 _ _ 0 sound apart (leaves u t recover.BackEmpty) _ perf.1 (flushed_one p (result_at i) EMPTY m m2 free k.2 perf.1) (refl, k) (λ told none. absurd none) tt
+      flushed n w p m2 _ _ 0 sound apart (leaves u t recover.BackEmpty) _ perf.1 (flushed_one p (result_at i) EMPTY m m2 free k.2 perf.1) (refl, k) (λ returned none. absurd none) tt
   moves recover.BackEmpty at go k time free perf =
       let b = one_back p m m2 (entry (result_at i) EMPTY) free perf.1 in
       let e = back_persists p (result_at i) EMPTY m m2 k.2 b in

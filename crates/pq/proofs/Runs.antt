@@ -25,8 +25,8 @@ use Rattle.pq.specs.declared.recover.RecoverStage.{RecoverStage}
 use Rattle.pq.specs.declared.recover.RecoverStage.TheVariants as recover
 use Rattle.pq.specs.declared.calls.Doing.{Doing}
 use Rattle.pq.specs.declared.calls.Doing.TheVariants.{Idle, Enqueueing, Dequeueing, Recovering, Stopped, Torn}
-use Rattle.pq.specs.declared.calls.Told.{Told}
-use Rattle.pq.specs.declared.calls.Told.TheVariants.{Enqueued, Got, Empty, WasEnqueued, NotEnqueued, NotDequeued}
+use Rattle.pq.specs.declared.calls.Response.{Response}
+use Rattle.pq.specs.declared.calls.Response.TheVariants.{Enqueued, Got, Empty, WasEnqueued, NotEnqueued, NotDequeued}
 use Rattle.pq.proofs.Numbers.{one_process}
 use Rattle.pq.proofs.Logs.{Extends, one_place, kept_has}
 use Rattle.pq.proofs.Sound.{is_last}
@@ -49,7 +49,7 @@ has_of most log k i l a =
 pub not_in : (most : ℕ) (log : Log) (i : ℕ) → IsLog most log → HasNot log i → IsNotIn log i
 not_in most log i l none k a = none (has_of most log k i l a).0
 
-is_true : (n : ℕ) (w : Queue) (p : ℕ) (t : Told) → queue.sound n w → queue.told n w p t → IsTrueOf w.hidden t
+is_true : (n : ℕ) (w : Queue) (p : ℕ) (t : Response) → queue.sound n w → queue.responses n w p t → IsTrueOf w.hidden t
 is_true n w p (Enqueued i x) s h = (w.hidden.links.pos i, at_of (nodes n) w.hidden.links i s.0.links h.1.0, h.1.1)
 is_true n w p (Got i x) s h = (w.hidden.claims.pos i, at_of (nodes n) w.hidden.claims i s.0.claims h.1.0, (let a = h.1.0.within in le_trans a (le_trans s.0.claims.keeps (le_trans s.0.follows s.0.links.keeps))), h.1.1)
 is_true n w p (Empty i) s h = (not_in (nodes n) w.hidden.claims i s.0.claims h.1.0.none, h.1.1)
@@ -96,7 +96,7 @@ is_held n w s =
 pub runs_tell : (n : ℕ) → RunsTellTheTruth n
 runs_tell n first last hs new run =
     let r = runs queue n (queue_holds n) first last hs new run in
-    (is_order n last r.sound, is_held n last r.sound, (λ p t told. is_true n last p t r.sound (r.told p t told)))
+    (is_order n last r.sound, is_held n last r.sound, (λ p t returned. is_true n last p t r.sound (r.responses p t returned)))
 
 -- ---- places
 
@@ -121,7 +121,7 @@ record BothStay (h g : History) : Type 0 where
 both_same : (h : History) → BothStay h h
 both_same h = record { links = stays_same h.links; claims = stays_same h.claims }
 
-event_stays : (n : ℕ) (w w2 : Queue) (event : Event Doing) (says : List Told) → queue.sound n w → Moves queue n w event says w2 → BothStay w.hidden w2.hidden
+event_stays : (n : ℕ) (w w2 : Queue) (event : Event Doing) (says : List Response) → queue.sound n w → Moves queue n w event says w2 → BothStay w.hidden w2.hidden
 event_stays n w w2 (Begin p call) says s m = subst (λ (z : Queue). BothStay w.hidden z.hidden) (sym m.2) (both_same w.hidden)
 event_stays n w w2 (Step p) says s m =
     let d = queue_moves n w p m.access m.answer m.now says w2.memory s m.low m.takes m.performs in
@@ -143,8 +143,8 @@ run_stays : (n : ℕ) (first last : Queue) (hs : List (Happened queue n)) → qu
 run_stays n first last [] s run = subst (λ (z : Queue). queue.sound n z × BothStay first.hidden z.hidden) (sym run) (s, both_same first.hidden)
 run_stays n first last (h ∷ hs) s run =
     let r = run_stays n first h.before hs s run.1 in
-    let e = event_stays n h.before last h.entry.event h.entry.told r.0 run.0 in
-    let l = leads queue n (queue_holds n) h.before h.entry.event h.entry.told last r.0 run.0 in
+    let e = event_stays n h.before last h.entry.event h.entry.responses r.0 run.0 in
+    let l = leads queue n (queue_holds n) h.before h.entry.event h.entry.responses last r.0 run.0 in
     (l.sound, record { links = stays_both _ _ _ r.1.links e.links; claims = stays_both _ _ _ r.1.claims e.claims })
 
 at_stays : (most : ℕ) (log new : Log) (k i : ℕ) → IsLog most log → IsLog most new → Stays log new → HasKept log i → IsAt log k i → IsAt new k i
@@ -158,8 +158,8 @@ pub places_stay : (n : ℕ) → PlacesStay n
 places_stay n first mid last before after new run1 run2 =
     let r = runs queue n (queue_holds n) first mid before new run1 in
     let s = run_stays n mid last after r.sound run2 in (
-      (λ p k i x told a. at_stays (nodes n) mid.hidden.links last.hidden.links k i r.sound.0.links s.0.0.links s.1.links (r.told p (Enqueued i x) told).1.0 a),
-      (λ p k i x told a. at_stays (nodes n) mid.hidden.claims last.hidden.claims k i r.sound.0.claims s.0.0.claims s.1.claims (r.told p (Got i x) told).1.0 a),
+      (λ p k i x returned a. at_stays (nodes n) mid.hidden.links last.hidden.links k i r.sound.0.links s.0.0.links s.1.links (r.responses p (Enqueued i x) returned).1.0 a),
+      (λ p k i x returned a. at_stays (nodes n) mid.hidden.claims last.hidden.claims k i r.sound.0.claims s.0.0.claims s.1.claims (r.responses p (Got i x) returned).1.0 a),
     )
 
 -- ---- the empty queue
@@ -268,7 +268,7 @@ own_operation v h q now c k is =
     let k2 : Knows v h q (Dequeueing c) = subst (Knows v h q) is k in
     k2.1
 
-event_adds : (n : ℕ) (w w2 : Queue) (event : Event Doing) (says : List Told) (p i : ℕ) → queue.sound n w → Moves queue n w event says w2 → Belongs p i → In w2.hidden.empty i → In w.hidden.empty i ⊎ IsEmptyMoment n w p i
+event_adds : (n : ℕ) (w w2 : Queue) (event : Event Doing) (says : List Response) (p i : ℕ) → queue.sound n w → Moves queue n w event says w2 → Belongs p i → In w2.hidden.empty i → In w.hidden.empty i ⊎ IsEmptyMoment n w p i
 event_adds n w w2 (Begin q call) says p i s m mine t = inl (subst (λ (z : Queue). In z.hidden.empty i) m.2 t)
 event_adds n w w2 (Step q) says p i s m mine t = elim (step_adds n (words_of w.memory) w.hidden q (w.situation q) i s.0 (s.1 q m.low).0 (subst (λ (z : Queue). In z.hidden.empty i) m.lands t)) [
   | inl old ↦ inl old
@@ -285,15 +285,15 @@ run_adds : (n : ℕ) (first last : Queue) (hs : List (Happened queue n)) (p i : 
 run_adds n first last [] p i new run mine t = subst (λ (z : Queue). In z.hidden.empty i) (run ∙ new.is) t
 run_adds n first last (h ∷ hs) p i new run mine t =
     let r = runs queue n (queue_holds n) first h.before hs new run.1 in
-    elim (event_adds n h.before last h.entry.event h.entry.told p i r.sound run.0 mine t) [
+    elim (event_adds n h.before last h.entry.event h.entry.responses p i r.sound run.0 mine t) [
       | inl old ↦ inr (run_adds n first h.before hs p i new run.1 mine old)
       | inr now ↦ inl now
     ]
 
 pub empty_was_so : (n : ℕ) → EmptyWasSo n
-empty_was_so n first last hs p i new run told =
+empty_was_so n first last hs p i new run responses =
     let r = runs queue n (queue_holds n) first last hs new run in
-    let h = r.told p (Empty i) told in
+    let h = r.responses p (Empty i) returned in
     run_adds n first last hs p i new run h.1.0.mine (is_true n last p (Empty i) r.sound h).1
 
 -- ---- no call is torn
@@ -310,11 +310,11 @@ answers_agree n first last hs p i new run =
     let r = runs queue n (queue_holds n) first last hs new run in
     let l : IsLog (nodes n) last.hidden.links = r.sound.0.links in
     let c : IsLog (nodes n) last.hidden.claims = r.sound.0.claims in record {
-      one_value = λ x y a b. sym (r.told p (Got i x) a).1.1 ∙ (r.told p (Got i y) b).1.1;
-      one_input = λ x y a b. sym (r.told p (Enqueued i x) a).1.1 ∙ (r.told p (Enqueued i y) b).1.1;
-      got_or_empty = λ x a b. (r.told p (Empty i) b).1.0.none (kept_has (nodes n) last.hidden.claims i c (r.told p (Got i x) a).1.0);
-      got_or_not = λ x a b. (r.told p (NotDequeued i) b).1.0.none (kept_has (nodes n) last.hidden.claims i c (r.told p (Got i x) a).1.0);
-      empty_or_not = λ a b. let e : EMPTY ≡ 0 = sym (r.told p (Empty i) a).1.2.0 ∙ (r.told p (NotDequeued i) b).1.1.0 in omega (arith, e);
-      enqueued_or_not = λ x a b. (r.told p (NotEnqueued i) b).1.none (kept_has (nodes n) last.hidden.links i l (r.told p (Enqueued i x) a).1.0);
-      was_or_not = λ a b. (r.told p (NotEnqueued i) b).1.none (kept_has (nodes n) last.hidden.links i l (r.told p (WasEnqueued i) a).1);
+      one_value = λ x y a b. sym (r.responses p (Got i x) a).1.1 ∙ (r.responses p (Got i y) b).1.1;
+      one_input = λ x y a b. sym (r.responses p (Enqueued i x) a).1.1 ∙ (r.responses p (Enqueued i y) b).1.1;
+      got_or_empty = λ x a b. (r.responses p (Empty i) b).1.0.none (kept_has (nodes n) last.hidden.claims i c (r.responses p (Got i x) a).1.0);
+      got_or_not = λ x a b. (r.responses p (NotDequeued i) b).1.0.none (kept_has (nodes n) last.hidden.claims i c (r.responses p (Got i x) a).1.0);
+      empty_or_not = λ a b. let e : EMPTY ≡ 0 = sym (r.responses p (Empty i) a).1.2.0 ∙ (r.responses p (NotDequeued i) b).1.1.0 in omega (arith, e);
+      enqueued_or_not = λ x a b. (r.responses p (NotEnqueued i) b).1.none (kept_has (nodes n) last.hidden.links i l (r.responses p (Enqueued i x) a).1.0);
+      was_or_not = λ a b. (r.responses p (NotEnqueued i) b).1.none (kept_has (nodes n) last.hidden.links i l (r.responses p (WasEnqueued i) a).1);
     }

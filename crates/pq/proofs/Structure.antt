@@ -10,15 +10,15 @@ use Rattle.pm_base.proofs.ByKind.{kind_begins}
 use Rattle.pq.specs.Places.{nodes}
 use Rattle.pq.specs.History.{Log, History, Has, HasKept, no_log, no_history, Side, Words, side_of, words_of, Either}
 use Rattle.pq.specs.Sound.{IsLog, IsWritten, IsSound}
-use Rattle.pq.specs.Queue.{IsOut, IsTrueTold, left_of, cut_to, crash_then, step_then, enqueues, dequeues, recoveries, queue}
+use Rattle.pq.specs.Queue.{IsOut, IsTrueResponse, left_of, cut_to, crash_then, step_then, enqueues, dequeues, recoveries, queue}
 use Rattle.pq.specs.declared.calls.Doing.{Doing}
 use Rattle.pq.specs.declared.calls.Doing.TheVariants.{Stopped}
-use Rattle.pq.specs.declared.calls.Told.{Told}
-use Rattle.pq.specs.declared.calls.Told.TheVariants.{Enqueued, Got, Empty, WasEnqueued, NotEnqueued, NotDequeued}
+use Rattle.pq.specs.declared.calls.Response.{Response}
+use Rattle.pq.specs.declared.calls.Response.TheVariants.{Enqueued, Got, Empty, WasEnqueued, NotEnqueued, NotDequeued}
 use Rattle.pq.proofs.Numbers.{belongs_above}
 use Rattle.pq.proofs.Logs.{extends_same}
 use Rattle.pq.proofs.Sound.{sound_persisted}
-use Rattle.pq.proofs.Later.{later_persisted, knows_stays, told_stays}
+use Rattle.pq.proofs.Later.{later_persisted, knows_stays, answered_stays}
 use Rattle.pq.proofs.Moves.{kind_moves, Queue, Move, goes_on, evict_persists}
 use Rattle.pq.proofs.Acts.{time_same, stayed, if_true, if_false}
 use Rattle.pq.proofs.Enqueues.{enqueue_begins, enqueue_moves}
@@ -78,7 +78,7 @@ evict_goes n w r m2 sound e =
         sound_persisted (nodes n) (words_of w.memory) (words_of m2) w.hidden sound.0 pers,
         λ q lq. (knows_stays (nodes n) 0 (suc q) (words_of w.memory) w.hidden (words_of m2) w.hidden sound.0 (later (suc q)) q (λ z. omega (arith, z)) (λ j b z. (let a = belongs_above q j b in omega (arith, a, z))) (w.situation q) (sound.1 q lq).0, e.buffer q ∙ (sound.1 q lq).1, time_same (nodes n) (words_of w.memory) (words_of m2) w.hidden w.hidden (w.situation q) (pers.tail 0).0 (pers.head 0).0 refl (sound.1 q lq).2),
       );
-      keeps = λ q t h. (h.0, told_stays (nodes n) 0 (suc q) (words_of w.memory) w.hidden (words_of m2) w.hidden sound.0 (later (suc q)) q (w.situation q) (w.situation q) t (λ j b sp out. ((λ z. (let a = belongs_above q j b in omega (arith, a, z))), out)) h.1);
+      keeps = λ q t h. (h.0, answered_stays (nodes n) 0 (suc q) (words_of w.memory) w.hidden (words_of m2) w.hidden sound.0 (later (suc q)) q (w.situation q) (w.situation q) t (λ j b sp out. ((λ z. (let a = belongs_above q j b in omega (arith, a, z))), out)) h.1);
     }
 
 -- ---- a stop
@@ -217,22 +217,22 @@ module _ (n : ℕ) (w : Queue) (m2 : Memory ℕ) (sound : queue.sound n w) (e : 
   out_left : (log : Log) (k : ℕ) (most : k ≤ log.count) → log.kept ≤ k → IsLog (nodes n) log → (q j : ℕ) (now : Doing) → IsOut v log q j now → IsOut gone_words (cut_to log k) q j Stopped
   out_left log k most least l q j now o = record { none = λ has. o.none (cut_has (nodes n) log k l least most j has); mine = o.mine; spent = (o.spent.1, o.spent.1); leaves = tt }
 
-  told_left : (q : ℕ) (now : Doing) (t : Told) → IsTrueTold v h q now t → IsTrueTold gone_words g q Stopped t
-  told_left q now (Enqueued j x) k = (cut_kept (nodes n) h.links _ sound.0.links links_left.least links_left.most j k.0, k.1)
-  told_left q now (Got j x) k = (cut_kept (nodes n) h.claims _ sound.0.claims claims_left.least claims_left.most j k.0, k.1)
-  told_left q now (Empty j) k = (out_left h.claims _ claims_left.most claims_left.least sound.0.claims q j now k.0, k.1, (k.2.1, k.2.1))
-  told_left q now (WasEnqueued j) k = cut_kept (nodes n) h.links _ sound.0.links links_left.least links_left.most j k
-  told_left q now (NotEnqueued j) k = out_left h.links _ links_left.most links_left.least sound.0.links q j now k
-  told_left q now (NotDequeued j) k = (out_left h.claims _ claims_left.most claims_left.least sound.0.claims q j now k.0, (k.1.1, k.1.1))
+  answered_left : (q : ℕ) (now : Doing) (t : Response) → IsTrueResponse v h q now t → IsTrueResponse gone_words g q Stopped t
+  answered_left q now (Enqueued j x) k = (cut_kept (nodes n) h.links _ sound.0.links links_left.least links_left.most j k.0, k.1)
+  answered_left q now (Got j x) k = (cut_kept (nodes n) h.claims _ sound.0.claims claims_left.least claims_left.most j k.0, k.1)
+  answered_left q now (Empty j) k = (out_left h.claims _ claims_left.most claims_left.least sound.0.claims q j now k.0, k.1, (k.2.1, k.2.1))
+  answered_left q now (WasEnqueued j) k = cut_kept (nodes n) h.links _ sound.0.links links_left.least links_left.most j k
+  answered_left q now (NotEnqueued j) k = out_left h.links _ links_left.most links_left.least sound.0.links q j now k
+  answered_left q now (NotDequeued j) k = (out_left h.claims _ claims_left.most claims_left.least sound.0.claims q j now k.0, (k.1.1, k.1.1))
 
   pub crash_goes : Goes queue n w (after_crash queue n w m2)
   crash_goes = record {
     sound = (subst (λ (z : Words). IsSound (nodes n) z g) (sym words_are) gone_sound, λ q lq. (tt, e.buffer q, tt));
-    keeps = λ q t k. (k.0, subst (λ (z : Words). IsTrueTold z g q Stopped t) (sym words_are) (told_left q (w.situation q) t k.1));
+    keeps = λ q t k. (k.0, subst (λ (z : Words). IsTrueResponse z g q Stopped t) (sym words_are) (answered_left q (w.situation q) t k.1));
   }
 
 -- each step of the queue is a move
-pub queue_moves : (n : ℕ) (w : Queue) (p : ℕ) (access : Access ℕ) (answer : ℕ) (now : Doing) (says : List Told) (m2 : Memory ℕ) → queue.sound n w → p < n → queue.steps n p (w.situation p) access answer now says → Performs (queue.class_in n) access p w.memory m2 answer
+pub queue_moves : (n : ℕ) (w : Queue) (p : ℕ) (access : Access ℕ) (answer : ℕ) (now : Doing) (says : List Response) (m2 : Memory ℕ) → queue.sound n w → p < n → queue.steps n p (w.situation p) access answer now says → Performs (queue.class_in n) access p w.memory m2 answer
     → Move n w p m2 now says (step_then w.hidden (words_of w.memory) (w.situation p))
 queue_moves n w p access answer now says m2 sound low does perf = elim does [
   | inl k ↦ kind_moves n enqueues (enqueue_moves n) w p access answer now says m2 sound low k perf

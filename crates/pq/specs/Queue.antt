@@ -22,8 +22,8 @@ use Rattle.pq.specs.declared.calls.Ended.{Ended}
 use Rattle.pq.specs.declared.calls.Ended.TheVariants as ended
 use Rattle.pq.specs.declared.calls.Doing.{Doing}
 use Rattle.pq.specs.declared.calls.Doing.TheVariants.{Idle, Enqueueing, Dequeueing, Recovering, Stopped, Torn}
-use Rattle.pq.specs.declared.calls.Told.{Told}
-use Rattle.pq.specs.declared.calls.Told.TheVariants.{Enqueued, Got, Empty, WasEnqueued, NotEnqueued, NotDequeued}
+use Rattle.pq.specs.declared.calls.Response.{Response}
+use Rattle.pq.specs.declared.calls.Response.TheVariants.{Enqueued, Got, Empty, WasEnqueued, NotEnqueued, NotDequeued}
 use Rattle.pq.specs.History.{Log, History, HasNot, HasKept, kept_to, marked_to, no_history, linking, claiming, emptying, with_links, with_claims, Side, Words, words_of, Both, Spent}
 use Rattle.pq.specs.Sound.{IsSound}
 use Rattle.pq.specs.Knows.{Knows, buffer_at, InTime}
@@ -44,13 +44,13 @@ pub record IsOut (w : Words) (log : Log) (p i : ℕ) (now : Doing) : Type 0 wher
   pub leaves : LeavesOut i now
 
 -- what a process was answered is true
-abbrev pub IsTrueTold : Words → History → ℕ → Doing → Told → Type 0
-IsTrueTold w h p now (Enqueued i x) = HasKept h.links i × (h.value i ≡ x)
-IsTrueTold w h p now (Got i x) = HasKept h.claims i × (h.value (h.links.at (h.claims.pos i)) ≡ x)
-IsTrueTold w h p now (Empty i) = IsOut w h.claims p i now × In h.empty i × Both w.result i EMPTY
-IsTrueTold w h p now (WasEnqueued i) = HasKept h.links i
-IsTrueTold w h p now (NotEnqueued i) = IsOut w h.links p i now
-IsTrueTold w h p now (NotDequeued i) = IsOut w h.claims p i now × Both w.result i 0
+abbrev pub IsTrueResponse : Words → History → ℕ → Doing → Response → Type 0
+IsTrueResponse w h p now (Enqueued i x) = HasKept h.links i × (h.value i ≡ x)
+IsTrueResponse w h p now (Got i x) = HasKept h.claims i × (h.value (h.links.at (h.claims.pos i)) ≡ x)
+IsTrueResponse w h p now (Empty i) = IsOut w h.claims p i now × In h.empty i × Both w.result i EMPTY
+IsTrueResponse w h p now (WasEnqueued i) = HasKept h.links i
+IsTrueResponse w h p now (NotEnqueued i) = IsOut w h.links p i now
+IsTrueResponse w h p now (NotDequeued i) = IsOut w h.claims p i now × Both w.result i 0
 
 -- ---- what each event makes of the history
 
@@ -114,7 +114,7 @@ enqueue_doing c enqueue.Torn = Torn
 enqueue_doing c _ = Enqueueing c
 
 -- what it is answered at the last step
-abbrev pub enqueue_says : Enqueue → EnqueueStage → List Told
+abbrev pub enqueue_says : Enqueue → EnqueueStage → List Response
 enqueue_says c enqueue.Done = Enqueued c.operation c.value ∷ []
 enqueue_says c _ = []
 
@@ -130,7 +130,7 @@ MayEnqueue n (Idle u) c = (u < 2 * c.operation) × (c.stage ≡ enqueue.StoreVal
 MayEnqueue n _ c = ⊥
 
 -- enqueues as calls
-abbrev pub enqueues : Calls ℕ Doing Told Enqueue Ended
+abbrev pub enqueues : Calls ℕ Doing Response Enqueue Ended
 enqueues = record {
   process = λ c. c.process;
   begins = λ n now c. MayEnqueue n now c;
@@ -152,7 +152,7 @@ dequeue_doing c dequeue.Torn = Torn
 dequeue_doing c _ = Dequeueing c
 
 -- what it is answered at the last step
-abbrev pub dequeue_says : Dequeue → DequeueStage → List Told
+abbrev pub dequeue_says : Dequeue → DequeueStage → List Response
 dequeue_says c dequeue.DoneEmpty = Empty c.operation ∷ []
 dequeue_says c (dequeue.Done x) = Got c.operation x ∷ []
 dequeue_says c _ = []
@@ -170,7 +170,7 @@ MayDequeue n (Idle u) c = (u < 2 * c.operation) × (c.stage ≡ dequeue.StoreAnn
 MayDequeue n _ c = ⊥
 
 -- dequeues as calls
-abbrev pub dequeues : Calls ℕ Doing Told Dequeue Ended
+abbrev pub dequeues : Calls ℕ Doing Response Dequeue Ended
 dequeues = record {
   process = λ c. c.process;
   begins = λ n now c. MayDequeue n now c;
@@ -191,7 +191,7 @@ recover_doing c recover.Torn = Torn
 recover_doing c _ = Recovering c
 
 -- what a recovery answers of the operation i
-abbrev pub found_says : ℕ → Found → List Told
+abbrev pub found_says : ℕ → Found → List Response
 found_says i found.Nothing = []
 found_says i found.WasEnqueued = WasEnqueued i ∷ []
 found_says i found.NotEnqueued = NotEnqueued i ∷ []
@@ -200,7 +200,7 @@ found_says i found.Empty = Empty i ∷ []
 found_says i found.NotDequeued = NotDequeued i ∷ []
 
 -- what it is answered at the last step
-abbrev pub recover_says : Recover → RecoverStage → List Told
+abbrev pub recover_says : Recover → RecoverStage → List Response
 recover_says c (recover.Done f) = found_says (c.announced / 2) f
 recover_says c _ = []
 
@@ -216,7 +216,7 @@ MayRecover n Stopped c = (c.stage ≡ recover.LoadAnnounce) × (nodes n ≤ c.tu
 MayRecover n _ c = ⊥
 
 -- recoveries as calls
-abbrev pub recoveries : Calls ℕ Doing Told Recover Ended
+abbrev pub recoveries : Calls ℕ Doing Response Recover Ended
 recoveries = record {
   process = λ c. c.process;
   begins = λ n now c. MayRecover n now c;
@@ -233,7 +233,7 @@ recoveries = record {
 -- ---- the structure
 
 -- the queue of n processes
-abbrev pub queue : Structure ℕ Doing Told
+abbrev pub queue : Structure ℕ Doing Response
 queue = record {
   Hidden = History;
   words = λ n. 8 * nodes n;
@@ -247,5 +247,5 @@ queue = record {
   first_hidden = λ n. no_history;
   hidden_after = λ n w event memory. history_then w event;
   sound = λ n w. IsSound (nodes n) (words_of w.memory) w.hidden × ((p : ℕ) → p < n → Knows (words_of w.memory) w.hidden p (w.situation p) × (w.memory.buffer p ≡ buffer_at p (w.situation p)) × InTime (nodes n) (words_of w.memory) w.hidden (w.situation p));
-  told = λ n w p t. (p < n) × IsTrueTold (words_of w.memory) w.hidden p (w.situation p) t;
+  is_right = λ n w p t. (p < n) × IsTrueResponse (words_of w.memory) w.hidden p (w.situation p) t;
 }

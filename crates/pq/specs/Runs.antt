@@ -11,8 +11,8 @@ use Rattle.pq.specs.declared.dequeue.Dequeue.{Dequeue}
 use Rattle.pq.specs.declared.enqueue.Enqueue.{Enqueue}
 use Rattle.pq.specs.declared.calls.Doing.{Doing}
 use Rattle.pq.specs.declared.calls.Doing.TheVariants.{Enqueueing, Dequeueing, Torn}
-use Rattle.pq.specs.declared.calls.Told.{Told}
-use Rattle.pq.specs.declared.calls.Told.TheVariants.{Enqueued, Got, Empty, WasEnqueued, NotEnqueued, NotDequeued}
+use Rattle.pq.specs.declared.calls.Response.{Response}
+use Rattle.pq.specs.declared.calls.Response.TheVariants.{Enqueued, Got, Empty, WasEnqueued, NotEnqueued, NotDequeued}
 
 -- the operation is the k-th of the log, counted from 1
 pub record IsAt (log : Log) (k i : ℕ) : Type 0 where
@@ -27,7 +27,7 @@ IsNotIn log i = (k : ℕ) → IsAt log k i → ⊥
 -- what a process was answered is true of the history: an enqueue is one of those that took effect, with its value; the k-th
 -- dequeue took the value of the k-th enqueue; a dequeue that found the queue empty took nothing; and recovery says the
 -- same of each
-abbrev pub IsTrueOf : History → Told → Type 0
+abbrev pub IsTrueOf : History → Response → Type 0
 IsTrueOf h (Enqueued i x) = (k : ℕ) × IsAt h.links k i × (h.value i ≡ x)
 IsTrueOf h (Got i x) = (k : ℕ) × IsAt h.claims k i × (k ≤ h.links.count) × (h.value (h.links.at k) ≡ x)
 IsTrueOf h (Empty i) = IsNotIn h.claims i × In h.empty i
@@ -65,18 +65,18 @@ pub record IsHeld (w : World Doing History) : Type 0 where
 
 module _ (n : ℕ) where
   -- the process was answered this on the run
-  abbrev pub WasTold : List (Happened queue n) → ℕ → Told → Type 0
-  WasTold hs p t = In (deeds_by p (history_of queue n hs)) (deed.Told t)
+  abbrev pub WasAnswered : List (Happened queue n) → ℕ → Response → Type 0
+  WasAnswered hs p t = In (deeds_by p (history_of queue n hs)) (deed.Response t)
 
   -- whatever happens to a new queue of n processes: it is a queue, and what was answered is true of it from then on
   abbrev pub RunsTellTheTruth : Type 0
   RunsTellTheTruth = (first last : World Doing History) (hs : List (Happened queue n)) → IsNew queue n first → Run queue n first hs last
-      → IsOrder last.hidden × IsHeld last × ((p : ℕ) (t : Told) → WasTold hs p t → IsTrueOf last.hidden t)
+      → IsOrder last.hidden × IsHeld last × ((p : ℕ) (t : Response) → WasAnswered hs p t → IsTrueOf last.hidden t)
 
   -- an operation whose effect was answered keeps its place, whatever happens then
   abbrev pub PlacesStay : Type 0
   PlacesStay = (first mid last : World Doing History) (before after : List (Happened queue n)) → IsNew queue n first → Run queue n first before mid → Run queue n mid after last
-      → ((p k i x : ℕ) → WasTold before p (Enqueued i x) → IsAt mid.hidden.links k i → IsAt last.hidden.links k i) × ((p k i x : ℕ) → WasTold before p (Got i x) → IsAt mid.hidden.claims k i → IsAt last.hidden.claims k i)
+      → ((p k i x : ℕ) → WasAnswered before p (Enqueued i x) → IsAt mid.hidden.links k i → IsAt last.hidden.links k i) × ((p k i x : ℕ) → WasAnswered before p (Got i x) → IsAt mid.hidden.claims k i → IsAt last.hidden.claims k i)
 
   -- the process was in this dequeue, and all that was put in was taken
   abbrev pub IsEmptyMoment : World Doing History → ℕ → ℕ → Type 0
@@ -89,7 +89,7 @@ module _ (n : ℕ) where
 
   -- a dequeue that is answered that the queue was empty ran at a moment at which it was
   abbrev pub EmptyWasSo : Type 0
-  EmptyWasSo = (first last : World Doing History) (hs : List (Happened queue n)) (p i : ℕ) → IsNew queue n first → Run queue n first hs last → WasTold hs p (Empty i) → WasEmpty p i hs
+  EmptyWasSo = (first last : World Doing History) (hs : List (Happened queue n)) (p i : ℕ) → IsNew queue n first → Run queue n first hs last → WasAnswered hs p (Empty i) → WasEmpty p i hs
 
   -- no call is torn: each ends with an answer, unless its process is stopped
   abbrev pub NoneIsTorn : Type 0
@@ -97,13 +97,13 @@ module _ (n : ℕ) where
 
   -- what a process is answered of one operation on a run agrees, whoever answers: the call, or a recovery after any crash
   pub record IsAgreed (hs : List (Happened queue n)) (p i : ℕ) : Type 0 where
-    pub one_value : (x y : ℕ) → WasTold hs p (Got i x) → WasTold hs p (Got i y) → x ≡ y
-    pub one_input : (x y : ℕ) → WasTold hs p (Enqueued i x) → WasTold hs p (Enqueued i y) → x ≡ y
-    pub got_or_empty : (x : ℕ) → WasTold hs p (Got i x) → WasTold hs p (Empty i) → ⊥
-    pub got_or_not : (x : ℕ) → WasTold hs p (Got i x) → WasTold hs p (NotDequeued i) → ⊥
-    pub empty_or_not : WasTold hs p (Empty i) → WasTold hs p (NotDequeued i) → ⊥
-    pub enqueued_or_not : (x : ℕ) → WasTold hs p (Enqueued i x) → WasTold hs p (NotEnqueued i) → ⊥
-    pub was_or_not : WasTold hs p (WasEnqueued i) → WasTold hs p (NotEnqueued i) → ⊥
+    pub one_value : (x y : ℕ) → WasAnswered hs p (Got i x) → WasAnswered hs p (Got i y) → x ≡ y
+    pub one_input : (x y : ℕ) → WasAnswered hs p (Enqueued i x) → WasAnswered hs p (Enqueued i y) → x ≡ y
+    pub got_or_empty : (x : ℕ) → WasAnswered hs p (Got i x) → WasAnswered hs p (Empty i) → ⊥
+    pub got_or_not : (x : ℕ) → WasAnswered hs p (Got i x) → WasAnswered hs p (NotDequeued i) → ⊥
+    pub empty_or_not : WasAnswered hs p (Empty i) → WasAnswered hs p (NotDequeued i) → ⊥
+    pub enqueued_or_not : (x : ℕ) → WasAnswered hs p (Enqueued i x) → WasAnswered hs p (NotEnqueued i) → ⊥
+    pub was_or_not : WasAnswered hs p (WasEnqueued i) → WasAnswered hs p (NotEnqueued i) → ⊥
 
   -- so it is with each operation on every run from a new queue
   abbrev pub AnswersAgree : Type 0

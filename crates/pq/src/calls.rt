@@ -23,7 +23,7 @@ pub enum Doing {
 
 /// What a process is answered of an operation.
 #[derive(Clone, Copy, Debug, PartialEq, Eq)]
-pub enum Told {
+pub enum Response {
     /// The enqueue put this value into the queue.
     Enqueued { operation: u64, value: u64 },
     /// The dequeue took this value from the queue.

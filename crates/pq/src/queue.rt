@@ -1,6 +1,6 @@
 //! The queue as a structure on persistent words, and its three calls.
 
-use crate::calls::{Doing, Ended, Told};
+use crate::calls::{Doing, Ended, Response};
 use crate::dequeue::{Dequeue, DequeueStage, dequeue_got, dequeue_want};
 use crate::enqueue::{Enqueue, EnqueueStage, enqueue_got, enqueue_want};
 use crate::laws::{
@@ -19,7 +19,7 @@ impl Structured for Queue {
 
     type Doing = Doing;
 
-    type Told = Told;
+    type Response = Response;
 
     ghost use Rattle.pq.specs.Queue.{queue};
 

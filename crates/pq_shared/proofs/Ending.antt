@@ -6,7 +6,7 @@ use Rattle.atomic_table.specs.Table.{Me}
 use Rattle.pm_base.specs.Structures.{Calls}
 use Rattle.pm_base.specs.declared.history.Deed.TheVariants as deed
 use Rattle.pm_board.specs.declared.board.View.{View}
-use Rattle.pm_board.specs.Machines.{told_so, Grows, Ran, still, steps, Breaks, before_all, within, Settles}
+use Rattle.pm_board.specs.Machines.{answered_so, Grows, Ran, still, steps, Breaks, before_all, within, Settles}
 use Rattle.pm_board.specs.Views.{deeds_at, seated, RunsOne}
 use Rattle.pq.specs.Calls.{EnqueueGoes, DequeueGoes, RecoverGoes, first_enqueue, first_dequeue, first_recovery}
 use Rattle.pq.specs.Queue.{queue, enqueues, enqueue_doing, enqueue_says, EnqueueEnds, dequeues, dequeue_doing, dequeue_says, DequeueEnds, recoveries, recover_doing, recover_says, RecoverEnds}
@@ -20,26 +20,26 @@ use Rattle.pq.specs.declared.recover.Recover.{Recover}
 use Rattle.pq.specs.declared.recover.RecoverStage.{RecoverStage}
 use Rattle.pq.specs.declared.recover.RecoverStage.TheVariants as recover
 use Rattle.pq.specs.declared.calls.Doing.{Doing}
-use Rattle.pq.specs.declared.calls.Told.{Told}
+use Rattle.pq.specs.declared.calls.Response.{Response}
 use Rattle.pq.specs.declared.calls.Ended.{Ended}
 use Rattle.pq_shared.specs.Endings.{HasEnded, EnqueueLeaves, DequeueLeaves, RecoverLeaves, IsEnqueued, IsDequeued, IsRecovered}
 
 abbrev Sat : Type 0
-Sat = Me ℕ (View Doing Told)
+Sat = Me ℕ (View Doing Response)
 
 -- ---- calls of any kind: what holds of the call stays so, and nothing is answered before its end
 
-module _ {C : Type 0} (c : Calls ℕ Doing Told C Ended) (Kept : C → Type 0) (stays : (d : C) (word : ℕ) → Kept d → Kept (c.next d word)) (quiet : (d : C) → c.goes d → c.says d ≡ []) where
-  ran_kept : (first call : C) (ts : List Told) (n : ℕ) → Kept first → c.says first ≡ [] → Ran c first call ts n → Kept call × (ts ≡ c.says call)
+module _ {C : Type 0} (c : Calls ℕ Doing Response C Ended) (Kept : C → Type 0) (stays : (d : C) (word : ℕ) → Kept d → Kept (c.next d word)) (quiet : (d : C) → c.goes d → c.says d ≡ []) where
+  ran_kept : (first call : C) (ts : List Response) (n : ℕ) → Kept first → c.says first ≡ [] → Ran c first call ts n → Kept call × (ts ≡ c.says call)
   ran_kept first call ts n kept start still = (kept, sym start)
   ran_kept first call us m kept start (steps d ts n word ran go) =
       let r = ran_kept first d ts n kept start ran in
-      (stays d word r.0, ap (λ (l : List Told). c.says (c.next d word) ++ l) (r.1 ∙ quiet d go) ∙ append-nil (c.says (c.next d word)))
+      (stays d word r.0, ap (λ (l : List Response). c.says (c.next d word) ++ l) (r.1 ∙ quiet d go) ∙ append-nil (c.says (c.next d word)))
 
-  has_ended : (n process : ℕ) (first : C) (old me : Sat) (call : C) (end : Ended) (Leaves : Doing → List Told → Type 0) (k : ℕ) → Kept first → c.says first ≡ [] → c.process first ≡ process → (Kept call → c.process call ≡ process)
+  has_ended : (n process : ℕ) (first : C) (old me : Sat) (call : C) (end : Ended) (Leaves : Doing → List Response → Type 0) (k : ℕ) → Kept first → c.says first ≡ [] → c.process first ≡ process → (Kept call → c.process call ≡ process)
       → (Kept call → c.ends call end → Leaves (c.doing call) (c.says call)) → Settles queue c n first old me call end k → HasEnded old me process (c.doing first) Leaves (c.rank first) k
   has_ended n process first old me call end Leaves k kept start begun own leaves h =
-      let r = ran_kept first call h.is.told k kept start h.is.ran in record {
+      let r = ran_kept first call h.is.responses k kept start h.is.ran in record {
         now = c.doing call;
         answers = c.says call;
         leaves = leaves r.0 h.ends;
@@ -47,14 +47,14 @@ module _ {C : Type 0} (c : Calls ℕ Doing Told C Ended) (Kept : C → Type 0) (
           runs = record { seat = seated (c.process call) (c.doing call) h.buffer h.is.held; at = h.is.at; own = own r.0; seen = _; looked = h.is.grows.seen };
           does = refl;
         };
-        done = ap (λ d. d.done) (ap deeds_at h.is.at) ∙ (h.is.done ∙ ap (λ (l : List Told). told_so l ++ (deed.Began (c.doing first) ∷ (deeds_at old).done)) r.1);
+        done = ap (λ d. d.done) (ap deeds_at h.is.at) ∙ (h.is.done ∙ ap (λ (l : List Response). answered_so l ++ (deed.Began (c.doing first) ∷ (deeds_at old).done)) r.1);
         grows = subst (λ d. Grows process (deeds_at old) d k) (sym (ap deeds_at h.is.at)) (subst (λ (p : ℕ). Grows p (deeds_at old) h.is.held k) begun h.is.grows);
         few = h.few;
       }
 
   runs_on : (n process : ℕ) (first : C) (old me : Sat) (call : C) (k : ℕ) → Kept first → c.says first ≡ [] → ((d : C) → Kept d → c.process d ≡ process) → RunsOne old process → Breaks queue c n first old me call k → RunsOne me process
   runs_on n process first old me call k kept start own runs before_all = runs
-  runs_on n process first old me call k kept start own runs (within m d x j is few) = record { seat = seated (c.process d) (c.doing d) x is.held; at = is.at; own = own d (ran_kept first d is.told j kept start is.ran).0; seen = _; looked = is.grows.seen }
+  runs_on n process first old me call k kept start own runs (within m d x j is few) = record { seat = seated (c.process d) (c.doing d) x is.held; at = is.at; own = own d (ran_kept first d is.responses j kept start is.ran).0; seen = _; looked = is.grows.seen }
 
 -- ---- enqueues
 

@@ -7,10 +7,10 @@ ghost use Rattle.pq.specs.Places.{Belongs};
 ghost use Rattle.pq.specs.declared.calls.Doing.TheVariants.{Idle};
 ghost use Rattle.pq_shared.specs.Endings.{IsDequeued, IsEnqueued, IsRecovered};
 
-use pm_board::board::{Board, Place};
+use pm_board::board::{Board, TableSeat};
 use pm_board::drive::drive;
 use pm_board::fuse::Fuse;
-use pq::calls::{Doing, Ended, Told};
+use pq::calls::{Doing, Ended, Response};
 use pq::dequeue::Dequeue;
 use pq::enqueue::Enqueue;
 use pq::queue::Queue;
@@ -40,7 +40,7 @@ pub struct Recovery {
 /// at most 9 × (1,024 n + 1) + 15 steps. It ends as `Torn` only on words that are not those of a queue, which no run has.
 pub fn enqueue<F: Fuse>(
     board: &Board<Queue>,
-    place: &mut Place<Doing, Told>,
+    place: &mut TableSeat<Doing, Response>,
     operation: Operation,
     value: u64,
     fuse: &mut F,
@@ -62,7 +62,7 @@ pub fn enqueue<F: Fuse>(
 /// at most 12 × (1,024 n + 1) + 15 steps. It ends as `Torn` only on words that are not those of a queue, which no run has.
 pub fn dequeue<F: Fuse>(
     board: &Board<Queue>,
-    place: &mut Place<Doing, Told>,
+    place: &mut TableSeat<Doing, Response>,
     operation: Operation,
     fuse: &mut F,
 ) -> Option<Ended>
@@ -84,7 +84,7 @@ pub fn dequeue<F: Fuse>(
 /// on words that are not those of a queue, which no run has.
 pub fn recover<F: Fuse>(
     board: &Board<Queue>,
-    place: &mut Place<Doing, Told>,
+    place: &mut TableSeat<Doing, Response>,
     process: usize,
     fuse: &mut F,
 ) -> Option<Recovery>

@@ -5,11 +5,11 @@ ghost use Rattle.pm_mark.specs.declared.mark.Doing.TheVariants as marks;
 ghost use Rattle.pm_registers.specs.declared.calls.Doing.TheVariants.{Idle};
 ghost use Rattle.pm_board.specs.Views.{RunsOne, Sits};
 
-use pm_board::board::{Board, Place};
+use pm_board::board::{Board, TableSeat};
 use pm_board::fuse::Whole;
 use pm_mark::mark;
 use pm_mark::mark::Mark;
-use pm_registers::calls::{Doing, Told};
+use pm_registers::calls::{Doing, Response};
 use pm_registers::registers::Registers;
 use pm_shared::mark::raise;
 use pm_shared::registers::write;
@@ -21,7 +21,7 @@ use std::thread::{Threads, join};
 const VALUES: u64 = 100;
 
 // A board of two registers, and the seats of its processes.
-fn registers(alloc: Global) -> Option<(Board<Registers>, Place<Doing, Told>, Place<Doing, Told>)>
+fn registers(alloc: Global) -> Option<(Board<Registers>, TableSeat<Doing, Response>, TableSeat<Doing, Response>)>
     ensures { IfSome result (λ r. (r.0.key ≡ 2) × (r.1.table_id ≡ r.0.table.shared.table_id) × Sits r.1.me 0 (Idle 0) × (r.2.table_id ≡ r.0.table.shared.table_id) × Sits r.2.me 1 (Idle 0)) }
 {
     let (board, mut rest) = Board::<Registers>::make(alloc, 2).ok()?;
@@ -33,9 +33,9 @@ fn registers(alloc: Global) -> Option<(Board<Registers>, Place<Doing, Told>, Pla
 // A process writes value after value: its seat, and the last one that it wrote.
 fn write_all(
     board: &Board<Registers>,
-    mut place: Place<Doing, Told>,
+    mut place: TableSeat<Doing, Response>,
     process: usize,
-) -> (Place<Doing, Told>, u64)
+) -> (TableSeat<Doing, Response>, u64)
     requires table { place.table_id ≡ board.now.table.shared.table_id }
     requires sits { Sits place.me process (Idle 0) }
     requires low { (process < board.now.key) × (board.now.key < 2 ^ 32) }
@@ -55,8 +55,8 @@ fn marks(
 ) -> Option<
     (
         Board<Mark>,
-        Place<mark::Doing, u64>,
-        Place<mark::Doing, u64>,
+        TableSeat<mark::Doing, u64>,
+        TableSeat<mark::Doing, u64>,
     ),
 >
     ensures { IfSome result (λ r. (r.0.key ≡ 2) × (r.1.table_id ≡ r.0.table.shared.table_id) × Sits r.1.me 0 marks.Idle × (r.2.table_id ≡ r.0.table.shared.table_id) × Sits r.2.me 1 marks.Idle) }
@@ -70,9 +70,9 @@ fn marks(
 // A process raises the mark to value after value: its seat, and the last one of which it was answered that it is up.
 fn raise_all(
     board: &Board<Mark>,
-    mut place: Place<mark::Doing, u64>,
+    mut place: TableSeat<mark::Doing, u64>,
     process: usize,
-) -> (Place<mark::Doing, u64>, u64)
+) -> (TableSeat<mark::Doing, u64>, u64)
     requires table { place.table_id ≡ board.now.table.shared.table_id }
     requires sits { Sits place.me process marks.Idle }
     ensures { (result.0.table_id ≡ board.now.table.shared.table_id) × RunsOne result.0.me process }
@@ -95,11 +95,11 @@ fn two_threads_share_registers(rt: HostRuntime) -> Result<(), Fail> {
     };
     let ((mut first, one), (second, two)) = join(
         &rt,
-        || -> (Place<Doing, Told>, u64)
+        || -> (TableSeat<Doing, Response>, u64)
             requires { (first.table_id ≡ board.table.shared.table_id) × Sits first.me 0 (Idle 0) × (board.key ≡ 2) }
             ensures { (result.0.table_id ≡ board.table.shared.table_id) × RunsOne result.0.me 0 }
         { write_all(&board, first, 0) },
-        || -> (Place<Doing, Told>, u64)
+        || -> (TableSeat<Doing, Response>, u64)
             requires { (second.table_id ≡ board.table.shared.table_id) × Sits second.me 1 (Idle 0) × (board.key ≡ 2) }
             ensures { (result.0.table_id ≡ board.table.shared.table_id) × RunsOne result.0.me 1 }
         { write_all(&board, second, 1) },
@@ -123,11 +123,11 @@ fn two_threads_share_a_mark(rt: HostRuntime) -> Result<(), Fail> {
     };
     let ((mut first, one), (second, two)) = join(
         &rt,
-        || -> (Place<mark::Doing, u64>, u64)
+        || -> (TableSeat<mark::Doing, u64>, u64)
             requires { (first.table_id ≡ board.table.shared.table_id) × Sits first.me 0 marks.Idle }
             ensures { (result.0.table_id ≡ board.table.shared.table_id) × RunsOne result.0.me 0 }
         { raise_all(&board, first, 0) },
-        || -> (Place<mark::Doing, u64>, u64)
+        || -> (TableSeat<mark::Doing, u64>, u64)
             requires { (second.table_id ≡ board.table.shared.table_id) × Sits second.me 1 marks.Idle }
             ensures { (result.0.table_id ≡ board.table.shared.table_id) × RunsOne result.0.me 1 }
         { raise_all(&board, second, 1) },

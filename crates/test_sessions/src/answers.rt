@@ -1,7 +1,7 @@
 use ds_formula::cells::Shape;
 use ds_layout::place::Place;
 use ds_server::answer::{Response, response_line};
-use ds_server::board::CallRefusal;
+use ds_server::desk::CallRefusal;
 use ds_server::request::LineFault;
 use ds_state::answer::Other;
 use std::alloc::AllocError;

@@ -144,7 +144,7 @@ impl Account {
                 self.forget();
                 self.edits.is_empty()
             }
-            Ended::Answered(Answer::Recovery(RecoveryEnd::Last(told))) => self.resolve(told),
+            Ended::Answered(Answer::Recovery(RecoveryEnd::Last(resolved))) => self.resolve(resolved),
             Ended::Stopped => true,
             _ => false,
         }
@@ -161,14 +161,14 @@ impl Account {
     }
 
     // The last edit that was announced ended so.
-    fn resolve(&mut self, told: LastEdit) -> bool {
-        let fate = if told.counts {
+    fn resolve(&mut self, returned: LastEdit) -> bool {
+        let fate = if resolved.counts {
             Fate::Counts
         } else {
             Fate::Never
         };
         match self.edits.last().copied() {
-            Some(edit) if edit.number != told.number => self.forget(),
+            Some(edit) if edit.number != resolved.number => self.forget(),
             _ => {}
         }
         match self.edits.last_mut() {
@@ -177,7 +177,7 @@ impl Account {
         }
         match self.edits.last() {
             Some(edit) => {
-                edit.number == told.number && edit.cell == told.cell && edit.fate == fate
+                edit.number == resolved.number && edit.cell == resolved.cell && edit.fate == fate
             }
             None => false,
         }

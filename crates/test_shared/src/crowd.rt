@@ -2,7 +2,7 @@
 
 ghost use Rattle.std.specs.Prelude.{◌≡◌, All, IfSome};
 ghost use Rattle.std.specs.Mem.Slots.{slots_items};
-ghost use Rattle.ds_drives.specs.Rule.{AreTrue, AtRest, Behind};
+ghost use Rattle.ds_drives.specs.Rule.{AreTrue, AtRest, Witness};
 ghost use Rattle.ds_shared.specs.Answers.{IsOf, IsPastOf};
 ghost use Rattle.ds_drives.specs.Views.{past_of};
 
@@ -230,7 +230,7 @@ fn four<R: Threads + Sync>(
 fn ended(sheet: SharedSheet, past: Past, passes: Vec<Pass, Global>) -> ClosedSheet
     requires past { IsPastOf sheet past }
     requires fit { All (λ p. IsOf sheet p) passes.items }
-    ensures { (b : Behind) × AtRest result.layout (slots_items result.table.words) b × AreTrue result.layout (slots_items result.table.words) b (past_of result.before) }
+    ensures { (b : Witness) × AtRest result.layout (slots_items result.table.words) b × AreTrue result.layout (slots_items result.table.words) b (past_of result.before) }
 {
     sheet.close(past, passes)
 }
@@ -344,7 +344,7 @@ impl Crowd {
 
     /// The sheet is closed. `None` where an allocation fails.
     pub fn close(self, alloc: Global) -> Option<(ClosedSheet, Hands)>
-        ensures { IfSome result (λ r. (b : Behind) × AtRest r.0.layout (slots_items r.0.table.words) b × AreTrue r.0.layout (slots_items r.0.table.words) b (past_of r.0.before)) }
+        ensures { IfSome result (λ r. (b : Witness) × AtRest r.0.layout (slots_items r.0.table.words) b × AreTrue r.0.layout (slots_items r.0.table.words) b (past_of r.0.before)) }
     {
         let Crowd {
             sheet,
@@ -375,7 +375,7 @@ impl Crowd {
 
 /// A closed sheet is opened again. `None` where an allocation fails.
 pub fn reopened(alloc: Global, closed: ClosedSheet, hands: Hands) -> Option<Crowd>
-    requires { (b : Behind) × AtRest closed.layout (slots_items closed.table.words) b × AreTrue closed.layout (slots_items closed.table.words) b (past_of closed.before) }
+    requires { (b : Witness) × AtRest closed.layout (slots_items closed.table.words) b × AreTrue closed.layout (slots_items closed.table.words) b (past_of closed.before) }
 {
     match closed.reopen(alloc) {
         Ok((sheet, past, passes)) => {

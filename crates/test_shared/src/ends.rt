@@ -26,7 +26,7 @@ pub enum Wrong {
     /// An allocation failed.
     NoMemory,
     /// A process was answered what does not fit.
-    Told(Surprise),
+    CallEvent(Surprise),
     /// A settled report had values that no sheet of the texts has.
     Stray(Values),
     /// No report was settled, after works on all cells.
@@ -36,7 +36,7 @@ pub enum Wrong {
         /// The cell.
         cell: usize,
         /// How many edits of it are linearized, by what was answered.
-        told: u64,
+        returned: u64,
         /// The word of its head.
         head: u64,
     },
@@ -47,7 +47,7 @@ pub enum Wrong {
         /// The word of its head.
         head: u64,
         /// What its process was answered about its last edit of the cell.
-        told: Option<Edit>,
+        returned: Option<Edit>,
     },
     /// The cell has another text than its last edit gave it.
     Text(usize),
@@ -91,15 +91,15 @@ fn last_of(crowd: &Crowd, process: usize, cell: usize) -> Option<Edit> {
 // The cell's head and text are those of its last edit that was answered as linearized.
 fn check_cell(shown: &Shown, crowd: &Crowd, cell: usize) -> Result<(), Wrong> {
     let head = shown.head;
-    let mut told = 0u64;
+    let mut call_events = 0u64;
     for process in 0..PROCESSES {
-        told = told.wrapping_add(crowd.hand(process).account.count_of(cell));
+        call_events = returned.wrapping_add(crowd.hand(process).account.count_of(cell));
     }
     let parts = Head::parts(head);
-    if parts.stamp != told {
-        return Err(Wrong::Stamp { cell, told, head });
+    if parts.stamp != returned {
+        return Err(Wrong::Stamp { cell, returned, head });
     }
-    if told == 0 {
+    if returned == 0 {
         return if shown.text.is_empty() {
             Ok(())
         } else {
@@ -114,7 +114,7 @@ fn check_cell(shown: &Shown, crowd: &Crowd, cell: usize) -> Result<(), Wrong> {
                 Err(Wrong::Text(cell))
             }
         }
-        told => Err(Wrong::Last { cell, head, told }),
+        call_events => Err(Wrong::Last { cell, head, returned }),
     }
 }
 
@@ -153,7 +153,7 @@ pub fn check(
     for process in 0..PROCESSES {
         let hand = crowd.hand(process);
         if let Some(surprise) = hand.account.surprise {
-            return Err(Wrong::Told(surprise));
+            return Err(Wrong::CallEvent(surprise));
         }
         if let Some(values) = hand.stray {
             return Err(Wrong::Stray(values));

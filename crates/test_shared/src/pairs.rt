@@ -2,7 +2,7 @@
 
 ghost use Rattle.std.specs.Prelude.{◌≡◌, ◌+◌, ◌<◌, All, IfSome};
 ghost use Rattle.std.specs.Mem.Slots.{slots_items};
-ghost use Rattle.ds_drives.specs.Rule.{AreTrue, AtRest, Behind};
+ghost use Rattle.ds_drives.specs.Rule.{AreTrue, AtRest, Witness};
 ghost use Rattle.ds_drives.specs.Views.{past_of};
 ghost use Rattle.ds_formula.specs.Cells.{IsInside};
 ghost use Rattle.ds_shared.specs.Answers.{IsOf, IsPastOf};
@@ -83,7 +83,7 @@ fn ended(
     requires past { IsPastOf sheet past }
     requires first { IsOf sheet first }
     requires second { IsOf sheet second }
-    ensures { IfSome result (λ c. (c.layout ≡ sheet.board.layout) × ((b : Behind) × AtRest c.layout (slots_items c.table.words) b × AreTrue c.layout (slots_items c.table.words) b (past_of c.before))) }
+    ensures { IfSome result (λ c. (c.layout ≡ sheet.board.layout) × ((b : Witness) × AtRest c.layout (slots_items c.table.words) b × AreTrue c.layout (slots_items c.table.words) b (past_of c.before))) }
 {
     let mut passes: Vec<Pass, Global> = match Vec::with_capacity(alloc, 2) {
         Ok(passes) => passes,
@@ -343,7 +343,7 @@ fn broken_off(
     }
 }
 
-fn told(steps: u64, unannounced: u64, undone: u64) -> Ended<RecoveryEnd> {
+fn returned(steps: u64, unannounced: u64, undone: u64) -> Ended<RecoveryEnd> {
     if steps <= unannounced {
         return Ended::Answered(RecoveryEnd::Nothing);
     }
@@ -361,12 +361,12 @@ fn edits_are_resolved(rt: HostRuntime) -> Result<(), Fail> {
             return Err(Fail::new("memory is wanting"));
         };
         assert_eq!(rt; edited == Ended::Answered(EditEnd::Done(0)), steps == 19);
-        assert_eq!(rt; one, told(steps, 8, 12));
+        assert_eq!(rt; one, returned(steps, 8, 12));
         assert_eq!(rt; two, Ended::Answered(RecoveryEnd::Nothing));
         let Some((_edited, one, two)) = broken_off(rt.alloc(), steps, true) else {
             return Err(Fail::new("memory is wanting"));
         };
-        assert_eq!(rt; one, told(steps, 6, 10));
+        assert_eq!(rt; one, returned(steps, 6, 10));
         assert_eq!(rt; two, Ended::Answered(RecoveryEnd::Nothing));
     }
     Ok(())

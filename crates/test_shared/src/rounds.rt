@@ -2,7 +2,7 @@
 
 ghost use Rattle.std.specs.Prelude.{◌≡◌, IfOk};
 ghost use Rattle.std.specs.Mem.Slots.{slots_items};
-ghost use Rattle.ds_drives.specs.Rule.{AreTrue, AtRest, Behind};
+ghost use Rattle.ds_drives.specs.Rule.{AreTrue, AtRest, Witness};
 ghost use Rattle.ds_drives.specs.Views.{past_of};
 
 use crate::crowd::{Crowd, Game, Hands, reopened};
@@ -27,8 +27,8 @@ const STEPS: u64 = 3_200;
 
 /// A crash in front of which the words with these numbers were evicted; none where they are not all words.
 pub fn crash(closed: &mut ClosedSheet, sides: &[bool])
-    requires { (b : Behind) × AtRest closed.old.layout (slots_items closed.old.table.words) b × AreTrue closed.old.layout (slots_items closed.old.table.words) b (past_of closed.old.before) }
-    ensures { (b : Behind) × AtRest closed.new.layout (slots_items closed.new.table.words) b × AreTrue closed.new.layout (slots_items closed.new.table.words) b (past_of closed.new.before) }
+    requires { (b : Witness) × AtRest closed.old.layout (slots_items closed.old.table.words) b × AreTrue closed.old.layout (slots_items closed.old.table.words) b (past_of closed.old.before) }
+    ensures { (b : Witness) × AtRest closed.new.layout (slots_items closed.new.table.words) b × AreTrue closed.new.layout (slots_items closed.new.table.words) b (past_of closed.new.before) }
 {
     if sides.len() == closed.layout().words() {
         closed.crash_with(sides);
@@ -60,7 +60,7 @@ fn play<R: Threads + Sync>(
 
 // A closed sheet, opened again, and what it shows.
 fn shown(alloc: Global, closed: ClosedSheet, hands: Hands) -> Result<(Crowd, Vec<Shown>), Wrong>
-    requires { (b : Behind) × AtRest closed.layout (slots_items closed.table.words) b × AreTrue closed.layout (slots_items closed.table.words) b (past_of closed.before) }
+    requires { (b : Witness) × AtRest closed.layout (slots_items closed.table.words) b × AreTrue closed.layout (slots_items closed.table.words) b (past_of closed.before) }
 {
     let Some(all) = shown_by(alloc, &closed) else {
         closed.free();

@@ -2,7 +2,7 @@
 
 ghost use Rattle.std.specs.Prelude.{◌≡◌};
 ghost use Rattle.std.specs.Mem.Slots.{slots_items};
-ghost use Rattle.ds_drives.specs.Rule.{AreTrue, AtRest, Behind};
+ghost use Rattle.ds_drives.specs.Rule.{AreTrue, AtRest, Witness};
 ghost use Rattle.ds_drives.specs.Views.{past_of};
 
 use crate::crowd::{Crowd, reopened};
@@ -111,8 +111,8 @@ fn crash_both(
     closed: &mut ClosedSheet,
     draw: &mut Draw,
 ) -> Result<(), Difference>
-    requires { (b : Behind) × AtRest closed.old.layout (slots_items closed.old.table.words) b × AreTrue closed.old.layout (slots_items closed.old.table.words) b (past_of closed.old.before) }
-    ensures { (b : Behind) × AtRest closed.new.layout (slots_items closed.new.table.words) b × AreTrue closed.new.layout (slots_items closed.new.table.words) b (past_of closed.new.before) }
+    requires { (b : Witness) × AtRest closed.old.layout (slots_items closed.old.table.words) b × AreTrue closed.old.layout (slots_items closed.old.table.words) b (past_of closed.old.before) }
+    ensures { (b : Witness) × AtRest closed.new.layout (slots_items closed.new.table.words) b × AreTrue closed.new.layout (slots_items closed.new.table.words) b (past_of closed.new.before) }
 {
     single.stop(alloc);
     compare(single, closed)?;

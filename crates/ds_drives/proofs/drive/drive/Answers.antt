@@ -6,10 +6,10 @@ use Rattle.ds_layout.specs.SheetMemory.{NamesPlace, access_at}
 use Rattle.ds_layout.specs.declared.layout.Starts.{Starts}
 use Rattle.ds_layout.specs.declared.place.Place.{Place}
 use Rattle.ds_drives.specs.declared.board.Deeds.{Deeds}
-use Rattle.ds_drives.specs.declared.board.Told.{Told}
+use Rattle.ds_drives.specs.declared.board.CallEvent.{CallEvent}
 use Rattle.ds_drives.specs.declared.board.View.{View}
 use Rattle.ds_drives.specs.Table.{answer, buffer_after, class_flushed, HasRoom}
-use Rattle.ds_drives.specs.Views.{lone, deeds_at, deeds_in, steps_later, told_more}
+use Rattle.ds_drives.specs.Views.{lone, deeds_at, deeds_in, steps_later, answered_more}
 use Rattle.ds_drives.specs.Rules.{steps}
 use Rattle.ds_drives.specs.Rule.{Poised}
 use Rattle.ds_drives.specs.Machines.{asked, due, stepped, left, Grows, IsServed, Landed}
@@ -19,7 +19,7 @@ use Rattle.ds_drives.proofs.drive.drive.Goals as goal
 
 pub loop-end-init : goal.loop-end-init
 loop-end-init g c =
-    let first : Told = g.M.Machine.rules.begins c.args.board.now.layout c.args.call.now in record {
+    let first : CallEvent = g.M.Machine.rules.begins c.args.board.now.layout c.args.call.now in record {
       same = (refl, refl);
       fits = c.requires.fits;
       stays = c.requires.stays;
@@ -28,8 +28,8 @@ loop-end-init g c =
       asked = asked_none g.F.Fuse.said c.args.fuse.now;
       grows = grows_poised c.args.board.now.layout (first ∷ []) c.args.seat.now.me (g.M.Machine.rules.process c.args.call.now) (g.M.Machine.rules.doing c.args.call.now) [] c.requires.poised;
       few = omega arith;
-      held = told_more (deeds_at c.args.seat.now.me) (first ∷ []);
-      underway = record { told = refl; steps = omega arith };
+      held = answered_more (deeds_at c.args.seat.now.me) (first ∷ []);
+      underway = record { call_events = refl; steps = omega arith };
       drives = inl (subst (λ (x : List (BufferEntry ℕ)). Poised c.args.board.now.layout (first ∷ []) c.args.seat.now.me (g.M.Machine.rules.process c.args.call.now) (g.M.Machine.rules.doing c.args.call.now) x) (sym c.new-buffer.ensures) c.requires.poised, c.requires.goes, refl, refl, refl, refl);
     }
 
@@ -82,7 +82,7 @@ loop-end-preserved g c =
     let me : Me ℕ View = c.loop-end.seat.me in
     let taken : ℕ = c.loop-end.invariant.taken in
     let held : Deeds = c.loop-end.invariant.held in
-    let begins : List Told = due g.M.Machine.rules c.args.board.now.layout c.loop-end.begun c.loop-end.call in
+    let begins : List CallEvent = due g.M.Machine.rules c.args.board.now.layout c.loop-end.begun c.loop-end.call in
     let p = c.law.ensures.poised c.args.call.now c.args.seat.now.me held c.loop-end.begun me c.loop-end.call c.loop-end.buffer.items c.in-GoesOn.ensures c.loop-end.invariant.drives in
     let came = c.law.ensures.came c.args.call.now c.args.seat.now.me held c.loop-end.begun me c.loop-end.call c.loop-end.buffer.items c.loop-end.invariant.drives in
     let holds = c.law.ensures.holds c.args.call.now c.args.seat.now.me held c.loop-end.begun me c.loop-end.call c.loop-end.buffer.items c.in-GoesOn.ensures c.loop-end.invariant.drives in
@@ -111,7 +111,7 @@ loop-end-preserved g c =
           (subst (λ (q : ℕ). Grows q (deeds_at me) (deeds_in c.access-found.new.seat.me.0.entries) 1) (c.law.ensures.own c.args.call.now c.loop-end.call c.loop-end.invariant.stays) landed.grows);
       few = omega (arith, few, fewer);
       held = further;
-      underway = record { told = before.told; steps = omega (arith, counted) };
+      underway = record { call_events = before.call_events; steps = omega (arith, counted) };
       drives = inr (stepped g.M.Machine.rules c.args.board.now.layout c.loop-end.call found, at, turned, steps c.loop-end.call (answer (asked g.M.Machine.rules c.args.board.now.layout c.loop-end.call) found) came c.in-GoesOn.ensures, c.law.ensures.kept c.args.call.now c.loop-end.call (answer (asked g.M.Machine.rules c.args.board.now.layout c.loop-end.call) found) c.loop-end.invariant.stays, refl, (landed.seen, refl));
     }
 

@@ -2,7 +2,7 @@ use Rattle.std.proofs.Common.{◌≡◌, ℕ, ◌+◌, ◌≤◌, ◌<◌, true,
 use Rattle.std.specs.Prelude.{vec_capacity}
 use Rattle.std.specs.Io.KnownBytes.{Consumes, Appends}
 use Rattle.ds_script_io.specs.Streams.{reader_of, writer_of, is_flushed, bytes_given, write_failed}
-use Rattle.ds_server.specs.Boards.{Seated}
+use Rattle.ds_server.specs.Desks.{Seated}
 use Rattle.ds_server.specs.Session.{Session}
 use Rattle.ds_server.proofs.session.run_lines.Given as goal
 
@@ -12,8 +12,8 @@ invariant-lines g l = record {
   out : List ℕ;
   consumed : Consumes (g.R.Read.remaining (reader_of l.fn.reader)) (g.R.Read.remaining (reader_of l.reader)) bytes;
   written : Appends (g.W.Write.contents (writer_of l.fn.writer)) (g.W.Write.contents (writer_of l.writer)) out;
-  session : Session g.B.Board.rules l.most l.fn.board bytes l.board l.joined out;
-  seated : Seated g.B.Board.rules l.joined l.board;
+  session : Session g.B.Desk.rules l.most l.fn.desk bytes l.desk l.joined out;
+  seated : Seated g.B.Desk.rules l.joined l.desk;
   counted : length bytes + l.left ≡ l.limit;
   room : l.most < vec_capacity l.line;
   given : bytes_given l.reader ≤ bytes_given l.fn.reader + length bytes;

@@ -3,10 +3,10 @@ use Rattle.ds_layout.specs.declared.layout.Layout.{Layout}
 use Rattle.ds_calls.specs.declared.settle.SettleEnd.TheVariants.{Left}
 use Rattle.ds_calls.specs.declared.settle.SettleStage.TheVariants.{Ends}
 use Rattle.ds_calls.proofs.Runs.{settling_runs, run_keeps_layout}
-use Rattle.ds_server.specs.declared.board.CallRefusal.{CallRefusal}
-use Rattle.ds_server.specs.BoardCalls.{Report}
+use Rattle.ds_server.specs.declared.desk.CallRefusal.{CallRefusal}
+use Rattle.ds_server.specs.DeskCalls.{Report}
 use Rattle.ds_server.specs.Replies.{Refused}
-use Rattle.ds_server.specs.WorldBoards.{Does, reports, is_refused, lacks}
+use Rattle.ds_server.specs.WorldDesks.{Does, reports, is_refused, lacks}
 use Rattle.ds_server.proofs.world.settled.Goals as goal
 
 pub reported-requires : goal.reported-requires

@@ -3,7 +3,7 @@ use Rattle.ds_core.specs.declared.reply.Reply.TheVariants.{Entered}
 use Rattle.std.proofs.Common.{sym, subst, [], ◌∷◌}
 use Rattle.ds_state.specs.Works.{PlainRecoverCall}
 use Rattle.ds_state.specs.declared.situation.Situation.TheVariants.{Recovering}
-use Rattle.ds_drives.specs.declared.board.Told.TheVariants.{Began}
+use Rattle.ds_drives.specs.declared.board.CallEvent.TheVariants.{Began}
 use Rattle.ds_drives.specs.RecoverRules.{recover_rules}
 use Rattle.ds_drives.specs.Views.{sole}
 use Rattle.ds_drives.specs.Rule.{Ready}

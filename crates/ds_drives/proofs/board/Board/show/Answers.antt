@@ -3,7 +3,7 @@ use Rattle.ds_core.specs.declared.reply.Reply.TheVariants.{Entered}
 use Rattle.std.proofs.Common.{sym, subst, [], ◌∷◌}
 use Rattle.ds_state.specs.Works.{PlainShowCall}
 use Rattle.ds_state.specs.declared.situation.Situation.TheVariants.{Showing}
-use Rattle.ds_drives.specs.declared.board.Told.TheVariants.{Began}
+use Rattle.ds_drives.specs.declared.board.CallEvent.TheVariants.{Began}
 use Rattle.ds_drives.specs.ShowRules.{show_rules}
 use Rattle.ds_drives.specs.Views.{sole}
 use Rattle.ds_drives.specs.Rule.{Ready}

@@ -51,10 +51,10 @@ returns-clause-stand c =
       opens = s.opens;
       made = s.made;
       stands = λ e t. s.stands e (subst (λ (x : Seated). In c.loop-pass.seat.me.0.entries x) (sym t.2) (none_left _ t.0 c.loop-pass.seat.me.0 (search rules) (c.loop-pass.invariant.3 t.0 t.1)));
-      behind = s.behind;
+      witness = s.witness;
       stops = s.stops;
       rests = s.rests;
-      told = λ e inside. s.told e (subst (λ (es : List Seated). In es e) c.close-table.ensures.past inside);
+      call_events = λ e inside. s.call_events e (subst (λ (es : List Seated). In es e) c.close-table.ensures.past inside);
     }
 
 pub returns-clause-run : goal.returns-clause-run

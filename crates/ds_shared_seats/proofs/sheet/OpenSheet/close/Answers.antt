@@ -7,7 +7,7 @@ use Rattle.ds_shared_seats.specs.Sheets.{IsClosed, IsClosedWith}
 use Rattle.ds_shared_seats.proofs.Looking.{order_looked, own_looked}
 use Rattle.std.specs.Mem.Slots.{slots_items}
 use Rattle.ds_layout.specs.declared.layout.Layout.{Layout}
-use Rattle.ds_drives.specs.Rule.{AreTrue, AtRest, Behind}
+use Rattle.ds_drives.specs.Rule.{AreTrue, AtRest, Witness}
 use Rattle.ds_drives.specs.Views.{past_of}
 use Rattle.ds_shared_seats.proofs.sheet.OpenSheet.close.Goals as goal
 
@@ -47,5 +47,5 @@ returns-in-Ok-try_unwrap-clause-ok c =
 pub of-requires : goal.of-requires
 of-requires c =
     let h = c.close.ensures in
-    subst (λ (l : Layout). (b : Behind) × AtRest l (slots_items c.close.result.table.words) b × AreTrue l (slots_items c.close.result.table.words) b (past_of c.close.result.before)) (sym h.layout)
-    (h.stand.behind, h.stand.rests, h.stand.told)
+    subst (λ (l : Layout). (b : Witness) × AtRest l (slots_items c.close.result.table.words) b × AreTrue l (slots_items c.close.result.table.words) b (past_of c.close.result.before)) (sym h.layout)
+    (h.stand.witness, h.stand.rests, h.stand.call_events)

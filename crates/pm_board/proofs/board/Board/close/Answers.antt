@@ -17,7 +17,7 @@ stands : goal.returns-clause-stand
 stands g c =
     let e = ended g.P.Structured.structure c.args.self.table.shared.key.own (start_of c.args.self.table.shared.key) _ _ _ _ c.close_with.ensures.values.2 in
     let view : c.split_seat-before.new.seat.me.0 ≡ c.args.place.me.0 = ap (λ m. m.0) c.split_seat-before.ensures.2 in
-    let one = subst (λ (z : View g.row.P-Doing.Denot g.row.P-Told.Denot). Closes g.P.Structured.structure c.args.self.table.shared.key.own (start_of c.args.self.table.shared.key) (slots_items c.close_with.result.words) z.entries (z.past ++ z.entries)) view e in
+    let one = subst (λ (z : View g.row.P-Doing.Denot g.row.P-Response.Denot). Closes g.P.Structured.structure c.args.self.table.shared.key.own (start_of c.args.self.table.shared.key) (slots_items c.close_with.result.words) z.entries (z.past ++ z.entries)) view e in
     subst (λ k. Closes g.P.Structured.structure k (start_of c.args.self.table.shared.key) (slots_items c.close_with.result.words) c.args.place.me.0.entries (c.args.place.me.0.past ++ c.args.place.me.0.entries)) c.args.self.sized.1 one
 
 pub returns-clause-stand : goal.returns-clause-stand
@@ -30,4 +30,4 @@ pub returns-clause-rests : goal.returns-clause-rests
 returns-clause-rests g c =
     let s = stands g c in
     let view : c.split_seat-before.new.seat.me.0 ≡ c.args.place.me.0 = ap (λ m. m.0) c.split_seat-before.ensures.2 in
-    (s.behind, s.rests, subst (λ (es : List (Seated g.row.P-Doing.Denot g.row.P-Told.Denot)). AreTrue g.P.Structured.structure c.args.self.key s.behind es) (sym (ap (λ m. m.0.past) c.split_seat-before.ensures.4)) s.told)
+    (s.witness, s.rests, subst (λ (es : List (Seated g.row.P-Doing.Denot g.row.P-Response.Denot)). AreTrue g.P.Structured.structure c.args.self.key s.witness es) (sym (ap (λ m. m.0.past) c.split_seat-before.ensures.4)) s.is_right)

@@ -14,6 +14,6 @@ load-found-requires g c =
     let me = c.args.place.now.me in (
       c.requires.0,
       some,
-      subst (λ (m : Me ℕ (View g.row.P-Doing.Denot g.row.P-Told.Denot)). Allows (Ruled g.P.Structured.structure key.own {X = ℕ} (start_of key)) c.args.self.now.table.shared.table_id.slots c.args.place.now.id m 0 (λ n. n) (λ n m'. (m'.1 ≡ m.1) × Looks m.0 [] m'.0))
+      subst (λ (m : Me ℕ (View g.row.P-Doing.Denot g.row.P-Response.Denot)). Allows (Ruled g.P.Structured.structure key.own {X = ℕ} (start_of key)) c.args.self.now.table.shared.table_id.slots c.args.place.now.id m 0 (λ n. n) (λ n m'. (m'.1 ≡ m.1) × Looks m.0 [] m'.0))
           (λ i. (me.0, sym c.requires.1 i)) (looks g.P.Structured.structure key.own (start_of key) _ _ me.0 [] (λ e none. absurd none)),
     )

@@ -34,7 +34,7 @@ load-found-requires g c =
     let some : 0 < table.table_id.words = (let n = c.args.self.some.0 in let a = o.0 in omega (arith, n, a, long)) in (
       o.2,
       some,
-      subst (λ (m : Me ℕ (View g.row.P-Doing.Denot g.row.P-Told.Denot)). Allows (Ruled s table.key.own {X = ℕ} (start_of table.key)) table.table_id.slots c.in-Ok-of_words.place.id m 0 (λ n. n) (λ n m'. (m'.1 ≡ m.1) × Looks m.0 m.0.past m'.0))
+      subst (λ (m : Me ℕ (View g.row.P-Doing.Denot g.row.P-Response.Denot)). Allows (Ruled s table.key.own {X = ℕ} (start_of table.key)) table.table_id.slots c.in-Ok-of_words.place.id m 0 (λ n. n) (λ n m'. (m'.1 ≡ m.1) × Looks m.0 m.0.past m'.0))
           (λ i. (me.0, sym (ap (λ m. m.1) o.4) i)) (looks s table.key.own (start_of table.key) _ _ me.0 me.0.past (λ e here. here)),
     )
 
@@ -47,10 +47,10 @@ returns-in-Ok-of_words-clause-place g c =
     let past = past_of c.args.self.before in
     let first : c.in-Ok-of_words.place.me.0 ≡ first_view s key true past = ap (λ m. m.0) o.4 in
     let at : c.load-found.new.seat.me.0 ≡ whole_view s key true (Some l.seen) past =
-    l.at ∙ (ap (λ (v : View g.row.P-Doing.Denot g.row.P-Told.Denot). (let w : View g.row.P-Doing.Denot g.row.P-Told.Denot = record { entries = looked l.seen v.entries; past = v.past } in w)) first ∙ ap (λ es. (let w : View g.row.P-Doing.Denot g.row.P-Told.Denot = record { entries = es; past = past } in w)) (newcomers_look s.stopped None l.seen 0 (s.processes key))) in
+    l.at ∙ (ap (λ (v : View g.row.P-Doing.Denot g.row.P-Response.Denot). (let w : View g.row.P-Doing.Denot g.row.P-Response.Denot = record { entries = looked l.seen v.entries; past = v.past } in w)) first ∙ ap (λ es. (let w : View g.row.P-Doing.Denot g.row.P-Response.Denot = record { entries = es; past = past } in w)) (newcomers_look s.stopped None l.seen 0 (s.processes key))) in
     let empty : c.load-found.new.seat.me.1 ≡ [] = c.load-found.ensures.2.0 ∙ ap (λ m. m.1) o.4 in (
       c.load-found.ensures.0 ∙ o.2,
-      (l.seen, (λ i. (at i, empty i)), subst (λ (v : View g.row.P-Doing.Denot g.row.P-Told.Denot). BeginsWithAll l.seen v.past) first l.others),
+      (l.seen, (λ i. (at i, empty i)), subst (λ (v : View g.row.P-Doing.Denot g.row.P-Response.Denot). BeginsWithAll l.seen v.past) first l.others),
     )
 
 pub returns-in-Ok-of_words-clause-rest : goal.returns-in-Ok-of_words-clause-rest

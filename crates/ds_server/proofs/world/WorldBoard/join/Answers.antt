@@ -1,5 +1,0 @@
-use Rattle.ds_server.specs.WorldBoards.{joins}
-use Rattle.ds_server.proofs.world.WorldBoard.join.Goals as goal
-
-pub returns-clause-does : goal.returns-clause-does
-returns-clause-does c = let r = c.recovered.ensures.recovered in joins c.args.process r.answer c.recovered.result c.recovered.new.world r.whole r.tells

@@ -1,0 +1,35 @@
+-- What a desk says of itself.
+use Rattle.std.specs.Prelude.{ℕ, ◌≡◌, Option, Some, None, Result, Ok, Err}
+use Rattle.ds_formula.specs.declared.cells.Shape.{Shape}
+use Rattle.ds_state.specs.declared.recovery.LastEdit.{LastEdit}
+use Rattle.ds_server.specs.declared.desk.CallRefusal.{CallRefusal}
+use Rattle.ds_server.specs.DeskCalls.{Call, Leave}
+use Rattle.ds_server.specs.Replies.{Said, Joined, Left}
+
+-- what a desk says of itself: the shape of its sheet; how many processes it has; that the session has this process;
+-- that a call may be answered so and leave the desk so
+pub record Rules (B : Type 0) : Type 1 where
+  pub shape : B → Shape
+  pub processes : B → ℕ
+  pub sits : B → ℕ → Type 0
+  pub does : B → Call → Said → B → Type 0
+
+-- after a join that is not refused the session has the process
+abbrev pub SitsAfter : {B : Type 0} → Rules B → ℕ → Result (Option LastEdit) CallRefusal → B → Type 0
+SitsAfter rules process (Ok last) desk = rules.sits desk process
+SitsAfter rules process (Err why) desk = Unit {0}
+
+-- the session has the process that it has joined, if any
+abbrev pub Seated : {B : Type 0} → Rules B → Option ℕ → B → Type 0
+Seated rules None desk = Unit {0}
+Seated rules (Some process) desk = rules.sits desk process
+
+-- the process that the session has joined, if any, once this is said
+abbrev pub joined_after : Option ℕ → Said → Option ℕ
+joined_after joined (Joined process last) = Some process
+joined_after joined said = joined
+
+-- the session gives back the process that it has joined, if any
+abbrev pub Leaves : {B : Type 0} → Rules B → Option ℕ → B → B → Type 0
+Leaves rules None old new = new ≡ old
+Leaves rules (Some process) old new = rules.does old (Leave process) Left new
