@@ -1,9 +1,9 @@
 //! One connection: its session, its end and what the log says of it.
 
 use crate::door::Door;
+use crate::durable_writer::DurableWriter;
 use crate::farewell::{Farewell, is_foreign, part};
 use crate::floor::Floor;
-use crate::durable_writer::DurableWriter;
 use crate::visit::Visit;
 use crate::wire::{Wire, prepare};
 use ds_script_io::streams::{Reading, Writing};

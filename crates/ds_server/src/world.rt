@@ -15,7 +15,7 @@ ghost use Rattle.ds_server.specs.Session.{Outcome};
 ghost use Rattle.ds_server.specs.SessionTraces.{outcome_trace};
 ghost use Rattle.ds_server.specs.WorldDesks.{refused_by, values_of, Copies, Does, IsSeated, world_rules, HasRecovered, HasEdited, HasReported};
 
-use crate::desk::{Desk, CallRefusal, Reported};
+use crate::desk::{CallRefusal, Desk, Reported};
 use ds_calls::call::{whole_edit, whole_recovery, whole_show};
 use ds_calls::settle::{SettleEnd, settle};
 use ds_formula::cells::{Cell, Shape};

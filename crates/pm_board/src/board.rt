@@ -244,7 +244,10 @@ impl<P: Structured> Board<P> {
 
     /// A seat of no process, which remembers what another one knows. It can go to another thread, whose seat takes it in by
     /// `join` and `look`.
-    pub fn note(&self, place: &mut TableSeat<P::Doing, P::Response>) -> TableSeat<P::Doing, P::Response>
+    pub fn note(
+        &self,
+        place: &mut TableSeat<P::Doing, P::Response>,
+    ) -> TableSeat<P::Doing, P::Response>
         requires { (place.old.table_id ≡ self.now.table.shared.table_id) × (place.old.me.1 ≡ []) }
         ensures place { (place.new.table_id ≡ place.old.table_id) × (place.new.me ≡ place.old.me) }
         ensures note { (result.table_id ≡ place.old.table_id) × (result.me ≡ (bygone place.old.me.0, [])) }
@@ -264,7 +267,11 @@ impl<P: Structured> Board<P> {
     }
 
     /// A seat takes in the processes of another one, and what that remembers.
-    pub fn join(&self, place: &mut TableSeat<P::Doing, P::Response>, other: TableSeat<P::Doing, P::Response>)
+    pub fn join(
+        &self,
+        place: &mut TableSeat<P::Doing, P::Response>,
+        other: TableSeat<P::Doing, P::Response>,
+    )
         requires place { place.old.table_id ≡ self.now.table.shared.table_id }
         requires other { (other.table_id ≡ self.now.table.shared.table_id) × (other.me.1 ≡ []) }
         ensures { (place.new.table_id ≡ place.old.table_id) × (place.new.me ≡ (united place.old.me.0 other.me.0, place.old.me.1)) }

@@ -8,7 +8,7 @@ ghost use Rattle.pm_board.specs.Rule.{AtRest, Witness, Closes, HasRun, HasSideLe
 ghost use Rattle.pm_board.specs.Starts.{start_of};
 ghost use Rattle.pm_board.specs.Views.{RunsFrom, past_of, whole_view};
 
-use crate::board::{Board, Fixed, Opens, TableSeat, Remember};
+use crate::board::{Board, Fixed, Opens, Remember, TableSeat};
 use atomic_table::{Closed, Table};
 use pm_base::machine::Structured;
 use std::alloc::{AllocError, Global};

@@ -21,7 +21,15 @@ use std::thread::{Threads, join};
 const VALUES: u64 = 100;
 
 // A board of two registers, and the seats of its processes.
-fn registers(alloc: Global) -> Option<(Board<Registers>, TableSeat<Doing, Response>, TableSeat<Doing, Response>)>
+fn registers(
+    alloc: Global,
+) -> Option<
+    (
+        Board<Registers>,
+        TableSeat<Doing, Response>,
+        TableSeat<Doing, Response>,
+    ),
+>
     ensures { IfSome result (λ r. (r.0.key ≡ 2) × (r.1.table_id ≡ r.0.table.shared.table_id) × Sits r.1.me 0 (Idle 0) × (r.2.table_id ≡ r.0.table.shared.table_id) × Sits r.2.me 1 (Idle 0)) }
 {
     let (board, mut rest) = Board::<Registers>::make(alloc, 2).ok()?;

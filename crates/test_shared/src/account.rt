@@ -144,7 +144,9 @@ impl Account {
                 self.forget();
                 self.edits.is_empty()
             }
-            Ended::Answered(Answer::Recovery(RecoveryEnd::Last(resolved))) => self.resolve(resolved),
+            Ended::Answered(Answer::Recovery(RecoveryEnd::Last(resolved))) => self.resolve(
+                resolved,
+            ),
             Ended::Stopped => true,
             _ => false,
         }

@@ -97,7 +97,11 @@ fn check_cell(shown: &Shown, crowd: &Crowd, cell: usize) -> Result<(), Wrong> {
     }
     let parts = Head::parts(head);
     if parts.stamp != returned {
-        return Err(Wrong::Stamp { cell, returned, head });
+        return Err(Wrong::Stamp {
+            cell,
+            returned,
+            head,
+        });
     }
     if returned == 0 {
         return if shown.text.is_empty() {
@@ -114,7 +118,11 @@ fn check_cell(shown: &Shown, crowd: &Crowd, cell: usize) -> Result<(), Wrong> {
                 Err(Wrong::Text(cell))
             }
         }
-        call_events => Err(Wrong::Last { cell, head, returned }),
+        call_events => Err(Wrong::Last {
+            cell,
+            head,
+            returned,
+        }),
     }
 }
 
