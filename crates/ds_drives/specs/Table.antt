@@ -67,7 +67,7 @@ returned_back Bit found value = found
 returned_back Owned found value = value
 
 -- what a call of the table reports of an access, with the oldest entry of the buffer, where the word is this
-abbrev pub call_events : Access ℕ → Option (BufferEntry ℕ) → ℕ → ℕ
+abbrev pub returned : Access ℕ → Option (BufferEntry ℕ) → ℕ → ℕ
 returned (Store n value) oldest found = value
 returned Back None found = found
 returned Back (Some x) found = returned_back x.class found x.value

@@ -93,7 +93,7 @@ module _ (layout : Layout) (c : ℕ → Bool) (ws : List ℕ) (long : length ws 
       sound : IsSound (world_on layout w b)
       run : Run b.origin.opened (more ++ b.happened) (world_on layout w b)
       stood : Stood (more ++ b.happened)
-      returned : (q : ℕ) (t : CallEvent) → IsAnswered (world_on layout ws b) q t → IsAnswered (world_on layout w b) q t
+      call_events : (q : ℕ) (t : CallEvent) → IsAnswered (world_on layout ws b) q t → IsAnswered (world_on layout w b) q t
 
     evicted : (k : ℕ) → k ≤ words_of layout → Evicted (backed c ws k)
     evicted zero few = record { more = []; sound = rests.sound; run = rests.run; stood = rests.stood; call_events = λ q t h. h }

@@ -42,7 +42,7 @@ record SoFar (first : PlainWorld) (hs : List Happened) (last : PlainWorld) : Typ
   last_is : world_of new ≡ last
   good_now : IsGood new
   few : new.settled + shows_under_way new.situations ≤ begun_in hs
-  returned : (since until : List Happened) (h : Happened) (p : ℕ) (t : CallEvent) → hs ≡ since ++ h ∷ until → In (answered_from p h.before h.event h.reply) t → StandsAt old (events_of hs) (replies_of hs) new run p t (length until)
+  call_events : (since until : List Happened) (h : Happened) (p : ℕ) (t : CallEvent) → hs ≡ since ++ h ∷ until → In (answered_from p h.before h.event h.reply) t → StandsAt old (events_of hs) (replies_of hs) new run p t (length until)
 
 -- a new sheet
 begins : (w : PlainWorld) → IsNew w → IsStanding w → SoFar w [] w

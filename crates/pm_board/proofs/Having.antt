@@ -36,7 +36,7 @@ module _ {K S T : Type 0} (s : Structure K S T) (key : K) (structure : IsStructu
   open_runs start t h j v at = has_run t.words h.witness (v.past ++ v.entries) h.from h.run (known_true s key start t h j v at)
 
   pub closed_runs : ClosedBoardsHaveRuns s key
-  closed_runs words b past rests responses = has_run words b past rests.from rests.run returned
+  closed_runs words b past rests returned = has_run words b past rests.from rests.run returned
 
   pub closes_runs : (start : Start) (words : List ℕ) (entries past : List (Seated S T)) → Closes s key start words entries past → HasRun s key words past
   closes_runs start words entries past h = has_run words h.witness past h.rests.from h.rests.run h.responses

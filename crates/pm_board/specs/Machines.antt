@@ -79,10 +79,10 @@ module _ {K S T C E : Type 0} (s : Structure K S T) (c : Calls K S T C E) (key :
   -- nothing else
   pub record IsIn (first : C) (old me : Me ℕ (View S T)) (call : C) (x : List (BufferEntry ℕ)) (n : ℕ) : Type 0 where
     pub responses : List T
-    pub ran : Ran c first call returned n
+    pub ran : Ran c first call responses n
     pub held : Deeds S T
     pub at : me ≡ (lone (seated (c.process call) (c.doing call) x held), [])
-    pub done : held.done ≡ answered_so returned ++ (Began (c.doing first) ∷ (deeds_at old).done)
+    pub done : held.done ≡ answered_so responses ++ (Began (c.doing first) ∷ (deeds_at old).done)
     pub grows : Grows (c.process first) (deeds_at old) held n
 
   -- before its first step, or in it

@@ -96,7 +96,7 @@ module _ (n : ℕ) (w : World Doing (ℕ → List ℕ)) (p : ℕ) (m' : Memory �
   here_now : put w.situation p now' p ≡ now'
   here_now = put_here w.situation p now' p refl
 
-  pub answered_here : (t : Response) → IsTrueResponse d.own now' t → registers.responses n w' p t
+  pub answered_here : (t : Response) → IsTrueResponse d.own now' t → registers.is_right n w' p t
   answered_here t h = (low, subst (λ (z : Own × Doing). IsTrueResponse z.0 z.1 t) (λ i. (sym d.is i, sym here_now i)) h)
 
   well_each : (q : ℕ) → q < n → IsWell q (own_of m' had' q) (put w.situation p now' q)
@@ -104,9 +104,9 @@ module _ (n : ℕ) (w : World Doing (ℕ → List ℕ)) (p : ℕ) (m' : Memory �
       (λ same. subst (λ (z : ℕ). IsWell z (own_of m' had' z) (put w.situation p now' z)) (sym same) (subst (λ (z : Own × Doing). IsWell p z.0 z.1) (λ i. (sym d.is i, sym here_now i)) d.well))
       (λ ne. subst (λ (z : Own × Doing). IsWell q z.0 z.1) (λ i. (sym (same_own q ne) i, sym (same_now q ne) i)) (sound q lq))
 
-  answered_each : (q : ℕ) (t : Response) → registers.responses n w q t → registers.responses n w' q t
+  answered_each : (q : ℕ) (t : Response) → registers.is_right n w q t → registers.is_right n w' q t
   answered_each q t h = dite (ℕ_discrete q p)
-      (λ same. subst (λ (z : ℕ). registers.responses n w' z t) (sym same) (answered_here t (answered_on _ _ _ _ t d.grows (subst (λ (z : ℕ). IsTrueResponse (own_of w.memory w.hidden z) (w.situation z) t) same h.1))))
+      (λ same. subst (λ (z : ℕ). registers.is_right n w' z t) (sym same) (answered_here t (answered_on _ _ _ _ t d.grows (subst (λ (z : ℕ). IsTrueResponse (own_of w.memory w.hidden z) (w.situation z) t) same h.1))))
       (λ ne. (h.0, subst (λ (z : Own × Doing). IsTrueResponse z.0 z.1 t) (λ i. (sym (same_own q ne) i, sym (same_now q ne) i)) h.1))
 
   pub stepped : GoesTelling registers n w w' p says

@@ -10,7 +10,7 @@ use Rattle.pm_registers.specs.declared.calls.Response.{Response}
 use Rattle.pm_registers.specs.declared.calls.Response.TheVariants.{Wrote, Recalled}
 use Rattle.pm_registers.proofs.Sound.{registers_hold}
 
-pub is_true : (n : ℕ) (w : World Doing (ℕ → List ℕ)) (p : ℕ) (t : Response) → registers.responses n w p t → IsTrueOf w p t
+pub is_true : (n : ℕ) (w : World Doing (ℕ → List ℕ)) (p : ℕ) (t : Response) → registers.is_right n w p t → IsTrueOf w p t
 is_true n w p (Wrote v) h = h.1.0
 is_true n w p (Recalled v true) h = ((λ yes_said. h.1.0), (λ has. refl))
 is_true n w p (Recalled v false) h = ((λ said. absurd (false≢true said)), (λ has. absurd (h.1.0 has)))

@@ -222,7 +222,7 @@ module _ (n : ℕ) (w : Queue) (p : ℕ) (m2 : Memory ℕ) (now : Doing) (says :
         time_stays (nodes n) d.operation p (words_of w.memory) w.hidden d.words history sound.0 d.later q ne (λ j b. d.apart q j ne b) (w.situation q) d.tails d.heads (sound.1 q lq).0 (sound.1 q lq).2,
       ))
 
-  answered_each : (q : ℕ) (t : Response) → queue.responses n w q t → queue.responses n (moved w m2 p now history) q t
+  answered_each : (q : ℕ) (t : Response) → queue.is_right n w q t → queue.is_right n (moved w m2 p now history) q t
   answered_each q t h = (
     h.0,
     subst (λ (z : Words). IsTrueResponse z history q (put w.situation p now q) t) (sym d.is) (dite (ℕ_discrete q p)

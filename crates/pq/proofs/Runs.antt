@@ -49,7 +49,7 @@ has_of most log k i l a =
 pub not_in : (most : ℕ) (log : Log) (i : ℕ) → IsLog most log → HasNot log i → IsNotIn log i
 not_in most log i l none k a = none (has_of most log k i l a).0
 
-is_true : (n : ℕ) (w : Queue) (p : ℕ) (t : Response) → queue.sound n w → queue.responses n w p t → IsTrueOf w.hidden t
+is_true : (n : ℕ) (w : Queue) (p : ℕ) (t : Response) → queue.sound n w → queue.is_right n w p t → IsTrueOf w.hidden t
 is_true n w p (Enqueued i x) s h = (w.hidden.links.pos i, at_of (nodes n) w.hidden.links i s.0.links h.1.0, h.1.1)
 is_true n w p (Got i x) s h = (w.hidden.claims.pos i, at_of (nodes n) w.hidden.claims i s.0.claims h.1.0, (let a = h.1.0.within in le_trans a (le_trans s.0.claims.keeps (le_trans s.0.follows s.0.links.keeps))), h.1.1)
 is_true n w p (Empty i) s h = (not_in (nodes n) w.hidden.claims i s.0.claims h.1.0.none, h.1.1)
@@ -291,7 +291,7 @@ run_adds n first last (h ∷ hs) p i new run mine t =
     ]
 
 pub empty_was_so : (n : ℕ) → EmptyWasSo n
-empty_was_so n first last hs p i new run responses =
+empty_was_so n first last hs p i new run returned =
     let r = runs queue n (queue_holds n) first last hs new run in
     let h = r.responses p (Empty i) returned in
     run_adds n first last hs p i new run h.1.0.mine (is_true n last p (Empty i) r.sound h).1

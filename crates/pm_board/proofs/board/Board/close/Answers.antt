@@ -30,4 +30,4 @@ pub returns-clause-rests : goal.returns-clause-rests
 returns-clause-rests g c =
     let s = stands g c in
     let view : c.split_seat-before.new.seat.me.0 ≡ c.args.place.me.0 = ap (λ m. m.0) c.split_seat-before.ensures.2 in
-    (s.witness, s.rests, subst (λ (es : List (Seated g.row.P-Doing.Denot g.row.P-Response.Denot)). AreTrue g.P.Structured.structure c.args.self.key s.witness es) (sym (ap (λ m. m.0.past) c.split_seat-before.ensures.4)) s.is_right)
+    (s.witness, s.rests, subst (λ (es : List (Seated g.row.P-Doing.Denot g.row.P-Response.Denot)). AreTrue g.P.Structured.structure c.args.self.key s.witness es) (sym (ap (λ m. m.0.past) c.split_seat-before.ensures.4)) s.responses)

@@ -32,4 +32,4 @@ returns-clause-rests g c = λ k.
     (λ n low. (i.done n (omega arith)).0) (λ n low. (i.done n (omega arith)).1) in
     let words = slots_items c.loop-number.self.table.words in
     subst (λ key. IsRested g.P.Structured.structure key words (past_of c.loop-number.self.before)) (sym c.loop-number.invariant.0)
-    (subst (λ before. IsRested g.P.Structured.structure c.args.self.now.key words (past_of before)) (sym c.loop-number.invariant.1) (s.witness, s.rests, λ e inside. s.is_right e (k.2 e inside)))
+    (subst (λ before. IsRested g.P.Structured.structure c.args.self.now.key words (past_of before)) (sym c.loop-number.invariant.1) (s.witness, s.rests, λ e inside. s.responses e (k.2 e inside)))

@@ -1,0 +1,9 @@
+//! The order of recalculation: each cell after those that it refers to.
+#![tactic(auto)]
+
+pub mod course;
+pub mod known;
+pub mod order;
+#[cfg(test)]
+mod tests;
+mod walk;
