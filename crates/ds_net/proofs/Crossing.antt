@@ -16,6 +16,7 @@ use Rattle.ds_crew.specs.contracts.pass.Pass as Pass
 use Rattle.ds_crew.proofs.Crossing.{pass_send}
 use Rattle.ds_shared_seats.proofs.Crossing.{seat_send}
 use Rattle.ds_shared_seats.specs.contracts.seat.Seat as Seat
+use Rattle.ds_order.specs.contracts.known.KnownReferences as KnownReferences
 use Rattle.ds_net.specs.contracts.door.Door as Door
 use Rattle.ds_net.specs.contracts.keeping.Keeping as Keeping
 use Rattle.ds_net.specs.contracts.keeping.Backlog as Backlog
@@ -49,6 +50,10 @@ keeping_sync = search (sendable, crosses, flag_sync, backlog_lock, signal_sync) 
 -- the door of a server may be shared by threads
 pub door_sync : IsSync Door.the_row
 door_sync = search (sendable, crosses, keeping_sync) depth 60 fits 100000
+
+-- what is known of references may be shared by threads
+pub references_sync : IsSync KnownReferences.the_row
+references_sync = search (sendable, crosses) depth 60 fits 100000
 
 -- a connection may go to another thread
 pub stream_send : IsSend TcpStream.the_row

@@ -17,6 +17,8 @@ use ds_crew::locked::LockedSheet;
 use ds_crew::pass::Pass;
 use ds_eval::value::Value;
 use ds_formula::cells::{Cell, Shape};
+use ds_order::course::Course;
+use ds_order::known::KnownReferences;
 use ds_server::desk::{CallRefusal, Desk, Reported};
 use ds_state::answer::EditEnd;
 use ds_state::recovery::LastEdit;
@@ -33,18 +35,23 @@ pub struct LockedDesk<'a, L: Ledger, M: Ledger, R: Wait + Clock> {
     queues: &'a [ArrayQueue<Pass<L, M>>],
     open: usize,
     visit: &'a Visit<'a>,
+    references: &'a KnownReferences,
+    course: Course,
     pass: Option<Pass<L, M>>,
 }
 
 impl<'a, L: Ledger, M: Ledger, R: Wait + Clock> LockedDesk<'a, L, M, R> {
     /// Before a process is joined. Each process has a queue, which holds its pass while nobody has it; the first ones, this number
-    /// of them, may be joined. The visit notes which process is joined, and counts what the calls come to.
+    /// of them, may be joined. The visit notes which process is joined, and counts what the calls come to. The references are
+    /// those of the texts that were set; reports go by them.
     pub fn new(
         rt: &'a R,
+        alloc: Global,
         sheet: &'a LockedSheet<L, M>,
         queues: &'a [ArrayQueue<Pass<L, M>>],
         open: usize,
         visit: &'a Visit<'a>,
+        references: &'a KnownReferences,
     ) -> LockedDesk<'a, L, M, R> {
         LockedDesk {
             rt,
@@ -52,6 +59,8 @@ impl<'a, L: Ledger, M: Ledger, R: Wait + Clock> LockedDesk<'a, L, M, R> {
             queues,
             open,
             visit,
+            references,
+            course: Course::new(alloc),
             pass: None,
         }
     }
@@ -138,16 +147,17 @@ fn fill(room: &mut Vec<Value>, values: &[Value])
     }
 }
 
-// A settle and a report, whose values are copied into room that is taken before.
+// A settle in this order, and a report, whose values are copied into room that is taken before.
 fn reported<L: Ledger, M: Ledger, R: Wait + Clock>(
     rt: &R,
     alloc: Global,
     sheet: &LockedSheet<L, M>,
     pass: &mut Pass<L, M>,
+    course: &Course,
 ) -> Result<Reported, CallRefusal>
     ensures { Deals (Some pass.old) (Report pass.old.process) (report_view result) (Some pass.new) }
 {
-    settle(rt, alloc, sheet, pass)?;
+    settle(rt, alloc, sheet, pass, course)?;
     let Ok(mut values) = Vec::with_capacity(alloc, sheet.layout().cells()) else {
         return Err(CallRefusal::NoMemory);
     };
@@ -237,6 +247,9 @@ impl<'a, L: Ledger, M: Ledger, R: Wait + Clock> Desk for LockedDesk<'a, L, M, R>
             }
             None => edited(self.rt, alloc, self.sheet, pass, cell, text),
         };
+        if let Ok(EditEnd::Done(_)) = end {
+            self.references.note(alloc, cell, text);
+        }
         self.visit.counts_set(&end);
         end
     }
@@ -245,7 +258,8 @@ impl<'a, L: Ledger, M: Ledger, R: Wait + Clock> Desk for LockedDesk<'a, L, M, R>
         let Some(pass) = &mut self.pass else {
             return Err(CallRefusal::ProcessTaken);
         };
-        let end = reported(self.rt, alloc, self.sheet, pass);
+        self.course.renew(alloc, self.references);
+        let end = reported(self.rt, alloc, self.sheet, pass, &self.course);
         self.visit.counts_report(&end);
         end
     }

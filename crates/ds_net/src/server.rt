@@ -13,6 +13,7 @@ use crate::shared_floor::{SharedFloor, all_seats};
 use crate::wire::ticks_of;
 use crossbeam_queue::ArrayQueue;
 use ds_layout::layout::Layout;
+use ds_order::known::KnownReferences;
 use ds_shared_seats::seat::Seat;
 use ds_shared_seats::sheet::OpenSheet;
 use ds_store::fault::StoreFault;
@@ -274,8 +275,11 @@ pub fn serve<R: Threads + Wait + Clock + Log + Sync>(
     let Some((sheet, queues)) = opened(rt, alloc, layout) else {
         return Err(ServeError::NoMemory);
     };
+    let Ok(references) = KnownReferences::new(alloc, layout.shape) else {
+        return Err(ServeError::NoMemory);
+    };
     let queues = queues.as_slice();
-    let floor = SharedFloor::new(layout.shape, queues, service.workers);
+    let floor = SharedFloor::new(&references, queues, service.workers);
     let taken = serve_floor(rt, alloc, listener, &floor, door, service);
     end(rt, alloc, sheet, queues, &taken, door);
     taken

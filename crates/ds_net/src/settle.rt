@@ -5,6 +5,7 @@ ghost use Rattle.std.specs.Prelude.{◌≡◌};
 use ds_crew::ended::Worked;
 use ds_crew::locked::LockedSheet;
 use ds_crew::pass::Pass;
+use ds_order::course::Course;
 use ds_server::desk::CallRefusal;
 use ds_state::work::WorkEnd;
 use std::alloc::Global;
@@ -34,6 +35,7 @@ pub(crate) enum Round {
 fn with_work(round: Round, worked: Worked) -> Result<Round, CallRefusal> {
     match worked {
         Worked::Ended(WorkEnd::NoMemory) => Err(CallRefusal::NoMemory),
+        Worked::Ended(WorkEnd::NotDirty) => Ok(round),
         Worked::Ended(WorkEnd::Missed) if round != Round::Worked => Ok(Round::Held),
         Worked::Ended(_) => Ok(Round::Worked),
         Worked::Refused(why) => Err(CallRefusal::from(why)),
@@ -41,8 +43,8 @@ fn with_work(round: Round, worked: Worked) -> Result<Round, CallRefusal> {
     }
 }
 
-// One round over the cells, with work on each that is marked when its turn comes.
-fn one_round<L: Ledger, M: Ledger, R: Wait>(
+// One round over the cells by their numbers, with work on each that is marked when its turn comes: little where few are.
+fn marked_round<L: Ledger, M: Ledger, R: Wait>(
     rt: &R,
     alloc: Global,
     sheet: &LockedSheet<L, M>,
@@ -63,23 +65,46 @@ fn one_round<L: Ledger, M: Ledger, R: Wait>(
     Ok(round)
 }
 
-// Works on the cells that are marked, in at most N + 252 rounds over the N cells, until a round finds none. After a round
-// that found only marks that others hold it rests for a millisecond, so that a client that is alone beside workers waits
-// for them a quarter of a second. An error is why the begin of a work was refused, or that an allocation failed in one.
+// One round over the cells in this order, with work on each.
+fn planned_round<L: Ledger, M: Ledger, R: Wait>(
+    rt: &R,
+    alloc: Global,
+    sheet: &LockedSheet<L, M>,
+    pass: &mut Pass<L, M>,
+    course: &Course,
+) -> Result<Round, CallRefusal>
+    ensures { pass.new ≡ pass.old }
+{
+    let shape = sheet.layout().shape;
+    let mut round = Round::Clean;
+    for place in 0..shape.count() {
+        let index = course.cell(place, shape.count());
+        round = with_work(round, sheet.work(rt, alloc, pass, shape.cell(index)))?;
+    }
+    Ok(round)
+}
+
+// Works on the cells that are marked, until none is: in a round by their numbers, and then in at most N + 252 rounds in this
+// order over the N cells. After a round that found only marks that others hold it rests for a millisecond, so that a client
+// that is alone beside workers waits for them a quarter of a second. An error is why the begin of a work was refused, or
+// that an allocation failed in one.
 pub(crate) fn settle<L: Ledger, M: Ledger, R: Wait + Clock>(
     rt: &R,
     alloc: Global,
     sheet: &LockedSheet<L, M>,
     pass: &mut Pass<L, M>,
+    course: &Course,
 ) -> Result<(), CallRefusal>
     ensures { pass.new ≡ pass.old }
 {
+    let _first = marked_round(rt, alloc, sheet, pass)?;
     let rounds = sheet.layout().cells() + 2 + PATIENCE;
     for _ in 0..rounds {
-        match one_round(rt, alloc, sheet, pass)? {
-            Round::Clean => break,
-            Round::Held => thread::sleep(rt, Duration::from_millis(REST)),
-            Round::Worked => {}
+        if sheet.next_marked(rt, 0).is_none() {
+            break;
+        }
+        if planned_round(rt, alloc, sheet, pass, course)? == Round::Held {
+            thread::sleep(rt, Duration::from_millis(REST));
         }
     }
     Ok(())

@@ -10,6 +10,8 @@ use crate::shared_settle::{STEPS_MOST, shared_settle};
 use crate::visit::Visit;
 use crossbeam_queue::ArrayQueue;
 use ds_formula::cells::{Cell, Shape};
+use ds_order::course::Course;
+use ds_order::known::KnownReferences;
 use ds_server::desk::{CallRefusal, Desk, Reported};
 use ds_shared::ended::Ended;
 use ds_shared_seats::seat::Seat;
@@ -28,18 +30,23 @@ pub struct SharedDesk<'a, R: Wait + Clock> {
     queues: &'a [ArrayQueue<Seat>],
     open: usize,
     visit: &'a Visit<'a>,
+    references: &'a KnownReferences,
+    course: Course,
     seat: Option<Seat>,
 }
 
 impl<'a, R: Wait + Clock> SharedDesk<'a, R> {
     /// Before a process is joined. Each process has a queue, which holds its seat while nobody has it; the first ones, this number
-    /// of them, may be joined. The visit notes which process is joined, and counts what the calls come to.
+    /// of them, may be joined. The visit notes which process is joined, and counts what the calls come to. The references are
+    /// those of the texts that were set; reports go by them.
     pub fn new(
         rt: &'a R,
+        alloc: Global,
         shape: Shape,
         queues: &'a [ArrayQueue<Seat>],
         open: usize,
         visit: &'a Visit<'a>,
+        references: &'a KnownReferences,
     ) -> SharedDesk<'a, R> {
         SharedDesk {
             rt,
@@ -47,6 +54,8 @@ impl<'a, R: Wait + Clock> SharedDesk<'a, R> {
             queues,
             open,
             visit,
+            references,
+            course: Course::new(alloc),
             seat: None,
         }
     }
@@ -102,15 +111,16 @@ fn reported_as(
     }
 }
 
-// A settle and a report.
+// A settle in this order, and a report.
 fn reported<R: Wait + Clock>(
     rt: &R,
     alloc: Global,
     seat: &mut Seat,
+    course: &Course,
 ) -> Result<Reported, CallRefusal>
     ensures { HasReported seat.old (report_view result) (Some seat.new) }
 {
-    shared_settle(rt, alloc, seat)?;
+    shared_settle(rt, alloc, seat, course)?;
     let how = seat.show(alloc, STEPS_MOST);
     reported_as(alloc, how, seat)
 }
@@ -187,6 +197,9 @@ impl<'a, R: Wait + Clock> Desk for SharedDesk<'a, R> {
             return Err(CallRefusal::ProcessTaken);
         };
         let end = edited(alloc, seat, cell, text);
+        if let Ok(EditEnd::Done(_)) = end {
+            self.references.note(alloc, cell, text);
+        }
         self.visit.counts_set(&end);
         end
     }
@@ -195,7 +208,8 @@ impl<'a, R: Wait + Clock> Desk for SharedDesk<'a, R> {
         let Some(seat) = &mut self.seat else {
             return Err(CallRefusal::ProcessTaken);
         };
-        let end = reported(self.rt, alloc, seat);
+        self.course.renew(alloc, self.references);
+        let end = reported(self.rt, alloc, seat, &self.course);
         self.visit.counts_report(&end);
         end
     }

@@ -8,6 +8,8 @@ use crate::shared_settle::{STEPS_MOST, shared_round};
 use crate::visit::Visit;
 use crossbeam_queue::ArrayQueue;
 use ds_formula::cells::Shape;
+use ds_order::course::Course;
+use ds_order::known::KnownReferences;
 use ds_script_io::streams::{Reading, Writing};
 use ds_server::desk::CallRefusal;
 use ds_server::session::{SessionEnd, session};
@@ -19,21 +21,27 @@ use std::sync::{Mutex, Wait};
 use std::thread;
 use std::time::{Clock, Duration};
 
-/// A shared sheet, with a queue for the seat of each process.
+/// A shared sheet, with a queue for the seat of each process, and what is known of its references.
 #[derive(Drop)]
 pub struct SharedFloor<'a> {
     shape: Shape,
     queues: &'a [ArrayQueue<Seat>],
     open: usize,
+    references: &'a KnownReferences,
 }
 
 impl<'a> SharedFloor<'a> {
-    /// A sheet of this shape with these queues, of which the last ones, this number of them, are for workers.
-    pub fn new(shape: Shape, queues: &'a [ArrayQueue<Seat>], workers: usize) -> SharedFloor<'a> {
+    /// A sheet with these references and these queues, of which the last ones, this number of them, are for workers.
+    pub fn new(
+        references: &'a KnownReferences,
+        queues: &'a [ArrayQueue<Seat>],
+        workers: usize,
+    ) -> SharedFloor<'a> {
         SharedFloor {
-            shape,
+            shape: references.shape(),
             queues,
             open: queues.len().saturating_sub(workers),
+            references,
         }
     }
 }
@@ -50,8 +58,8 @@ pub fn all_seats(alloc: Global, sheet: &mut OpenSheet) -> Option<Vec<Seat>> {
 }
 
 // One round over the cells. Whether there was work.
-fn round(alloc: Global, seat: &mut Seat) -> bool {
-    match shared_round(alloc, seat) {
+fn round(alloc: Global, seat: &mut Seat, course: &Course) -> bool {
+    match shared_round(alloc, seat, course) {
         Ok(round) => round == Round::Worked,
         Err(why) => {
             if why == CallRefusal::Stopped {
@@ -63,12 +71,20 @@ fn round(alloc: Global, seat: &mut Seat) -> bool {
 }
 
 // Goes round the cells until it is asked to stop, and rests where there was no work.
-fn go_round<R: Wait + Clock>(rt: &R, alloc: Global, seat: &mut Seat, stop: &Mutex<bool>) {
+fn go_round<R: Wait + Clock>(
+    rt: &R,
+    alloc: Global,
+    seat: &mut Seat,
+    references: &KnownReferences,
+    stop: &Mutex<bool>,
+) {
+    let mut course = Course::new(alloc);
     for _ in rt.forever() {
         if *stop.lock(rt) {
             break;
         }
-        if !round(alloc, seat) {
+        course.renew(alloc, references);
+        if !round(alloc, seat, &course) {
             thread::sleep(rt, Duration::from_millis(REST));
         }
     }
@@ -87,7 +103,15 @@ impl<'a> Floor for SharedFloor<'a> {
         writer: &mut Writing<O>,
         visit: &Visit<'_>,
     ) -> SessionEnd {
-        let mut desk = SharedDesk::new(rt, self.shape, self.queues, self.open, visit);
+        let mut desk = SharedDesk::new(
+            rt,
+            alloc,
+            self.shape,
+            self.queues,
+            self.open,
+            visit,
+            self.references,
+        );
         session(alloc, reader, writer, &mut desk)
     }
 
@@ -98,7 +122,7 @@ impl<'a> Floor for SharedFloor<'a> {
         let Some(mut seat) = queue.pop(rt) else {
             return;
         };
-        go_round(rt, alloc, &mut seat, stop);
+        go_round(rt, alloc, &mut seat, self.references, stop);
         put_back(rt, self.queues, process, seat);
     }
 }

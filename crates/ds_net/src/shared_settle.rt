@@ -6,6 +6,7 @@ ghost use Rattle.ds_net.specs.SharedDesks.{BreaksOff, FitsCause, HasWorked, shee
 ghost use Rattle.ds_shared_seats.specs.Sheets.{IsSeatOf};
 
 use crate::settle::{PATIENCE, REST, Round};
+use ds_order::course::Course;
 use ds_server::desk::CallRefusal;
 use ds_shared::ended::Ended;
 use ds_shared_seats::fault::Fault;
@@ -34,34 +35,40 @@ fn with_work(round: Round, worked: Result<Ended<WorkEnd>, Fault>) -> Result<Roun
     }
 }
 
-/// One round over the cells, with work on each. An error is why a work was refused or stopped, or that an allocation failed
-/// in one.
-pub(crate) fn shared_round(alloc: Global, seat: &mut Seat) -> Result<Round, CallRefusal>
+/// One round over the cells in this order, with work on each. An error is why a work was refused or stopped, or that an
+/// allocation failed in one.
+pub(crate) fn shared_round(
+    alloc: Global,
+    seat: &mut Seat,
+    course: &Course,
+) -> Result<Round, CallRefusal>
     ensures works { HasWorked (sheet_of seat.old) seat.old seat.new }
     ensures err { IfErr result (BreaksOff (sheet_of seat.old) seat.old seat.new) }
 {
     let shape = seat.layout().shape;
     let mut round = Round::Clean;
-    for cell in 0..shape.count() {
-        round = with_work(round, seat.work(alloc, shape.cell(cell), STEPS_MOST))?;
+    for place in 0..shape.count() {
+        let index = course.cell(place, shape.count());
+        round = with_work(round, seat.work(alloc, shape.cell(index), STEPS_MOST))?;
     }
     Ok(round)
 }
 
-/// Works on the cells, in at most N + 252 rounds over the N cells, until a round finds none that is marked. After a round
+/// Works on the cells, in at most N + 252 rounds in this order over the N cells, until a round finds none that is marked. After a round
 /// that found only marks that others hold it rests for a millisecond. An error is why a work was refused or stopped, or
 /// that an allocation failed in one.
 pub(crate) fn shared_settle<R: Wait + Clock>(
     rt: &R,
     alloc: Global,
     seat: &mut Seat,
+    course: &Course,
 ) -> Result<(), CallRefusal>
     ensures works { HasWorked (sheet_of seat.old) seat.old seat.new }
     ensures err { IfErr result (BreaksOff (sheet_of seat.old) seat.old seat.new) }
 {
     let rounds = seat.layout().cells() + 2 + PATIENCE;
     for _ in 0..rounds {
-        match shared_round(alloc, seat)? {
+        match shared_round(alloc, seat, course)? {
             Round::Clean => break,
             Round::Held => thread::sleep(rt, Duration::from_millis(REST)),
             Round::Worked => {}

@@ -13,6 +13,7 @@ use crate::server::{ServeError, Service, serve_floor, sum_up};
 use crossbeam_queue::ArrayQueue;
 use ds_crew::locked::LockedSheet;
 use ds_crew::pass::Pass;
+use ds_order::known::KnownReferences;
 use ds_state::world::World;
 use ds_store::store::Store;
 use log::{Log, error};
@@ -191,6 +192,18 @@ fn locked<L: Ledger, M: Ledger, R: Wait>(
     Some((sheet, queues))
 }
 
+// The references of the texts of a world's linearized edits. None where an allocation fails.
+fn references(alloc: Global, world: &World) -> Option<KnownReferences> {
+    let shape = world.words.layout().shape;
+    let references = KnownReferences::new(alloc, shape).ok()?;
+    for edit in &world.counted {
+        if edit.cell < shape.count() {
+            references.note(alloc, shape.cell(edit.cell), edit.text.as_slice());
+        }
+    }
+    Some(references)
+}
+
 // So of a world, with these blanks.
 fn serve_world<
     S: Alter + Drop,
@@ -217,11 +230,14 @@ fn serve_world<
     ensures lasting { IfErr result IsStoredLasting }
 {
     let processes = world.words.layout().processes;
+    let Some(references) = references(alloc, &world) else {
+        return Err(ServeError::NoMemory);
+    };
     let Some((sheet, queues)) = locked::<L, M, _>(rt, alloc, world, dones, settleds) else {
         return Err(ServeError::NoMemory);
     };
     let queues = queues.as_slice();
-    let floor = LockedFloor::new(&sheet, queues, service.workers);
+    let floor = LockedFloor::new(&sheet, &references, queues, service.workers);
     let taken = serve_beside(rt, alloc, listener, &floor, door, service, store, attendant);
     if taken.is_ok() {
         close(rt, alloc, sheet, queues, processes);

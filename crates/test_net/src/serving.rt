@@ -10,6 +10,7 @@ use ds_net::locked_floor::LockedFloor;
 use ds_net::queues::{gathered, queues};
 use ds_net::server::{Service, serve_floor};
 use ds_net::shared_floor::{SharedFloor, all_seats};
+use ds_order::known::KnownReferences;
 use ds_shared_seats::resting::RestingSheet;
 use ds_shared_seats::sheet::OpenSheet;
 use ds_state::world::World;
@@ -251,7 +252,8 @@ pub fn serve_locked<
         return Err(Fail::from("no memory"));
     };
     let queues = queues(rt, alloc, passes)?;
-    let floor = LockedFloor::new(&sheet, queues.as_slice(), workers);
+    let references = KnownReferences::new(alloc, sheet.layout().shape)?;
+    let floor = LockedFloor::new(&sheet, &references, queues.as_slice(), workers);
     let answers = run(rt, alloc, &floor, workers, clients)?;
     let back = gathered(rt, alloc, queues.as_slice())?;
     let end = if back.len() == processes && processes > 0 {
@@ -271,7 +273,8 @@ pub fn serve_shared<
         return Err(Fail::from("no memory"));
     };
     let queues = queues(rt, alloc, seats)?;
-    let floor = SharedFloor::new(layout.shape, queues.as_slice(), workers);
+    let references = KnownReferences::new(alloc, layout.shape)?;
+    let floor = SharedFloor::new(&references, queues.as_slice(), workers);
     let answers = run(rt, alloc, &floor, workers, clients)?;
     for seat in gathered(rt, alloc, queues.as_slice())? {
         seat.give_back();
