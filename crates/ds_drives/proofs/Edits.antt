@@ -218,8 +218,8 @@ module _ (layout : Layout) where
         open_edits = put_here b.open_edits e.process (Some (record { edit = edit_of e; since = length b.counted })) e.process refl;
         others_open_edits = λ q n. put_else b.open_edits e.process (Some (record { edit = edit_of e; since = length b.counted })) q n;
       } in
-      let returned : List CallEvent = edit_rules.begins layout e ∷ [] in
-      let does_so : Does layout words words b b' e.process call_events = record {
+      let began : List CallEvent = edit_rules.begins layout e ∷ [] in
+      let does_so : Does layout words words b b' e.process began = record {
         event = BeginEdit asked;
         reply = Begun e.number;
         moves = (
@@ -233,11 +233,11 @@ module _ (layout : Layout) where
         );
         origin = refl;
         happened = refl;
-        own = begun_own e.process returned;
-        others = λ q n. begun_else e.process q returned n;
+        own = begun_own e.process began;
+        others = λ q n. begun_else e.process q began n;
         low = low;
         open_others = begins.others_open_edits;
       } in (
         b',
-        after_left layout words words b b' e.process (Editing e) [] returned (begin_leaves e (world_on layout words b) (world_on layout words b') sound is sheet refs begins) begins.situation (nothing_kept layout (b.buffer e.process) fits.buffer) (λ q n. refl) (le_refl _) (λ moving. moving) does_so,
+        after_left layout words words b b' e.process (Editing e) [] began (begin_leaves e (world_on layout words b) (world_on layout words b') sound is sheet refs begins) begins.situation (nothing_kept layout (b.buffer e.process) fits.buffer) (λ q n. refl) (le_refl _) (λ moving. moving) does_so,
       )

@@ -91,9 +91,9 @@ same_announced e word (Some a) = same _ _ refl refl refl
 
 same_spread : (e : PlainRecoverCall) (cell : ℕ) (s : Spread) (word : ℕ) → Same e (recovery.spread_next e cell s word)
 same_spread e cell (spreads.LoadRow part) word = same _ _ refl refl refl
-same_spread e cell (spreads.OrAnswered d) word = same _ _ refl refl refl
-same_spread e cell (spreads.FlushAnswered d) word = same _ _ refl refl refl
-same_spread e cell (spreads.BackAnswered d) word = same _ _ refl refl refl
+same_spread e cell (spreads.OrTold d) word = same _ _ refl refl refl
+same_spread e cell (spreads.FlushTold d) word = same _ _ refl refl refl
+same_spread e cell (spreads.BackTold d) word = same _ _ refl refl refl
 
 -- a step of a recovery leaves its process and its sheet
 pub next_same : (e : PlainRecoverCall) (s : RecoverStage) (word : ℕ) → Same e (recovery.next_at e s word)
@@ -317,19 +317,19 @@ module _ (layout : Layout) where
           open_edits = λ q. refl;
         };
       } in
-      let returned : List CallEvent = Began (BeginRecover p) Entered ∷ [] in
-      let does_so : Does layout words words b b' p call_events = record {
+      let began : List CallEvent = Began (BeginRecover p) Entered ∷ [] in
+      let does_so : Does layout words words b b' p began = record {
         event = BeginRecover p;
         reply = Entered;
         moves = (low, t);
         origin = refl;
         happened = refl;
-        own = begun_own p returned;
-        others = λ q n. begun_else p q returned n;
+        own = begun_own p began;
+        others = λ q n. begun_else p q began n;
         low = low;
         open_others = λ q n. refl;
       } in
-      (b', after_left layout words words b b' p s [] returned (begin_leaves p (world_on layout words b) (world_on layout words b') sound low t) t.begins.situation empty (λ q n. refl) (le_refl _) (λ moving. moving) does_so)
+      (b', after_left layout words words b b' p s [] began (begin_leaves p (world_on layout words b) (world_on layout words b') sound low t) t.begins.situation empty (λ q n. refl) (le_refl _) (λ moving. moving) does_so)
 
   -- a process that runs stops first
   begins_after : (words : List ℕ) (b c : Witness) (p : ℕ) → IsSecond (world_on layout words b) → p < layout.processes → After layout words words b c p Stopped [] []

@@ -210,19 +210,19 @@ module _ (layout : Layout) where
         counted = refl;
         open_edits = λ q. refl;
       } in
-      let returned : List CallEvent = Began (BeginShow p) Entered ∷ [] in
-      let does_so : Does layout words words b b' p call_events = record {
+      let began : List CallEvent = Began (BeginShow p) Entered ∷ [] in
+      let does_so : Does layout words words b b' p began = record {
         event = BeginShow p;
         reply = Entered;
         moves = (low, record { next = second_rest next; begins = t });
         origin = refl;
         happened = refl;
-        own = begun_own p returned;
-        others = λ q n. begun_else p q returned n;
+        own = begun_own p began;
+        others = λ q n. begun_else p q began n;
         low = low;
         open_others = λ q n. refl;
       } in
-      (b', after_left layout words words b b' p s [] returned (begin_leaves p (second_rest next) w w' sound low t) t.situation (nothing_kept layout (b.buffer p) fits.buffer) (λ q n. refl) (le_refl _) (λ moving. moving) does_so)
+      (b', after_left layout words words b b' p s [] began (begin_leaves p (second_rest next) w w' sound low t) t.situation (nothing_kept layout (b.buffer p) fits.buffer) (λ q n. refl) (le_refl _) (λ moving. moving) does_so)
 
 -- ---- one step
 

@@ -138,9 +138,9 @@ version_grows w m p Back word sound low t = written_back p t.1.0 t.1.1 w.memory 
 pub both_one : (w : PlainWorld) (before : ℕ) → IsSound w → before ≡ 1 → before ≤ w.memory.persisted Version → (w.memory.cached Version ≡ 1) × (w.memory.persisted Version ≡ 1)
 both_one w before sound is grows =
     let fit = sound.words Version in
-    let witness = fit.witness in
+    let behind = fit.behind in
     let most = fit.most in
-    (omega (arith, is, grows, witness, most), omega (arith, is, grows, witness, most))
+    (omega (arith, is, grows, behind, most), omega (arith, is, grows, behind, most))
 
 -- a process that has noted what both sides say has noted the second layout
 pub noted_second : (w : PlainWorld) (edition : Edition) → IsSecond w → Agrees w.memory edition → edition ≡ Second

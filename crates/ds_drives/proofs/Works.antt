@@ -232,7 +232,7 @@ module _ (layout : Layout) where
 
   -- a work that answers after a step is one of a sheet
   at_answer : (e : PlainWorkCall) (end : WorkEnd) → IsWork e → IsWork (record e { stage = Answer end })
-  at_answer e end h = record { process = h.process; processes = h.processes; cell = h.cell; cells = h.cells; young = h.young; short = h.short; fits = h.fits; text = h.text; possible = h.possible; height = h.height; claim = tt; stage = tt; call_events = tt }
+  at_answer e end h = record { process = h.process; processes = h.processes; cell = h.cell; cells = h.cells; young = h.young; short = h.short; fits = h.fits; text = h.text; possible = h.possible; height = h.height; claim = tt; stage = tt; told = tt }
 
   abbrev IsNoAnswer : WorkStage → Type 0
   IsNoAnswer (Answer end) = ⊥
@@ -245,15 +245,15 @@ module _ (layout : Layout) where
   if_no true f g x y = x
   if_no false f g x y = y
 
-  answered_no : (e : PlainWorkCall) (o : Option ℕ) → IsNoAnswer (work.call_events e o).stage
+  answered_no : (e : PlainWorkCall) (o : Option ℕ) → IsNoAnswer (work.told e o).stage
   answered_no e None = tt
   answered_no e (Some d) = tt
 
   spread_no : (e : PlainWorkCall) (s : Spread) (word : ℕ) → IsNoAnswer (work.spread_next e s word).stage
   spread_no e (spreads.LoadRow part) word = if_no (nat_lt (part + 1) (work.parts_of (record e { row = e.row ++ word ∷ [] }))) _ _ tt (answered_no (record e { row = e.row ++ word ∷ [] }) _)
-  spread_no e (spreads.OrAnswered d) word = tt
-  spread_no e (spreads.FlushAnswered d) word = tt
-  spread_no e (spreads.BackAnswered d) word = answered_no e _
+  spread_no e (spreads.OrTold d) word = tt
+  spread_no e (spreads.FlushTold d) word = tt
+  spread_no e (spreads.BackTold d) word = answered_no e _
 
   text_no : (e : PlainWorkCall) (part : ℕ) → IsNoAnswer (work.text_from e part).stage
   text_no e part = if_no (nat_lt part (work.text_parts e)) _ _ tt tt
@@ -424,8 +424,8 @@ module _ (layout : Layout) where
         processes = asked.processes;
         cell = asked.inside;
       } in
-      let returned : List CallEvent = work_rules.begins layout e ∷ [] in
-      let does_so : Does layout words words b b' e.process call_events = record {
+      let began : List CallEvent = work_rules.begins layout e ∷ [] in
+      let does_so : Does layout words words b b' e.process began = record {
         event = BeginWork e.process cell;
         reply = Entered;
         moves = (
@@ -435,12 +435,12 @@ module _ (layout : Layout) where
         );
         origin = refl;
         happened = refl;
-        own = begun_own e.process returned;
-        others = λ q n. begun_else e.process q returned n;
+        own = begun_own e.process began;
+        others = λ q n. begun_else e.process q began n;
         low = low;
         open_others = λ q n. refl;
       } in
-      (b', after_left layout words words b b' e.process (Working e) [] returned (begin_leaves (second_rest next) e w w' sound low t) (put_here b.situation e.process (Working e) e.process refl) (nothing_kept layout (b.buffer e.process) fits.buffer) (λ q n. refl) (le_refl _) (λ moving. moving) does_so)
+      (b', after_left layout words words b b' e.process (Working e) [] began (begin_leaves (second_rest next) e w w' sound low t) (put_here b.situation e.process (Working e) e.process refl) (nothing_kept layout (b.buffer e.process) fits.buffer) (λ q n. refl) (le_refl _) (λ moving. moving) does_so)
 
 -- ---- one step, and what goes with it
 
@@ -517,5 +517,5 @@ module _ (layout : Layout) (e f g : PlainWorkCall) (word : ℕ) (is : f ≡ work
   pub fewer_left : IsWorkOn layout e → IsGoing e.stage → steps_left g.cells g < steps_left e.cells e
   fewer_left on go =
       let first : steps_left e.cells (work.next_at e e.stage word) < steps_left e.cells e = falls_plain e.cells e (work.next_at e e.stage word) e.stage (each_falls e.cells word e on.is) on.plain (not_ended e.stage go) in
-      let witness : steps_left e.cells g ≤ steps_left e.cells (work.next_at e e.stage word) = turned_left layout (work.next_at e e.stage word) g e.cells on.cells turned_next in
-      subst (λ (n : ℕ). steps_left n g < steps_left e.cells e) (sym both.cells) (omega (arith, first, witness))
+      let fewer : steps_left e.cells g ≤ steps_left e.cells (work.next_at e e.stage word) = turned_left layout (work.next_at e e.stage word) g e.cells on.cells turned_next in
+      subst (λ (n : ℕ). steps_left n g < steps_left e.cells e) (sym both.cells) (omega (arith, first, fewer))

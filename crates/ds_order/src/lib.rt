@@ -4,6 +4,4 @@
 pub mod course;
 pub mod known;
 pub mod order;
-#[cfg(test)]
-mod tests;
 mod walk;

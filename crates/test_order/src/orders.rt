@@ -1,9 +1,9 @@
 // Orders of sheets whose references are known: what no clause of the order says.
 
-use crate::course::Course;
-use crate::known::KnownReferences;
-use crate::order::{References, order};
 use ds_formula::cells::{Cell, Shape};
+use ds_order::course::Course;
+use ds_order::known::KnownReferences;
+use ds_order::order::{References, order};
 use std::alloc::{AllocError, Global};
 use std::test::Fail;
 
