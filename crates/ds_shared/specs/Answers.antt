@@ -96,9 +96,9 @@ abbrev pub HasFewSteps : Pass → Pass → ℕ → Type 0
 HasFewSteps old new most = steps_of new.place ≤ steps_of old.place + most
 
 -- the number of a process's next edit after a recovery that ended so
-abbrev pub number_witness : RecoveryEnd → ℕ
-number_witness recoveries.Nothing = 0
-number_witness (recoveries.Last resolved) = resolved.number + 1
+abbrev pub number_after : RecoveryEnd → ℕ
+number_after recoveries.Nothing = 0
+number_after (recoveries.Last resolved) = resolved.number + 1
 
 -- a show that ended so shows these values: those that it loaded where it is settled, and else none
 abbrev pub ShowsValues : PlainShowCall → ShowEnd → Option (Vec Value Global) → Type 0

@@ -12,7 +12,7 @@ ghost use Rattle.ds_drives.specs.declared.board.CallEvent.TheVariants.{Began, Re
 ghost use Rattle.ds_drives.specs.RecoverRules.{recover_rules};
 ghost use Rattle.ds_drives.specs.Views.{In};
 ghost use Rattle.ds_shared.specs.Known.{outcomes};
-ghost use Rattle.ds_shared.specs.Answers.{HasFewSteps, IsOf, IfAnswered, IfRefused, IfStopped, IsAskedEachStep, BreaksOff, Tells, number_witness};
+ghost use Rattle.ds_shared.specs.Answers.{HasFewSteps, IsOf, IfAnswered, IfRefused, IfStopped, IsAskedEachStep, BreaksOff, Tells, number_after};
 
 use crate::ended::Ended;
 use crate::pass::Pass;
@@ -23,9 +23,9 @@ use ds_state::recovery::RecoveryEnd;
 use std::alloc::Global;
 
 // The number of the process's next edit, after a recovery that ended so.
-fn next_witness(end: RecoveryEnd) -> usize
-    requires { number_witness end ≤ RECORDS }
-    ensures { result ≡ number_witness end }
+fn next_after(end: RecoveryEnd) -> usize
+    requires { number_after end ≤ RECORDS }
+    ensures { result ≡ number_after end }
 {
     match end {
         RecoveryEnd::Nothing => 0,
@@ -46,7 +46,7 @@ impl SharedSheet {
         requires { IsOf self.now pass.old }
         ensures pass { IsOf self.now pass.new × (pass.new.process ≡ pass.old.process) }
         ensures answered { IfAnswered result (λ end. (e : PlainRecoverCall) × (e.process ≡ pass.old.process) × Tells pass.old pass.new (Began (BeginRecover pass.old.process) Entered) (Recovered e end)) }
-        ensures runs { IfAnswered result (λ end. (pass.new.stopped ≡ false) × (pass.new.number ≡ number_witness end)) }
+        ensures runs { IfAnswered result (λ end. (pass.new.stopped ≡ false) × (pass.new.number ≡ number_after end)) }
         ensures steps { IsAskedEachStep F.said fuse.old fuse.new pass.old pass.new result }
         ensures few { HasFewSteps pass.old pass.new (cells_of self.now.board.layout * (3 * cells_of self.now.board.layout + 30) + 23) }
         ensures stopped { IfStopped result ((e : PlainRecoverCall) × (e ≡ begun pass.old.process (cells_of self.now.board.layout) self.now.board.layout.processes) × BreaksOff recover_rules self.now.board.layout e pass.old pass.new) }
@@ -56,7 +56,7 @@ impl SharedSheet {
         let mut call = fresh(&self.board.layout, pass.process);
         match self.board.recover(alloc, &mut pass.place, &mut call, fuse) {
             Some(end) => {
-                pass.number = next_witness(end);
+                pass.number = next_after(end);
                 pass.stopped = false;
                 Ended::Answered(end)
             }

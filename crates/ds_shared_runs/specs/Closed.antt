@@ -31,7 +31,7 @@ pub record IsSeen (first : PlainWorld) (hs : List Happened) (last : PlainWorld) 
 
 -- the entry stands in the history, with these before it, which are more than those others are: so its place is after
 -- that of an entry which has those before it
-pub record IsBehind (seen : List HistoryEntry) (e : HistoryEntry) (before others : List HistoryEntry) : Type 0 where
+pub record StandsAfter (seen : List HistoryEntry) (e : HistoryEntry) (before others : List HistoryEntry) : Type 0 where
   pub since : List HistoryEntry
   pub parts : seen ≡ since ++ e ∷ before
   pub later : length others < length before

@@ -9,7 +9,7 @@ ghost use Rattle.ds_drives.specs.declared.board.CallEvent.{CallEvent};
 ghost use Rattle.ds_drives.specs.declared.board.HistoryEntry.{HistoryEntry};
 ghost use Rattle.ds_drives.specs.Views.{In};
 ghost use Rattle.ds_drives.specs.Rule.{Witness, IsBeginning, AtRest, AreTrue, Ruled, Start, all_of};
-ghost use Rattle.ds_shared_runs.specs.Closed.{IsBehind, IsSeen, WasRight, HasRun, SeenRun};
+ghost use Rattle.ds_shared_runs.specs.Closed.{StandsAfter, IsSeen, WasRight, HasRun, SeenRun};
 ghost use Rattle.ds_state.specs.World.{PlainWorld};
 ghost use Rattle.ds_state.specs.Fresh.{IsNew};
 ghost use Rattle.ds_state.specs.declared.reports.TheConstants.{SETTLED_MOST};
@@ -50,11 +50,11 @@ pub fn seen_histories_are_beginnings()
 /// linearizable: there is one run of the core, through all crashes, in which each call stands as a begin and an answer
 /// of its own, with the reply that its caller got, in the order in which callers were answered (Herlihy and Wing,
 /// "Linearizability", TOPLAS 1990; Izraelevitz, Mendes and Scott, DISC 2016).
-#[tactic(auto, using(crate::proofs::Orders::stands_witness))]
+#[tactic(auto, using(crate::proofs::Orders::stands_after))]
 pub fn calls_stand_in_order()
-    ensures { (returned seen late since until after before : List HistoryEntry) (answer begin : HistoryEntry)
-        → returned ≡ since ++ answer ∷ until → Extends seen returned → late ≡ after ++ begin ∷ before
-        → IsBehind (late ++ seen) begin (before ++ seen) until }
+    ensures { (earlier seen late since until after before : List HistoryEntry) (answer begin : HistoryEntry)
+        → earlier ≡ since ++ answer ∷ until → Extends seen earlier → late ≡ after ++ begin ∷ before
+        → StandsAfter (late ++ seen) begin (before ++ seen) until }
 {}
 
 /// The words of each closed sheet, after each crash, too, are those of the last world of one run of the core from a new

@@ -28,7 +28,7 @@ use Rattle.ds_drives.specs.WorkRules.{work_rules}
 use Rattle.ds_drives.specs.RecoverRules.{recover_rules}
 use Rattle.ds_drives.specs.ShowRules.{show_rules}
 use Rattle.ds_shared.specs.Known.{outcomes, steps_of}
-use Rattle.ds_shared.specs.Answers.{HasFewSteps, IfAnswered, IfBegun, IfRefused, IfStopped, BreaksOff, IsWorkOf, ShowsValues, Tells, doing, number_witness}
+use Rattle.ds_shared.specs.Answers.{HasFewSteps, IfAnswered, IfBegun, IfRefused, IfStopped, BreaksOff, IsWorkOf, ShowsValues, Tells, doing, number_after}
 use Rattle.ds_shared.specs.declared.ended.Ended.{Ended}
 use Rattle.ds_shared.specs.declared.pass.Pass.{Pass}
 use Rattle.ds_shared.specs.declared.sheet.SharedSheet.{SharedSheet}
@@ -71,7 +71,7 @@ pub record Works (s : SharedSheet) (cell : Cell) (fuse : ℕ) (old new : Pass) (
 pub record Recovers (s : SharedSheet) (fuse : ℕ) (old new : Pass) (how : Ended RecoveryEnd) : Type 0 where
   pub goes : Goes fuse old new how
   pub answered : IfAnswered how (λ end. (e : PlainRecoverCall) × (e.process ≡ old.process) × Tells old new (Began (BeginRecover old.process) Entered) (Recovered e end))
-  pub runs : IfAnswered how (λ end. (new.stopped ≡ false) × (new.number ≡ number_witness end))
+  pub runs : IfAnswered how (λ end. (new.stopped ≡ false) × (new.number ≡ number_after end))
   pub stopped : IfStopped how ((e : PlainRecoverCall) × (e ≡ recoveries.fresh old.process (cells_of s.board.layout) s.board.layout.processes) × BreaksOff recover_rules s.board.layout e old new)
   pub refused : IfRefused how (λ r. ⊥)
   pub short : HasFewSteps old new (cells_of s.board.layout * (3 * cells_of s.board.layout + 30) + 23)
