@@ -16,7 +16,7 @@ use Rattle.ds_drives.specs.declared.board.Seated.{Seated}
 use Rattle.ds_drives.specs.declared.board.Deeds.{Deeds}
 use Rattle.ds_drives.specs.declared.board.CallEvent.{CallEvent}
 use Rattle.ds_drives.specs.declared.board.View.{View}
-use Rattle.ds_drives.specs.Table.{word_of, change, answer, returned, oldest_of}
+use Rattle.ds_drives.specs.Table.{word_of, change, answer, reported, oldest_of}
 use Rattle.ds_drives.specs.Views.{In, lone, seated, steps_later, answered_more, deeds_at, seen_so_far}
 use Rattle.ds_drives.specs.Rules.{Rules, Came, still, turns}
 use Rattle.ds_drives.specs.Rule.{Origin, OpensWith, Start, IsOrigin, Witness, world_on, all_of, IsSecond, HasSeen, Fits, Ruled, IsAnswered, class_in, After, Ready, Poised}
@@ -24,7 +24,7 @@ use Rattle.ds_drives.specs.Machines.{asked, due, stepped, left, IsServed, MaySte
 use Rattle.ds_drives.specs.declared.board.HistoryEntry.{HistoryEntry}
 use Rattle.ds_drives.specs.History.{Happened, Run, Stood, answered_by, history_of}
 use Rattle.ds_drives.proofs.Histories.{run_both, answered_both, stood_both, seen_still, seen_all, grown}
-use Rattle.ds_drives.proofs.Words.{answer_answered, buffer_answered}
+use Rattle.ds_drives.proofs.Words.{answer_reported, buffer_reported}
 use Rattle.ds_drives.proofs.Seating.{seated_set}
 use Rattle.ds_drives.proofs.Witnesses.{answered_on, past_on, all_on, after_both, read, written, answered, kept_back, Ends}
 
@@ -115,7 +115,7 @@ module _ {C E : Type 0} (r : Rules C E) (layout : Layout)
       let low : p < layout.processes = subst (λ (q : ℕ). q < layout.processes) own_process fit.low in
       let begun = ready s.words h.witness h.sound h.second low (ap h.witness.situation (sym own_process) ∙ fit.stands.now) (ap h.witness.buffer (sym own_process) ∙ fit.stands.buffer) in
       let n : ℕ = read layout s.words (r.access layout c) x in
-      let k : ℕ = returned a (oldest_of x) n in
+      let k : ℕ = reported a (oldest_of x) n in
       let words2 : List ℕ = written layout s.words (r.access layout c) x in
       let taken = step s.words begun.0 c x h.long begun.1.sound low begun.1.now begun.1.buffer fits go in
       let b2 : Witness = taken.0 in
@@ -124,8 +124,8 @@ module _ {C E : Type 0} (r : Rules C E) (layout : Layout)
       let p2 : r.process c2 ≡ p = same c (answer a k) in
       let both = after_both layout s.words s.words words2 h.witness begun.0 b2 p (r.doing c) (r.doing (r.next c (answer a n))) x (kept_back layout s.words (r.access layout c) x) begins [] begun.1 taken.1 in
       let low2 : r.process c2 < layout.processes = subst (λ (q : ℕ). q < layout.processes) (sym p2) low in
-      let now2 : b2.situation (r.process c2) ≡ r.doing c2 = ap b2.situation p2 ∙ (taken.1.now ∙ ap (λ (m : ℕ). r.doing (r.next c m)) (sym (answer_answered a x n))) in
-      let buffer2 : b2.buffer (r.process c2) ≡ x2 = ap b2.buffer p2 ∙ (taken.1.buffer ∙ sym (buffer_answered (class_in layout) a x n)) in
+      let now2 : b2.situation (r.process c2) ≡ r.doing c2 = ap b2.situation p2 ∙ (taken.1.now ∙ ap (λ (m : ℕ). r.doing (r.next c m)) (sym (answer_reported a x n))) in
+      let buffer2 : b2.buffer (r.process c2) ≡ x2 = ap b2.buffer p2 ∙ (taken.1.buffer ∙ sym (buffer_reported (class_in layout) a x n)) in
       let end = lands words2 b2 c c2 (answer a k) x2 fits go refl taken.1.sound (both.second h.second) low2 now2 buffer2 in
       let b3 : Witness = end.witness in
       let deeds2 : Deeds = steps_later (answered_more seat.deeds begins) 1 (history_of (all_of b3)) in

@@ -1,5 +1,5 @@
 -- Every process stops: what was answered stays true.
-use Rattle.std.proofs.Common.{ℕ, ◌≡◌, ◌≢◌, ◌<◌, ◌≤◌, List, [], zero, suc, refl, sym, ap, subst, ◌∷◌, ◌∙◌, arith, le_refl, map}
+use Rattle.std.proofs.Common.{ℕ, ◌≡◌, ◌≢◌, ◌<◌, ◌≤◌, List, [], zero, suc, refl, sym, ap, subst, ◌∷◌, ◌∙◌, ⊎_elim, tt, arith, le_refl, map}
 use mathlib.Core.Logic.{dite}
 use native.Mathlib.Decide.{ℕ_discrete}
 use Rattle.ds_layout.specs.declared.layout.Layout.{Layout}
@@ -13,15 +13,28 @@ use Rattle.ds_state.proofs.Leaves.{stop_leaves}
 use Rattle.ds_core.specs.declared.event.Event.TheVariants.{Stop}
 use Rattle.ds_core.specs.declared.reply.Reply.TheVariants as reply
 use Rattle.ds_drives.specs.declared.board.Seated.{Seated}
-use Rattle.ds_drives.specs.History.{Run, Stood}
+use Rattle.ds_drives.specs.History.{Happened, Run, Stood}
 use Rattle.ds_drives.proofs.Histories.{stood_both}
-use Rattle.ds_drives.specs.Rule.{put, Witness, IsBare, world_on, IsSecond, IsPast, IsOrigin, After, AtRest, Stops, none, stop}
+use Rattle.ds_drives.specs.Rule.{put, Witness, IsBare, world_on, IsSecond, IsPast, IsOrigin, After, AtRest, GoesOnBy, IsStop}
 use Rattle.ds_drives.proofs.Words.{put_here, put_else}
 use Rattle.ds_drives.proofs.Witnesses.{Does, past_on, ran_on, after_none, after_left, nothing_kept}
 
 module _ (layout : Layout) (words : List ℕ) where
+  -- what happens where a process stops
+  abbrev stop_of : Witness → ℕ → Happened
+  stop_of b p = record { before = world_on layout words b; event = Stop p; reply = reply.Stopped }
+
   abbrev pub stopped : Witness → ℕ → Witness
-  stopped b p = record b { situation = put b.situation p Stopped; buffer = put b.buffer p []; happened = record { before = world_on layout words b; event = Stop p; reply = reply.Stopped } ∷ b.happened }
+  stopped b p = record b { situation = put b.situation p Stopped; buffer = put b.buffer p []; happened = stop_of b p ∷ b.happened }
+
+  -- one stop more
+  one_stop : (first b : Witness) (p : ℕ) → GoesOnBy IsStop first b → GoesOnBy IsStop first (stopped b p)
+  one_stop first b p so_far = record {
+    origin = so_far.origin;
+    more = stop_of b p ∷ so_far.more;
+    happened = ap (λ (z : List Happened). stop_of b p ∷ z) so_far.happened;
+    allowed = λ h inside. ⊎_elim (λ same. subst (λ (z : Happened). IsStop z.event) same tt) (λ older. so_far.allowed h older) inside;
+  }
 
   -- a process that runs stops
   pub stops_in : (b : Witness) (p : ℕ) → b.situation p ≢ Stopped → StopsIn p (world_on layout words b) (world_on layout words (stopped b p))
@@ -66,14 +79,14 @@ module _ (layout : Layout) (words : List ℕ) where
   record Rested (first b : Witness) (p : ℕ) : Type 0 where
     witness : Witness
     after : After layout words words b witness p Stopped [] []
-    by : Stops layout words first witness
+    by : GoesOnBy IsStop first witness
 
   -- whatever it does
-  comes_to_rest : (first b : Witness) (p : ℕ) → Stops layout words first b → IsSound (world_on layout words b) → p < layout.processes → Rested first b p
+  comes_to_rest : (first b : Witness) (p : ℕ) → GoesOnBy IsStop first b → IsSound (world_on layout words b) → p < layout.processes → Rested first b p
   comes_to_rest first b p so_far sound low = by_stop (b.situation p) refl
     where
       runs : b.situation p ≢ Stopped → Rested first b p
-      runs r = record { witness = stopped b p; after = stops b p sound low r; by = stop b (stopped b p) p so_far (stops_in b p r) }
+      runs r = record { witness = stopped b p; after = stops b p sound low r; by = one_stop first b p so_far }
 
       by_stop : (s : Situation) → b.situation p ≡ s → Rested first b p
       by_stop Stopped at = record { witness = b; after = still b p sound low at; by = so_far }
@@ -87,7 +100,7 @@ module _ (layout : Layout) (words : List ℕ) where
   -- the first n processes have stopped, and what was answered stayed true
   pub record Rest (b : Witness) (n : ℕ) : Type 0 where
     pub witness : Witness
-    pub by : Stops layout words b witness
+    pub by : GoesOnBy IsStop b witness
     pub sound : IsSound (world_on layout words witness)
     pub second : IsSecond (world_on layout words witness)
     pub now : (p : ℕ) → p < n → witness.situation p ≡ Stopped
@@ -99,7 +112,7 @@ module _ (layout : Layout) (words : List ℕ) where
     pub from : IsOrigin witness.origin
 
   first_rest : (b : Witness) (n : ℕ) → n ≤ layout.processes → IsSound (world_on layout words b) → IsSecond (world_on layout words b) → Run b.origin.opened b.happened (world_on layout words b) → IsBare layout b → Stood b.happened → IsOrigin b.origin → Rest b n
-  first_rest b zero few sound second run bare stood from = record { witness = b; by = none; sound = sound; second = second; now = λ p low. absurd (omega arith); buffer = λ p low. absurd (omega arith); call_events = λ e h. h; run = run; bare = bare; stood = stood; from = from }
+  first_rest b zero few sound second run bare stood from = record { witness = b; by = record { origin = refl; more = []; happened = refl; allowed = λ h none. absurd none }; sound = sound; second = second; now = λ p low. absurd (omega arith); buffer = λ p low. absurd (omega arith); call_events = λ e h. h; run = run; bare = bare; stood = stood; from = from }
   first_rest b (suc n) few sound second run bare stood from =
       let r : Rest b n = first_rest b n (omega arith) sound second run bare stood from in
       let one : Rested b r.witness n = comes_to_rest b r.witness n r.by r.sound (omega arith) in record {
@@ -118,7 +131,7 @@ module _ (layout : Layout) (words : List ℕ) where
 
   pub record Rests (b : Witness) : Type 0 where
     pub witness : Witness
-    pub by : Stops layout words b witness
+    pub by : GoesOnBy IsStop b witness
     pub rests : AtRest layout words witness
     pub call_events : (e : Seated) → IsPast layout words b e → IsPast layout words witness e
 

@@ -9,7 +9,7 @@ use Rattle.ds_words.specs.declared.access.BufferEntry.{BufferEntry}
 use Rattle.ds_words.specs.declared.access.Access.{Access}
 use Rattle.ds_words.specs.declared.access.Access.TheVariants.{Nothing, Load, Store, Or, SwapIf, Flush, Back}
 use Rattle.ds_words.specs.Memory.{Memory, Performs, SameMemory, StoresAt, SwapsAt}
-use Rattle.ds_drives.specs.Table.{two_sided, word_of, change, answer, returned, oldest_of, buffer_after}
+use Rattle.ds_drives.specs.Table.{two_sided, word_of, change, answer, reported, oldest_of, buffer_after}
 use Rattle.ds_drives.specs.Rule.{put}
 
 -- a value put at a place is there
@@ -35,24 +35,24 @@ IsThere words Back [] = ⊥
 IsThere words Back (x ∷ b) = 8 * x.place + 1 < length words
 
 -- what the step reports gives the same answer and the same buffer
-pub answer_answered : (a : Access ℕ) (b : List (BufferEntry ℕ)) (n : ℕ) → answer a (returned a (oldest_of b) n) ≡ answer a n
-answer_answered Nothing b n = refl
-answer_answered (Load w) b n = refl
-answer_answered (Store w v) b n = refl
-answer_answered (Or w k) b n = refl
-answer_answered (SwapIf w o v) b n = refl
-answer_answered (Flush w) b n = refl
-answer_answered Back b n = refl
+pub answer_reported : (a : Access ℕ) (b : List (BufferEntry ℕ)) (n : ℕ) → answer a (reported a (oldest_of b) n) ≡ answer a n
+answer_reported Nothing b n = refl
+answer_reported (Load w) b n = refl
+answer_reported (Store w v) b n = refl
+answer_reported (Or w k) b n = refl
+answer_reported (SwapIf w o v) b n = refl
+answer_reported (Flush w) b n = refl
+answer_reported Back b n = refl
 
 -- the buffer after an access is the same by what is known of the word and by the word
-pub buffer_answered : (classes : ℕ → Class) (a : Access ℕ) (b : List (BufferEntry ℕ)) (n : ℕ) → buffer_after classes a b (returned a (oldest_of b) n) ≡ buffer_after classes a b n
-buffer_answered classes Nothing b n = refl
-buffer_answered classes (Load w) b n = refl
-buffer_answered classes (Store w v) b n = refl
-buffer_answered classes (Or w k) b n = refl
-buffer_answered classes (SwapIf w o v) b n = refl
-buffer_answered classes (Flush w) b n = refl
-buffer_answered classes Back b n = refl
+pub buffer_reported : (classes : ℕ → Class) (a : Access ℕ) (b : List (BufferEntry ℕ)) (n : ℕ) → buffer_after classes a b (reported a (oldest_of b) n) ≡ buffer_after classes a b n
+buffer_reported classes Nothing b n = refl
+buffer_reported classes (Load w) b n = refl
+buffer_reported classes (Store w v) b n = refl
+buffer_reported classes (Or w k) b n = refl
+buffer_reported classes (SwapIf w o v) b n = refl
+buffer_reported classes (Flush w) b n = refl
+buffer_reported classes Back b n = refl
 
 module _ (classes : ℕ → Class) (p : ℕ) (words : List ℕ) (buffers : ℕ → List (BufferEntry ℕ)) where
   abbrev pub now : Access ℕ → List (BufferEntry ℕ) → ℕ

@@ -173,7 +173,7 @@ answered_of w (BeginShow q) reply = Began (BeginShow q) reply ∷ []
 answered_of w (BeginRecover q) reply = Began (BeginRecover q) reply ∷ []
 answered_of w _ reply = []
 
--- what stands beside an event is answered to its process
+-- what stands beside an event, where the event is the process's
 abbrev pub answered_to : ℕ → Event → List CallEvent → List CallEvent
 answered_to p (Step q) ts = if q == p then ts else []
 answered_to p (BeginEdit r) ts = if r.process == p then ts else []

@@ -7,7 +7,7 @@ use Rattle.ds_layout.specs.declared.layout.Layout.{Layout}
 use Rattle.ds_layout.specs.SheetMemory.{access_at, NamesPlace}
 use Rattle.ds_drives.specs.declared.board.Deeds.{Deeds}
 use Rattle.ds_drives.specs.declared.board.View.{View}
-use Rattle.ds_drives.specs.Table.{word_of, change, answer, returned, oldest_of, buffer_after}
+use Rattle.ds_drives.specs.Table.{word_of, change, answer, reported, oldest_of, buffer_after}
 use Rattle.ds_drives.specs.declared.board.HistoryEntry.{HistoryEntry}
 use Rattle.ds_drives.specs.declared.board.CallEvent.{CallEvent}
 use Rattle.ds_drives.specs.History.{calls_of}
@@ -55,7 +55,7 @@ module _ {C E : Type 0} (r : Rules C E) (layout : Layout) where
   -- the rule of the table allows the step of the call, and the call lands after it
   abbrev pub MayStep : Start → ℕ → ℕ → List CallEvent → Me ℕ View → C → List (BufferEntry ℕ) → Type 0
   MayStep start slots id begins me c x = Allows (Ruled {S = ℕ} layout start) slots id me (word_of (asked c) (oldest_of x)) (change (asked c) (oldest_of x))
-      (λ n m'. (m'.1 ≡ me.1) × Landed begins me c x (returned (asked c) (oldest_of x) n) m'.0)
+      (λ n m'. (m'.1 ≡ me.1) × Landed begins me c x (reported (asked c) (oldest_of x) n) m'.0)
 
   -- what a step of the call begins: the call, where it is the first one
   abbrev pub due : Bool → C → List CallEvent

@@ -13,7 +13,6 @@ use Rattle.ds_layout.specs.Places.{words_of, class_of, place_of}
 use Rattle.ds_layout.specs.SheetMemory.{memory_at}
 use Rattle.ds_layout.specs.declared.place.Place.TheVariants as place
 use Rattle.ds_state.specs.World.{PlainEdit, PlainIssue, PlainWorld, edit_of}
-use Rattle.ds_state.specs.Crashes.{StopsIn}
 use Rattle.ds_state.specs.Fresh.{IsNew}
 use Rattle.ds_state.specs.LayoutsFit.{IsMoving}
 use Rattle.ds_state.specs.Sound.{IsSound}
@@ -23,6 +22,8 @@ use Rattle.ds_state.specs.declared.stage.Outcome.TheVariants.{Done, Overtaken}
 use Rattle.ds_state.specs.declared.situation.Situation.{Situation}
 use Rattle.ds_state.specs.declared.situation.Situation.TheVariants.{Idle, Stopped}
 use Rattle.ds_state.specs.declared.recovery.RecoveryEnd.TheVariants.{Last, Nothing}
+use Rattle.ds_core.specs.declared.event.Event.{Event}
+use Rattle.ds_core.specs.declared.event.Event.TheVariants.{Stop, Evict, Crash}
 use Rattle.ds_drives.specs.declared.board.HistoryEntry.{HistoryEntry}
 use Rattle.ds_drives.specs.declared.board.CallEvent.{CallEvent}
 use Rattle.ds_drives.specs.declared.board.CallEvent.TheVariants.{Began, Edited, Worked, Recovered, Reported}
@@ -267,13 +268,26 @@ pub record AtRest (layout : Layout) (words : List ℕ) (b : Witness) : Type 0 wh
   pub stopped : (p : ℕ) → p < layout.processes → b.situation p ≡ Stopped
   pub buffer : (p : ℕ) → p < layout.processes → b.buffer p ≡ []
 
--- from one world to another by stops alone
-pub data Stops (layout : Layout) (words : List ℕ) (first : Witness) : Witness → Type 0 where
-  none : Stops layout words first first
-  stop : (a b : Witness) (p : ℕ) → Stops layout words first a → StopsIn p (world_on layout words a) (world_on layout words b) → Stops layout words first b
+-- the history of the one goes on to that of the other by these events alone
+pub record GoesOnBy (Allowed : Event → Type 0) (b b' : Witness) : Type 0 where
+  pub origin : b'.origin ≡ b.origin
+  pub more : List Happened
+  pub happened : b'.happened ≡ more ++ b.happened
+  pub allowed : (h : Happened) → In more h → Allowed h.event
+
+-- a stop of one process
+abbrev pub IsStop : Event → Type 0
+IsStop (Stop p) = Unit {0}
+IsStop _ = ⊥
+
+-- an eviction or a crash
+abbrev pub IsLoss : Event → Type 0
+IsLoss (Evict r) = Unit {0}
+IsLoss Crash = Unit {0}
+IsLoss _ = ⊥
 
 -- these words are those of a sound world, in the second layout, in which each process that was handed in does what its
--- seat says, and stops alone lead from it to one at rest, in which all that was answered is true still
+-- seat says; its history goes on by stops alone to one at rest, in which all that was answered is true still
 pub record Closes (layout : Layout) (start : Start) (words : List ℕ) (Handed : Seated → Type 0) (past : List Seated) : Type 0 where
   pub last : Witness
   pub sound : IsSound (world_on layout words last)
@@ -286,7 +300,7 @@ pub record Closes (layout : Layout) (start : Start) (words : List ℕ) (Handed :
   pub made : start.stopped ≡ false → last.origin.older ≡ []
   pub stands : (e : Seated) → Handed e → Stands layout words last e
   pub witness : Witness
-  pub stops : Stops layout words last witness
+  pub stops : GoesOnBy IsStop last witness
   pub rests : AtRest layout words witness
   pub call_events : AreTrue layout words witness past
 
@@ -295,11 +309,10 @@ pub record Closes (layout : Layout) (start : Start) (words : List ℕ) (Handed :
 abbrev pub HasSideLeft : Bool → List ℕ → List ℕ → ℕ → Type 0
 HasSideLeft chosen words words' n = let side : ℕ = if chosen then slice_index words (8 * n) else slice_index words (8 * n + 1) in (slice_index words' (8 * n) ≡ side) × (slice_index words' (8 * n + 1) ≡ side)
 
--- below these words, too, stands a sound world at rest, and what was answered stays true
+-- these words, too, are those of a sound world at rest, to whose history evictions and a crash lead, and what was answered
+-- stays true
 pub record Survives (layout : Layout) (words words' : List ℕ) (b : Witness) : Type 0 where
   pub witness : Witness
   pub rests : AtRest layout words' witness
-  pub origin : witness.origin ≡ b.origin
-  pub more : List Happened
-  pub happened : witness.happened ≡ more ++ b.happened
+  pub losses : GoesOnBy IsLoss b witness
   pub call_events : (e : Seated) → IsPast layout words b e → IsPast layout words' witness e

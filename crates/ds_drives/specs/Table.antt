@@ -61,17 +61,17 @@ answer (SwapIf n expected value) found = found
 answer _ found = 0
 
 -- what the table reports of its step: the number found, or, where it stores, the number stored
-abbrev pub returned_back : Class → ℕ → ℕ → ℕ
-returned_back Stamped found value = found
-returned_back Bit found value = found
-returned_back Owned found value = value
+abbrev pub reported_back : Class → ℕ → ℕ → ℕ
+reported_back Stamped found value = found
+reported_back Bit found value = found
+reported_back Owned found value = value
 
 -- what a call of the table reports of an access, with the oldest entry of the buffer, where the word is this
-abbrev pub returned : Access ℕ → Option (BufferEntry ℕ) → ℕ → ℕ
-returned (Store n value) oldest found = value
-returned Back None found = found
-returned Back (Some x) found = returned_back x.class found x.value
-returned _ oldest found = found
+abbrev pub reported : Access ℕ → Option (BufferEntry ℕ) → ℕ → ℕ
+reported (Store n value) oldest found = value
+reported Back None found = found
+reported Back (Some x) found = reported_back x.class found x.value
+reported _ oldest found = found
 
 -- the class of the word that an access flushes
 abbrev pub class_flushed : Access Place → Class

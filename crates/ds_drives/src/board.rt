@@ -28,7 +28,7 @@ use std::snapshot::Snapshot;
 
 /// What a process has done. No value of it is made.
 pub struct Deeds {
-    /// What its calls were answered, the last one first.
+    /// Each call that it began, and each answer, the last one first.
     pub call_events: [CallEvent; 0],
     /// How many steps it took.
     pub steps: usize,
@@ -122,6 +122,7 @@ impl Landing for Brand {
     ghost lands = { λ n v. Unit {0} };
 }
 
+// What a step of a call is to leave: the clause of its landing.
 pub(crate) struct Lands<J> {
     of: PhantomData<J>,
 }

@@ -5,7 +5,7 @@ ghost use Rattle.atomic_table.specs.Table.{Allows};
 ghost use Rattle.ds_words.specs.declared.words.TheConstants.{BUFFER_ENTRIES};
 ghost use Rattle.ds_drives.specs.Rule.{Ruled};
 ghost use Rattle.ds_drives.specs.Starts.{start_of};
-ghost use Rattle.ds_drives.specs.Table.{oldest_of, rest_of, word_of, change, returned, answer, buffer_after, class_flushed, HasRoom};
+ghost use Rattle.ds_drives.specs.Table.{oldest_of, rest_of, word_of, change, reported, answer, buffer_after, class_flushed, HasRoom};
 
 use crate::board::{Key, Landing, Lands, Law, TableSeat, View};
 use arrayvec::ArrayVec;
@@ -56,7 +56,7 @@ pub(crate) fn access<J: Landing, M>(
 ) -> u64
     requires table { seat.old.table_id ≡ shared.now.table_id }
     requires within { (word_of want oldest < shared.now.table_id.words) × (shared.now.table_id.words < 2 ^ 32) }
-    requires step { Allows (Ruled shared.now.key.layout (start_of shared.now.key)) shared.now.table_id.slots seat.old.id seat.old.me (word_of want oldest) (change want oldest) (λ n m'. (m'.1 ≡ seat.old.me.1) × J.lands (returned want oldest n) m'.0) }
+    requires step { Allows (Ruled shared.now.key.layout (start_of shared.now.key)) shared.now.table_id.slots seat.old.id seat.old.me (word_of want oldest) (change want oldest) (λ n m'. (m'.1 ≡ seat.old.me.1) × J.lands (reported want oldest n) m'.0) }
     ensures seat { (seat.new.table_id ≡ seat.old.table_id) × (seat.new.id ≡ seat.old.id) }
     ensures landed { (seat.new.me.1 ≡ seat.old.me.1) × J.lands result seat.new.me.0 }
 {

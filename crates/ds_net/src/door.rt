@@ -102,11 +102,12 @@ impl Door {
         self.running.load(Ordering::SeqCst)
     }
 
-    // For how many ticks a client is waited for from now on.
+    // For how many ticks, of 250 milliseconds each, a client is waited for from now on.
     pub(crate) fn set_patience(&self, ticks: u64) {
         self.patience.store(ticks, Ordering::SeqCst);
     }
 
+    // The same, as it was set last.
     pub(crate) fn patience(&self) -> u64 {
         self.patience.load(Ordering::SeqCst)
     }
@@ -126,22 +127,27 @@ impl Door {
         self.running.fetch_sub(1, Ordering::SeqCst);
     }
 
+    // A session has joined a process.
     pub(crate) fn count_joined(&self) {
         self.joined.fetch_add(1, Ordering::SeqCst);
     }
 
+    // A set was answered `done`.
     pub(crate) fn count_done(&self) {
         self.done.fetch_add(1, Ordering::SeqCst);
     }
 
+    // A set was answered `overtaken`.
     pub(crate) fn count_overtaken(&self) {
         self.overtaken.fetch_add(1, Ordering::SeqCst);
     }
 
+    // A call was refused, or an allocation failed for it.
     pub(crate) fn count_refused(&self) {
         self.refused.fetch_add(1, Ordering::SeqCst);
     }
 
+    // A report was answered.
     pub(crate) fn count_report(&self) {
         self.reports.fetch_add(1, Ordering::SeqCst);
     }
@@ -151,6 +157,7 @@ impl Door {
         !self.logs.swap(true, Ordering::SeqCst)
     }
 
+    // The line is written: somebody else may write one.
     pub(crate) fn give_log(&self) {
         self.logs.store(false, Ordering::SeqCst);
     }

@@ -15,6 +15,7 @@ pub(crate) struct DurableWriter<'a, R: Wait> {
 }
 
 impl<'a, R: Wait> DurableWriter<'a, R> {
+    // What writes to this connection, for this session.
     pub(crate) fn new(rt: &'a R, wire: Wire<'a>, visit: &'a Visit<'a>) -> DurableWriter<'a, R> {
         DurableWriter { rt, wire, visit }
     }

@@ -31,8 +31,8 @@ use std::time::Clock;
 pub struct Service {
     /// How many processes, the last ones, work on marked cells.
     pub workers: usize,
-    /// How many sessions are to join a process before no more connections are taken. 0: as many as come, until the
-    /// server is asked to stop.
+    /// How many connections are to become sessions before no more are taken, joined or not. 0: as many as come, until
+    /// the server is asked to stop.
     pub sessions: u64,
     /// How many sessions there may be at once, 1 or more. A connection beyond them is refused.
     pub at_once: u64,
@@ -178,7 +178,7 @@ fn fitted<R: Log>(rt: &R, alloc: Global, listener: &TcpListener, service: Servic
 /// Serves connections, each in its thread, while a worker acts for each of the last processes, this number of them; returns when the
 /// service is over and all sessions have ended.
 ///
-/// It ends well only when the door tells it to stop, or when as many sessions have joined a process as it was to serve.
+/// It ends well only when the door tells it to stop, or when as many connections have become sessions as it was to serve.
 /// Each connection that it took is then a session, or was refused since there were as many sessions as there may be at
 /// once. A connection that breaks off before it is taken, and want of descriptors, end nothing. An error is that of the
 /// listener, which has failed for good; the connections that were taken before it are served to their ends.

@@ -30,7 +30,7 @@ use std::time::Clock;
 /// The promise of a thread that serves this number of sessions: it ends as a server does.
 #[derive(Clone, Copy)]
 pub struct Serves {
-    /// How many sessions are to join. 0: as many as come.
+    /// How many connections are to become sessions. 0: as many as come.
     pub sessions: u64,
 }
 

@@ -12,7 +12,7 @@ use std::sync::atomic::{AtomicBool, AtomicU64, Ordering};
 pub struct Visit<'a> {
     door: &'a Door,
     // The process that was joined, and 1; 0 before.
-    seat: AtomicU64,
+    joined: AtomicU64,
     idle: AtomicBool,
     lost: AtomicBool,
 }
@@ -22,7 +22,7 @@ impl<'a> Visit<'a> {
     pub fn new(door: &'a Door) -> Visit<'a> {
         Visit {
             door,
-            seat: AtomicU64::new(0),
+            joined: AtomicU64::new(0),
             idle: AtomicBool::new(false),
             lost: AtomicBool::new(false),
         }
@@ -30,9 +30,9 @@ impl<'a> Visit<'a> {
 
     /// The process that the session has joined, if it has.
     pub fn process(&self) -> Option<u64> {
-        match self.seat.load(Ordering::SeqCst) {
+        match self.joined.load(Ordering::SeqCst) {
             0 => None,
-            seat => Some(seat - 1),
+            joined => Some(joined - 1),
         }
     }
 
@@ -56,6 +56,7 @@ impl<'a> Visit<'a> {
         self.idle.store(true, Ordering::SeqCst);
     }
 
+    // Whether its client was silent for too long.
     pub(crate) fn was_idle(&self) -> bool {
         self.idle.load(Ordering::SeqCst)
     }
@@ -65,16 +66,19 @@ impl<'a> Visit<'a> {
         self.lost.store(true, Ordering::SeqCst);
     }
 
+    // Whether an answer was not given since the store has failed.
     pub(crate) fn is_lost(&self) -> bool {
         self.lost.load(Ordering::SeqCst)
     }
 
+    // It has joined this process.
     pub(crate) fn joins(&self, process: usize) {
-        self.seat
+        self.joined
             .store((process as u64).wrapping_add(1), Ordering::SeqCst);
         self.door.count_joined();
     }
 
+    // A set of it has ended so.
     pub(crate) fn counts_set(&self, end: &Result<EditEnd, CallRefusal>) {
         match end {
             Ok(EditEnd::Done(_)) => self.door.count_done(),
@@ -83,6 +87,7 @@ impl<'a> Visit<'a> {
         }
     }
 
+    // A report of it has ended so.
     pub(crate) fn counts_report(&self, end: &Result<Reported, CallRefusal>) {
         match end {
             Ok(_) => self.door.count_report(),

@@ -41,6 +41,7 @@ pub(crate) fn prepare(stream: &TcpStream) -> io::Result<()> {
 }
 
 impl<'a> Wire<'a> {
+    // A connection that waits for this number of ticks, of 250 milliseconds each.
     pub(crate) fn new(stream: &'a TcpStream, visit: &'a Visit<'a>, ticks: u64) -> Wire<'a> {
         Wire {
             stream,

@@ -26,7 +26,7 @@ impl Course {
 
     /// The order by what is known now. Where that is what was known before, or an allocation fails, it stays as it was.
     pub fn renew(&mut self, alloc: Global, known: &KnownReferences)
-        ensures { (self.new.order ≡ self.old.order) ⊎ IsOrder (count_of known.now.shape) self.new.order.items }
+        ensures { (self.new ≡ self.old) ⊎ IsOrder (count_of known.now.shape) self.new.order.items }
     {
         let version = known.version();
         if self.version == Some(version) {

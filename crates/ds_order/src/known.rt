@@ -1,6 +1,6 @@
 //! What is known of the references of a sheet that threads edit.
 
-ghost use Rattle.std.specs.Prelude.{◌≡◌};
+ghost use Rattle.std.specs.Prelude.{◌≡◌, IfOk};
 
 use crate::order::References;
 use ds_formula::cells::{Cell, Shape};
@@ -34,7 +34,9 @@ fn bits_of(shape: Shape, references: &[Cell], at: usize) -> u64 {
 
 impl KnownReferences {
     /// Of a sheet of this shape whose cells are blank. An error is that an allocation failed.
-    pub fn new(alloc: Global, shape: Shape) -> Result<KnownReferences, AllocError> {
+    pub fn new(alloc: Global, shape: Shape) -> Result<KnownReferences, AllocError>
+        ensures { IfOk result (λ known. known.shape ≡ shape) }
+    {
         let count = shape.count() * shape.count().div_ceil(64);
         let mut words = Vec::with_capacity(alloc, count)?;
         for _ in 0..count {

@@ -58,13 +58,13 @@ outcome_text true = codes "done"
 outcome_text false = codes "not-done"
 
 -- the last edit of a process: {"cell":"A1","number":0,"outcome":"done"}
-abbrev pub told_data : Shape → LastEdit → Data
-told_data shape told = object (member (codes "cell") (text_data (cell_text (cell_at shape told.cell))) (member (codes "number") (number_data told.number) (member (codes "outcome") (text_data (outcome_text told.counts)) no_members)))
+abbrev pub edit_data : Shape → LastEdit → Data
+edit_data shape last = object (member (codes "cell") (text_data (cell_text (cell_at shape last.cell))) (member (codes "number") (number_data last.number) (member (codes "outcome") (text_data (outcome_text last.counts)) no_members)))
 
 -- the last edit of a process, null where it has none
 abbrev pub last_data : Shape → Option LastEdit → Data
 last_data shape None = null
-last_data shape (Some told) = told_data shape told
+last_data shape (Some last) = edit_data shape last
 
 -- another process's edit: {"number":0,"process":1}
 abbrev pub other_data : Other → Data

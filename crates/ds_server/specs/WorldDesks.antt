@@ -41,7 +41,7 @@ refused_by (begin.NotStopped q) = refusal.ProcessTaken
 
 -- a recovery that ended so says this
 abbrev pub Recovers : Result RecoveryEnd Refusal → Result (Option LastEdit) CallRefusal → Type 0
-Recovers (Ok (recovery.Last told)) result = result ≡ Ok (Some told)
+Recovers (Ok (recovery.Last last)) result = result ≡ Ok (Some last)
 Recovers (Ok recovery.Nothing) result = result ≡ Ok None
 Recovers (Err why) result = result ≡ Err (refused_by why)
 
@@ -72,16 +72,16 @@ Reports w p (Err why) result = result ≡ Err (refused_by why)
 -- is a whole edit, a report is a settle and then a whole report; a settle that is refused or is out of memory is
 -- answered so, and what it has worked on stays; a process is given back in no call
 pub data Does (old : WorldValue) : Call → Said → WorldValue → Type 0 where
-  joins : (p : ℕ) (answer : Result RecoveryEnd Refusal) (told : Result (Option LastEdit) CallRefusal) (new : WorldValue) → Whole answers.Recovery p (BeginRecover p) old answer new → Recovers answer told
-      → Does old (Join p) (joined_view p told) new
+  joins : (p : ℕ) (answer : Result RecoveryEnd Refusal) (last : Result (Option LastEdit) CallRefusal) (new : WorldValue) → Whole answers.Recovery p (BeginRecover p) old answer new → Recovers answer last
+      → Does old (Join p) (joined_view p last) new
   sets : (p : ℕ) (cell : Cell) (text : List ℕ) (answer : Result EditEnd Refusal) (end : Result EditEnd CallRefusal) (new : WorldValue) → Whole answers.Edit p (BeginEdit (request p cell text)) old answer new → Edits answer end
       → Does old (Set p cell text) (set_view end) new
   reports : (p left : ℕ) (mid new : WorldValue) (answer : Result ShowEnd Refusal) (end : Result Reported CallRefusal) → Settling p old (Ends (settle.Left left)) mid → Whole answers.Show p (BeginShow p) mid answer new → Reports new p answer end
       → Does old (Report p) (report_view end) new
   is_refused : (p : ℕ) (why : Refusal) (new : WorldValue) → Settling p old (Ends (settle.Refused why)) new → Does old (Report p) (report_view (Err (refused_by why))) new
   lacks : (p : ℕ) (new : WorldValue) → Settling p old (Ends settle.NoMemory) new → Does old (Report p) (report_view (Err refusal.NoMemory)) new
-  tells : (p : ℕ) (answer : Result RecoveryEnd Refusal) (told : Result (Option LastEdit) CallRefusal) (new : WorldValue) → Whole answers.Recovery p (BeginRecover p) old answer new → Recovers answer told
-      → Does old (Last p) (last_view told) new
+  tells : (p : ℕ) (answer : Result RecoveryEnd Refusal) (last : Result (Option LastEdit) CallRefusal) (new : WorldValue) → Whole answers.Recovery p (BeginRecover p) old answer new → Recovers answer last
+      → Does old (Last p) (last_view last) new
   leaves : (p : ℕ) → MayRecover ((world_of old).situation p) → Does old (Leave p) Left old
 
 -- the session has the process: it is one of the sheet, and in no call, idle or stopped
@@ -101,10 +101,10 @@ world_rules = record {
 -- ---- parts of calls
 
 -- a whole recovery of the process, and what it reports
-pub record HasRecovered (p : ℕ) (old : WorldValue) (told : Result (Option LastEdit) CallRefusal) (new : WorldValue) : Type 0 where
+pub record HasRecovered (p : ℕ) (old : WorldValue) (last : Result (Option LastEdit) CallRefusal) (new : WorldValue) : Type 0 where
   pub answer : Result RecoveryEnd Refusal
   pub whole : Whole answers.Recovery p (BeginRecover p) old answer new
-  pub tells : Recovers answer told
+  pub tells : Recovers answer last
 
 -- a whole edit of the process, and how it ended
 pub record HasEdited (p : ℕ) (cell : Cell) (text : List ℕ) (old : WorldValue) (end : Result EditEnd CallRefusal) (new : WorldValue) : Type 0 where

@@ -5,7 +5,7 @@ ghost use Rattle.serde_json.specs.View.{view};
 ghost use Rattle.serde_json.specs.Written.{compact_text};
 ghost use Rattle.ds_formula.specs.Cells.{cell_at};
 ghost use Rattle.ds_formula.specs.Names.{cell_text};
-ghost use Rattle.ds_server.specs.SessionTexts.{code_of_fault, name_of_fault, outcome_text, told_data, last_data, other_data, row_data, rows_data, place_text, joined_data, done_data, overtaken_data, settled_data, unsettled_data, tells_data, error_data, text_fault_data, refusal_data, said_data, said_text};
+ghost use Rattle.ds_server.specs.SessionTexts.{code_of_fault, name_of_fault, outcome_text, edit_data, last_data, other_data, row_data, rows_data, place_text, joined_data, done_data, overtaken_data, settled_data, unsettled_data, tells_data, error_data, text_fault_data, refusal_data, said_data, said_text};
 ghost use Rattle.ds_server.specs.LineAnswers.{response_view};
 
 use crate::desk::CallRefusal;
@@ -83,11 +83,11 @@ fn outcome(counts: bool) -> &'static str
     if counts { "done" } else { "not-done" }
 }
 
-fn told_value(alloc: Global, shape: &Shape, told: LastEdit) -> Result<Json, AllocError>
-    ensures { IfOk result (λ v. view v ≡ told_data shape.now told) }
+fn edit_value(alloc: Global, shape: &Shape, last: LastEdit) -> Result<Json, AllocError>
+    ensures { IfOk result (λ v. view v ≡ edit_data shape.now last) }
 {
-    let cell = Json::String(cell_name(alloc, shape, told.cell)?);
-    json!(in alloc; {"cell": cell, "number": (told.number as u64), "outcome": (outcome(told.counts))})
+    let cell = Json::String(cell_name(alloc, shape, last.cell)?);
+    json!(in alloc; {"cell": cell, "number": (last.number as u64), "outcome": (outcome(last.counts))})
 }
 
 fn last_value(alloc: Global, shape: &Shape, last: Option<LastEdit>) -> Result<Json, AllocError>
@@ -95,7 +95,7 @@ fn last_value(alloc: Global, shape: &Shape, last: Option<LastEdit>) -> Result<Js
 {
     match last {
         None => Ok(Json::Null),
-        Some(told) => told_value(alloc, shape, told),
+        Some(last) => edit_value(alloc, shape, last),
     }
 }
 

@@ -58,7 +58,7 @@ pub trait Desk {
         ensures { result ≡ rules.processes self.now };
 
     /// The session takes a process, whose recovery reports its last edit that was announced, if any.
-    /// After an error the process is not the session's.
+    /// What the desk is after an error, its rules say.
     fn join(&mut self, alloc: Global, process: usize) -> Result<Option<LastEdit>, CallRefusal>
         requires { process < rules.processes self.old }
         ensures does { rules.does self.old (Join process) (joined_view process result) self.new }

@@ -53,7 +53,7 @@ fn recovered(
     ensures free { KeepsFree process world.old world.new }
 {
     match whole_recovery(alloc, world, process) {
-        Ok(RecoveryEnd::Last(told)) => Ok(Some(told)),
+        Ok(RecoveryEnd::Last(last)) => Ok(Some(last)),
         Ok(RecoveryEnd::Nothing) => Ok(None),
         Err(refusal) => Err(CallRefusal::from(refusal)),
     }

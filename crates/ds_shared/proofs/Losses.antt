@@ -27,8 +27,8 @@ use Rattle.ds_drives.specs.Rule.{IsAnswered, IsTrueOutcome, CountsAs}
 
 -- ---- lists
 
-witness : {A : Type 0} (x : A) (xs : List A) (e : A) → Contains xs e → Contains (x ∷ xs) e
-witness x xs e (k, l, is) = (suc k, (omega arith), is)
+deeper : {A : Type 0} (x : A) (xs : List A) (e : A) → Contains xs e → Contains (x ∷ xs) e
+deeper x xs e (k, l, is) = (suc k, (omega arith), is)
 
 to_filter : {A : Type 0} (p : A → Bool) (xs : List A) (e : A) → Contains xs e → p e ≡ true → Contains (filter p xs) e
 to_filter p [] e (k, lt, is) keep = absurd (omega arith)
@@ -36,7 +36,7 @@ to_filter p (x ∷ xs) e (zero, lt, is) keep = subst (λ b. Contains (cond b (x 
 to_filter p (x ∷ xs) e (suc k, lt, is) keep = by (p x) (to_filter p xs e (k, (omega arith), is) keep)
   where
     by : (b : Bool) → Contains (filter p xs) e → Contains (cond b (x ∷ filter p xs) (filter p xs)) e
-    by true rest = witness x (filter p xs) e rest
+    by true rest = deeper x (filter p xs) e rest
     by false rest = rest
 
 from_filter : {A : Type 0} (p : A → Bool) (xs : List A) (e : A) → Contains (filter p xs) e → Contains xs e
@@ -45,8 +45,8 @@ from_filter p (x ∷ xs) e h = by (from_filter p xs e) (p x) h
   where
     by : (Contains (filter p xs) e → Contains xs e) → (b : Bool) → Contains (cond b (x ∷ filter p xs) (filter p xs)) e → Contains (x ∷ xs) e
     by again true (zero, lt, is) = (zero, (omega arith), is)
-    by again true (suc k, lt, is) = witness x xs e (again (k, (omega arith), is))
-    by again false rest = witness x xs e (again rest)
+    by again true (suc k, lt, is) = deeper x xs e (again (k, (omega arith), is))
+    by again false rest = deeper x xs e (again rest)
 
 -- ---- what is lost
 

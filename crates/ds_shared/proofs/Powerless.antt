@@ -2,7 +2,7 @@
 use Rattle.std.proofs.Common.{ℕ, ◌≡◌, ◌+◌, ◌*◌, ◌<◌, ◌≤◌, List, [], ◌∷◌, length, length-set, get_or, set, refl, ap, sym, ◌∙◌, subst, arith, zero, suc, Bool, true, false, le_refl}
 use Rattle.std.specs.Prelude.{if◌then◌else◌}
 use Rattle.std.proofs.lemmas.List.{get_or-set_same, get_or-set_other}
-use Rattle.std.proofs.Common.{inl, inr}
+use Rattle.std.proofs.Common.{⊎_elim, inl, inr, tt}
 use Rattle.std.proofs.lemmas.Bool.Decides.{leb_tells}
 use mathlib.Core.Logic.{dite}
 use native.Mathlib.Decide.{ℕ_discrete}
@@ -32,11 +32,12 @@ use Rattle.std.proofs.lemmas.List.{append_assoc}
 use Rattle.ds_core.specs.declared.event.Event.TheVariants.{Evict, Crash}
 use Rattle.ds_core.specs.declared.reply.Reply.TheVariants as reply
 use Rattle.ds_drives.specs.History.{Happened, Run, Stood}
+use Rattle.ds_drives.specs.Views.{In}
 use Rattle.std.specs.Prelude.{nat_lt}
 use Rattle.std.proofs.lemmas.Bool.{lt-ltb, le-ltb}
 use Rattle.ds_state.specs.Value.{first_rest}
 use Rattle.ds_state.specs.LayoutsFit.{IsMoving}
-use Rattle.ds_drives.specs.Rule.{Witness, WasAnswered, all_of, world_on, IsSecond, IsAnswered, AtRest, Survives}
+use Rattle.ds_drives.specs.Rule.{Witness, WasAnswered, all_of, world_on, IsSecond, IsAnswered, AtRest, Survives, IsLoss}
 use Rattle.ds_drives.proofs.Witnesses.{was_further, tidy_on}
 use Rattle.ds_drives.proofs.Histories.{begins_still}
 use Rattle.ds_shared.proofs.Losses.{answered_crashed}
@@ -90,13 +91,14 @@ module _ (layout : Layout) (c : ℕ → Bool) (ws : List ℕ) (long : length ws 
   module _ (b : Witness) (rests : AtRest layout ws b) where
     record Evicted (w : List ℕ) : Type 0 where
       more : List Happened
+      allowed : (h : Happened) → In more h → IsLoss h.event
       sound : IsSound (world_on layout w b)
       run : Run b.origin.opened (more ++ b.happened) (world_on layout w b)
       stood : Stood (more ++ b.happened)
       call_events : (q : ℕ) (t : CallEvent) → IsAnswered (world_on layout ws b) q t → IsAnswered (world_on layout w b) q t
 
     evicted : (k : ℕ) → k ≤ words_of layout → Evicted (backed c ws k)
-    evicted zero few = record { more = []; sound = rests.sound; run = rests.run; stood = rests.stood; call_events = λ q t h. h }
+    evicted zero few = record { more = []; allowed = λ h none. absurd none; sound = rests.sound; run = rests.run; stood = rests.stood; call_events = λ q t h. h }
     evicted (suc k) few = by (evicted k (omega arith)) (backed_is k (omega arith)) (c k)
       where
         by : Evicted (backed c ws k) → Backed k (backed c ws k) → (t : Bool) → Evicted (if t then set (backed c ws k) (8 * k + 1) (get_or (backed c ws k) (8 * k) 0) else backed c ws k)
@@ -122,6 +124,7 @@ module _ (layout : Layout) (c : ℕ → Bool) (ws : List ℕ) (long : length ws 
               open_edits = λ q. refl;
             } in record {
               more = record { before = world_on layout w b; event = Evict place; reply = reply.Evicted } ∷ r.more;
+              allowed = λ h inside. ⊎_elim (λ same. subst (λ (z : Happened). IsLoss z.event) same tt) (λ older. r.allowed h older) inside;
               run = (e, r.run);
               stood = (record { sound = r.sound; tidy = tidy_on layout w b rests.bare }, r.stood);
               sound = (evict_sound place (world_on layout w b) (world_on layout w' b) r.sound (buffered (world_on layout w b) r.sound) e).0;
@@ -211,9 +214,7 @@ module _ (layout : Layout) (c : ℕ → Bool) (ws : List ℕ) (long : length ws 
       survives = record {
         witness = after;
         rests = record { sound = crash_sound (world_on layout mid b) (world_on layout ws' after) backs.sound crash; second = second; run = (crash, backs.run); bare = record { situations = idle_far; buffers = λ q far. refl; open_edits = rests.bare.open_edits }; stood = (record { sound = backs.sound; tidy = tidy_on layout mid b rests.bare }, backs.stood); from = rests.from; stopped = stopped_low; buffer = λ p low. refl };
-        origin = refl;
-        more = lost;
-        happened = refl;
+        losses = record { origin = refl; more = lost; happened = refl; allowed = λ h inside. ⊎_elim (λ same. subst (λ (z : Happened). IsLoss z.event) same tt) (λ older. backs.allowed h older) inside };
         call_events = λ e h. record {
           call_events = λ t here. answered_crashed (world_on layout mid b) (world_on layout ws' after) backs.sound rests.stopped crash e.process t (backs.call_events e.process t (h.call_events t here));
           was = subst (λ (z : List Happened). WasAnswered z e) (sym (append_assoc lost b.happened b.origin.older)) (was_further lost (all_of b) e h.was);

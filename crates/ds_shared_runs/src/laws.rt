@@ -44,11 +44,10 @@ pub fn seen_histories_are_beginnings()
         → IsBeginning hs seen → IsSeen first hs last r seen }
 {}
 
-/// The order in time of two calls. Where the answer of one stands in a history of which the caller of the other one was
-/// answered, so that what that caller had seen goes on from it, and the other call begins in what it has seen since,
-/// the answer's place in the run is before the begin's. By this and the laws beside it a shared sheet is durably
+/// The order in time of two calls. Where the answer of one stands in a history that the caller of the other one knew, so
+/// that what that caller had seen goes on from it, and the other call begins in what it has seen since, the answer's place in the run is before the begin's. By this and the laws beside it a shared sheet is durably
 /// linearizable: there is one run of the core, through all crashes, in which each call stands as a begin and an answer
-/// of its own, with the reply that its caller got, in the order in which callers were answered (Herlihy and Wing,
+/// of its own, with the reply that its caller got, in the order that callers could know of (Herlihy and Wing,
 /// "Linearizability", TOPLAS 1990; Izraelevitz, Mendes and Scott, DISC 2016).
 #[tactic(auto, using(crate::proofs::Orders::stands_after))]
 pub fn calls_stand_in_order()

@@ -19,7 +19,7 @@ use Rattle.pm_base.proofs.Puts.{put_here, put_else}
 use Rattle.pm_board.specs.declared.board.Deeds.{Deeds}
 use Rattle.pm_board.specs.declared.board.Seated.{Seated}
 use Rattle.pm_board.specs.declared.board.View.{View}
-use Rattle.pm_board.specs.Table.{two_sided, word_of, change, answer, returned, oldest_of, buffer_after}
+use Rattle.pm_board.specs.Table.{two_sided, word_of, change, answer, reported, oldest_of, buffer_after}
 use Rattle.pm_board.specs.Views.{lone, seated, one_step_later, deeds_at, deeds_in, seen_so_far}
 use Rattle.pm_board.specs.Rule.{Origin, OpensWith, Start, IsOrigin, Witness, world_on, all_of, HasSeen, Fits, Ruled, After}
 use Rattle.pm_board.specs.Machines.{answered_so, Grows, Ran, still, steps, stepped, left, MayStep, MayBegin, Landed, due, IsIn, Drives, unbegun, under_way, Settles, Breaks, before_all, within}
@@ -27,7 +27,7 @@ use Rattle.pm_board.proofs.Driving.{there}
 use Rattle.pm_board.proofs.Histories.{run_both, did_both, deed_own, deed_else, seen_still, seen_all, grown, grows_both, holds_all}
 use Rattle.pm_board.proofs.Resting.{all_on, past_on, stopped, stops}
 use Rattle.pm_board.proofs.Seating.{seated_set}
-use Rattle.pm_board.proofs.Words.{answer_answered, buffer_answered, performs}
+use Rattle.pm_board.proofs.Words.{answer_reported, buffer_reported, performs}
 
 -- what was answered in two stretches
 answered_both : {T : Type 0} (S : Type 0) (ys xs : List T) → answered_so {S = S} (ys ++ xs) ≡ answered_so ys ++ answered_so xs
@@ -225,15 +225,15 @@ module _ {K S T C E : Type 0} (s : Structure K S T) (c : Calls K S T C E) (key :
       let from1 : IsOrigin s key b1.origin = subst (IsOrigin s key) (sym first.after.origin) h.from in
       let sound1 : s.sound key (world_on s key t.words b1) = (holds_all s key structure b1.origin b1.happened (world_on s key t.words b1) from1 run1).sound in
       let n : ℕ = read t.words call x in
-      let k : ℕ = returned a (oldest_of x) n in
+      let k : ℕ = reported a (oldest_of x) n in
       let words2 : List ℕ = written t.words call x in
       let taken = take t.words b1 call x h.long sound1 low first.after.doing first.after.buffer fits go in
       let b2 : Witness s key = taken.witness in
       let call1 : C = c.next call (answered t.words call x) in
       let call2 : C = stepped s c key call k in
       let x2 : List (BufferEntry ℕ) = left s c key call x k in
-      let same_call : call1 ≡ call2 = ap (c.next call) (sym (answer_answered a x n)) in
-      let same_buffer : kept_back t.words call x ≡ x2 = sym (buffer_answered (s.class_in key) a x n) in
+      let same_call : call1 ≡ call2 = ap (c.next call) (sym (answer_reported a x n)) in
+      let same_buffer : kept_back t.words call x ≡ x2 = sym (buffer_reported (s.class_in key) a x n) in
       let p2 : c.process call2 ≡ p = calls.process call (answer a k) in
       let both = after_both s key t.words t.words words2 h.witness b1 b2 p (c.doing call) (c.doing call1) x (kept_back t.words call x) begins_with (answered_so (c.says call1)) first.after taken.after in
       let ts : List (Deed S T) = answered_so (c.says call2) ++ begins_with in

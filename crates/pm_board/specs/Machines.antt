@@ -10,7 +10,7 @@ use Rattle.pm_base.specs.declared.history.Entry.{Entry}
 use Rattle.pm_board.specs.declared.board.Deeds.{Deeds}
 use Rattle.pm_board.specs.declared.board.Seated.{Seated}
 use Rattle.pm_board.specs.declared.board.View.{View}
-use Rattle.pm_board.specs.Table.{word_of, change, answer, returned, oldest_of, buffer_after}
+use Rattle.pm_board.specs.Table.{word_of, change, answer, reported, oldest_of, buffer_after}
 use Rattle.pm_board.specs.Views.{lone, seated, one_step_later, deeds_at, deeds_in, seen_so_far}
 use Rattle.pm_board.specs.Rule.{Start, Ruled}
 
@@ -60,7 +60,7 @@ module _ {K S T C E : Type 0} (s : Structure K S T) (c : Calls K S T C E) (key :
   -- the step of the call is one that the rule allows
   abbrev pub MayStep : Start → ℕ → ℕ → Bool → Me ℕ (View S T) → C → List (BufferEntry ℕ) → Type 0
   MayStep start slots id begun me call x = Allows (Ruled s key {X = ℕ} start) slots id me (word_of (c.access key call) (oldest_of x)) (change (c.access key call) (oldest_of x))
-      (λ n m'. (m'.1 ≡ me.1) × Landed begun me call x (returned (c.access key call) (oldest_of x) n) m'.0)
+      (λ n m'. (m'.1 ≡ me.1) × Landed begun me call x (reported (c.access key call) (oldest_of x) n) m'.0)
 
   -- the process may begin the call: from what it does, or after a stop
   abbrev pub MayBegin : S → C → Type 0

@@ -90,6 +90,7 @@ impl<D, T> Landing<D, T> for Brand {
     ghost lands = { λ n v. Unit {0} };
 }
 
+// What a step of a call is to leave: the clause of its landing.
 pub(crate) struct Lands<J> {
     of: PhantomData<J>,
 }

@@ -5,7 +5,7 @@ ghost use Rattle.atomic_table.specs.Table.{Allows};
 ghost use Rattle.ds_words.specs.declared.words.TheConstants.{BUFFER_ENTRIES};
 ghost use Rattle.pm_board.specs.Rule.{Ruled};
 ghost use Rattle.pm_board.specs.Starts.{start_of};
-ghost use Rattle.pm_board.specs.Table.{oldest_of, rest_of, word_of, change, returned, answer, buffer_after, word_flushed, HasRoom};
+ghost use Rattle.pm_board.specs.Table.{oldest_of, rest_of, word_of, change, reported, answer, buffer_after, word_flushed, HasRoom};
 
 use crate::board::{Fixed, Landing, Lands, Law, TableSeat, View};
 use arrayvec::ArrayVec;
@@ -55,7 +55,7 @@ pub(crate) fn access<P: Structured, J: Landing<P::Doing, P::Response>, M>(
 ) -> u64
     requires table { seat.old.table_id ≡ shared.now.table_id }
     requires within { (word_of want oldest < shared.now.table_id.words) × (shared.now.table_id.words < 2 ^ 32) }
-    requires step { Allows (Ruled P.structure shared.now.key.own (start_of shared.now.key)) shared.now.table_id.slots seat.old.id seat.old.me (word_of want oldest) (change want oldest) (λ n m'. (m'.1 ≡ seat.old.me.1) × J.lands (returned want oldest n) m'.0) }
+    requires step { Allows (Ruled P.structure shared.now.key.own (start_of shared.now.key)) shared.now.table_id.slots seat.old.id seat.old.me (word_of want oldest) (change want oldest) (λ n m'. (m'.1 ≡ seat.old.me.1) × J.lands (reported want oldest n) m'.0) }
     ensures seat { (seat.new.table_id ≡ seat.old.table_id) × (seat.new.id ≡ seat.old.id) }
     ensures landed { (seat.new.me.1 ≡ seat.old.me.1) × J.lands result seat.new.me.0 }
 {

@@ -89,7 +89,7 @@ module _ (n : ℕ) (w : World Doing (ℕ → List ℕ)) (c : RecoverCall) (m' : 
     record {
       own = o;
       is = kept_own perf.1;
-      well = record { announced = h.announced; head = h.head; witness = h.witness; has = h.has; has_kept = h.has_kept; most = h.most; knows = (refl, (k, sym perf.0)) };
+      well = record { announced = h.announced; head = h.head; follows = h.follows; has = h.has; has_kept = h.has_kept; most = h.most; knows = (refl, (k, sym perf.0)) };
       grows = grown o _ refl (le_refl _) (le_refl _) (λ v. tt);
       tells = λ t none. absurd none;
     },
@@ -102,7 +102,7 @@ module _ (n : ℕ) (w : World Doing (ℕ → List ℕ)) (c : RecoverCall) (m' : 
         record {
           own = o';
           is = λ i. record { announced = s.cached (2 * p) i; announced_kept = s.persisted (2 * p) i; head = s.cached (2 * p + 1) i; head_kept = s.persisted (2 * p + 1) i; buffer = flushed_one p (2 * p) last m m' k.0 k.1 s i; had = same_had i };
-          well = record { announced = h.announced; head = h.head; witness = h.witness; has = h.has; has_kept = h.has_kept; most = h.most; knows = (refl, (refl, k.1)) };
+          well = record { announced = h.announced; head = h.head; follows = h.follows; has = h.has; has_kept = h.has_kept; most = h.most; knows = (refl, (refl, k.1)) };
           grows = grown o' _ refl (le_refl _) (le_refl _) (λ v. tt);
           tells = λ t none. absurd none;
         },
@@ -117,7 +117,7 @@ module _ (n : ℕ) (w : World Doing (ℕ → List ℕ)) (c : RecoverCall) (m' : 
         record {
           own = o';
           is = λ i. record { announced = s.cached (2 * p) i; announced_kept = there i; head = s.cached (2 * p + 1) i; head_kept = s.elsewhere (2 * p + 1) (λ e. omega arith) i; buffer = s.mine i; had = same_had i };
-          well = record { announced = (let a = k.1 in omega (arith, a)); head = h.head; witness = le_trans h.witness less; has = h.has; has_kept = h.has_kept; most = h.most; knows = (refl, (refl, k.1, refl)) };
+          well = record { announced = (let a = k.1 in omega (arith, a)); head = h.head; follows = le_trans h.follows less; has = h.has; has_kept = h.has_kept; most = h.most; knows = (refl, (refl, k.1, refl)) };
           grows = grown o' _ refl (le_refl _) less (λ v. tt);
           tells = λ t none. absurd none;
         },
@@ -128,7 +128,7 @@ module _ (n : ℕ) (w : World Doing (ℕ → List ℕ)) (c : RecoverCall) (m' : 
     record {
       own = o;
       is = kept_own perf.1;
-      well = record { announced = h.announced; head = h.head; witness = h.witness; has = h.has; has_kept = h.has_kept; most = h.most; knows = (refl, (k.0, k.1, k.2, sym perf.0)) };
+      well = record { announced = h.announced; head = h.head; follows = h.follows; has = h.has; has_kept = h.has_kept; most = h.most; knows = (refl, (k.0, k.1, k.2, sym perf.0)) };
       grows = grown o _ refl (le_refl _) (le_refl _) (λ v. tt);
       tells = λ t none. absurd none;
     },
@@ -141,7 +141,7 @@ module _ (n : ℕ) (w : World Doing (ℕ → List ℕ)) (c : RecoverCall) (m' : 
         record {
           own = o';
           is = λ i. record { announced = s.cached (2 * p) i; announced_kept = s.persisted (2 * p) i; head = s.cached (2 * p + 1) i; head_kept = s.persisted (2 * p + 1) i; buffer = flushed_one p (2 * p + 1) head m m' k.0 k.3 s i; had = same_had i };
-          well = record { announced = h.announced; head = h.head; witness = h.witness; has = h.has; has_kept = h.has_kept; most = h.most; knows = (refl, (refl, k.1, k.2, k.3)) };
+          well = record { announced = h.announced; head = h.head; follows = h.follows; has = h.has; has_kept = h.has_kept; most = h.most; knows = (refl, (refl, k.1, k.2, k.3)) };
           grows = grown o' _ refl (le_refl _) (le_refl _) (λ v. tt);
           tells = λ t none. absurd none;
         },
@@ -157,10 +157,10 @@ module _ (n : ℕ) (w : World Doing (ℕ → List ℕ)) (c : RecoverCall) (m' : 
         record {
           own = o';
           is = λ i. record { announced = s.cached (2 * p) i; announced_kept = s.elsewhere (2 * p) (λ e. omega arith) i; head = s.cached (2 * p + 1) i; head_kept = there i; buffer = s.mine i; had = same_had i };
-          well = record { announced = h.announced; head = (let a = k.3 in omega (arith, a)); witness = h.witness; has = h.has; has_kept = has; most = h.most; knows = (refl, k.1, k.2) };
+          well = record { announced = h.announced; head = (let a = k.3 in omega (arith, a)); follows = h.follows; has = h.has; has_kept = has; most = h.most; knows = (refl, k.1, k.2) };
           grows = grown o' _ refl less (le_refl _) (λ v. tt);
           tells = λ t inside. elim inside [
-            | inl e ↦ subst (IsTrueResponse o' (Idle last)) e (tells_true o' last head has (subst (λ (z : ℕ). (v : ℕ) → In o.had v → v ≤ z) k.3 h.most) (let a = k.3 in let b = k.2 in let d = h.witness in omega (arith, a, b, d)) (le_refl _) (let b = k.2 in omega (arith, b)))
+            | inl e ↦ subst (IsTrueResponse o' (Idle last)) e (tells_true o' last head has (subst (λ (z : ℕ). (v : ℕ) → In o.had v → v ≤ z) k.3 h.most) (let a = k.3 in let b = k.2 in let d = h.follows in omega (arith, a, b, d)) (le_refl _) (let b = k.2 in omega (arith, b)))
             | inr none ↦ absurd none
           ];
         },
@@ -193,7 +193,7 @@ recover_begins n w c sound low fits go may =
     let d : Moves w p w.memory (Recovering c) [] = record {
       own = o;
       is = λ i. record { announced = o.announced; announced_kept = o.announced_kept; head = o.head; head_kept = o.head_kept; buffer = o.buffer; had = same_had i };
-      well = record { announced = h.announced; head = h.head; witness = h.witness; has = h.has; has_kept = h.has_kept; most = h.most; knows = (refl, stood_begun o (w.situation p) c h may) };
+      well = record { announced = h.announced; head = h.head; follows = h.follows; has = h.has; has_kept = h.has_kept; most = h.most; knows = (refl, stood_begun o (w.situation p) c h may) };
       grows = record { kept = λ v has le. has; head = le_refl _; announced = le_refl _; came = λ v le out has. has; leaves = λ v le out. tt };
       tells = λ t none. absurd none;
     } in

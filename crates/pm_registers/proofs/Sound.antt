@@ -27,7 +27,7 @@ fresh_well n memory f p low =
     let d = f.persisted (2 * p + 1) (omega arith) in record {
       announced = omega (arith, a, b);
       head = omega (arith, c, d);
-      witness = omega (arith, c, b);
+      follows = omega (arith, c, b);
       has = inl (sym c);
       has_kept = inl (sym d);
       most = λ v has. elim has [
@@ -96,13 +96,13 @@ record Evicted (o : Own) (now : Doing) (p : ℕ) (o' : Own) : Type 0 where
 
 evict_announce : (p : ℕ) (o : Own) (now : Doing) → IsWell p o now → Evicted o now p (record o { announced_kept = o.announced })
 evict_announce p o now h = record {
-  well = record { announced = le_refl _; head = h.head; witness = le_trans h.witness h.announced; has = h.has; has_kept = h.has_kept; most = h.most; knows = announce_knows p o now h.knows };
+  well = record { announced = le_refl _; head = h.head; follows = le_trans h.follows h.announced; has = h.has; has_kept = h.has_kept; most = h.most; knows = announce_knows p o now h.knows };
   grows = record { kept = λ v has le. has; head = le_refl _; announced = h.announced; came = λ v le out has. has; leaves = λ v le out. out };
 }
 
 evict_head : (p : ℕ) (o : Own) (now : Doing) → IsWell p o now → Evicted o now p (record o { head_kept = o.head })
 evict_head p o now h = record {
-  well = record { announced = h.announced; head = le_refl _; witness = h.witness; has = h.has; has_kept = h.has; most = h.most; knows = head_knows p o.head o now h.knows };
+  well = record { announced = h.announced; head = le_refl _; follows = h.follows; has = h.has; has_kept = h.has; most = h.most; knows = head_knows p o.head o now h.knows };
   grows = record { kept = λ v has le. has; head = h.head; announced = le_refl _; came = λ v le out has. has; leaves = λ v le out. out };
 }
 
@@ -135,7 +135,7 @@ stopped_moves w p m' h e =
     let o' : Own = record o { buffer = [] } in record {
       own = o';
       is = λ i. record { announced = e.cached (2 * p) i; announced_kept = e.persisted (2 * p) i; head = e.cached (2 * p + 1) i; head_kept = e.persisted (2 * p + 1) i; buffer = e.mine i; had = put_here w.hidden p (w.hidden p) p refl i };
-      well = record { announced = h.announced; head = h.head; witness = h.witness; has = h.has; has_kept = h.has_kept; most = h.most; knows = refl };
+      well = record { announced = h.announced; head = h.head; follows = h.follows; has = h.has; has_kept = h.has_kept; most = h.most; knows = refl };
       grows = record { kept = λ v has le. has; head = le_refl _; announced = le_refl _; came = λ v le out has. has; leaves = λ v le out. tt };
       tells = λ t none. absurd none;
     }
@@ -157,7 +157,7 @@ crashed_well : (w : World Doing (ℕ → List ℕ)) (m' : Memory ℕ) (p : ℕ) 
 crashed_well w m' p h e = subst (λ (z : Own). IsWell p z Stopped) (sym (crashed_own w m' p e)) (record {
   announced = le_refl _;
   head = le_refl _;
-  witness = le_trans h.head h.witness;
+  follows = le_trans h.head h.follows;
   has = in_up_to _ _ _ h.has_kept (le_refl _);
   has_kept = in_up_to _ _ _ h.has_kept (le_refl _);
   most = λ v has. (up_to_in _ (w.hidden p) v has).1;

@@ -120,11 +120,11 @@ module _ (n : ℕ) (w : World Doing (ℕ → List ℕ)) (c : WriteCall) (m' : Me
           well = record {
             announced = (let a = k.1 in let b = k.2 in omega (arith, a, b));
             head = h.head;
-            witness = h.witness;
+            follows = h.follows;
             has = h.has;
             has_kept = h.has_kept;
             most = h.most;
-            knows = (refl, (k.0, refl, (let a = k.1 in let b = k.2 in let d = h.witness in omega (arith, a, b, d))));
+            knows = (refl, (k.0, refl, (let a = k.1 in let b = k.2 in let d = h.follows in omega (arith, a, b, d))));
           };
           grows = grown o' _ refl (le_refl _) (le_refl _) st.new;
           tells = λ t none. absurd none;
@@ -139,7 +139,7 @@ module _ (n : ℕ) (w : World Doing (ℕ → List ℕ)) (c : WriteCall) (m' : Me
         record {
           own = o';
           is = λ i. record { announced = s.cached (2 * p) i; announced_kept = s.persisted (2 * p) i; head = s.cached (2 * p + 1) i; head_kept = s.persisted (2 * p + 1) i; buffer = flushed_one p (2 * p) c.value m m' k.0 k.1 s i; had = same_had i };
-          well = record { announced = h.announced; head = h.head; witness = h.witness; has = h.has; has_kept = h.has_kept; most = h.most; knows = (refl, (refl, k.1, k.2)) };
+          well = record { announced = h.announced; head = h.head; follows = h.follows; has = h.has; has_kept = h.has_kept; most = h.most; knows = (refl, (refl, k.1, k.2)) };
           grows = grown o' _ refl (le_refl _) (le_refl _) st.new;
           tells = λ t none. absurd none;
         },
@@ -158,7 +158,7 @@ module _ (n : ℕ) (w : World Doing (ℕ → List ℕ)) (c : WriteCall) (m' : Me
           well = record {
             announced = (let a = k.1 in omega (arith, a));
             head = h.head;
-            witness = le_trans h.witness less;
+            follows = le_trans h.follows less;
             has = h.has;
             has_kept = h.has_kept;
             most = h.most;
@@ -175,7 +175,7 @@ module _ (n : ℕ) (w : World Doing (ℕ → List ℕ)) (c : WriteCall) (m' : Me
         record {
           own = o;
           is = kept_own perf.1;
-          well = record { announced = h.announced; head = h.head; witness = h.witness; has = h.has; has_kept = h.has_kept; most = h.most; knows = (refl, (k.0, k.1, k.2, k.3, perf.0)) };
+          well = record { announced = h.announced; head = h.head; follows = h.follows; has = h.has; has_kept = h.has_kept; most = h.most; knows = (refl, (k.0, k.1, k.2, k.3, perf.0)) };
           grows = grown o _ refl (le_refl _) (le_refl _) st.new;
           tells = λ t none. absurd none;
         },
@@ -194,7 +194,7 @@ module _ (n : ℕ) (w : World Doing (ℕ → List ℕ)) (c : WriteCall) (m' : Me
                 well = record {
                   announced = h.announced;
                   head = (let a = h.head in let b = k.2 in omega (arith, a, b));
-                  witness = (let a = k.3 in omega (arith, a));
+                  follows = (let a = k.3 in omega (arith, a));
                   has = inl refl;
                   has_kept = inr h.has_kept;
                   most = λ v has. elim has [
@@ -227,7 +227,7 @@ module _ (n : ℕ) (w : World Doing (ℕ → List ℕ)) (c : WriteCall) (m' : Me
         record {
           own = o';
           is = λ i. record { announced = s.cached (2 * p) i; announced_kept = s.persisted (2 * p) i; head = s.cached (2 * p + 1) i; head_kept = s.persisted (2 * p + 1) i; buffer = flushed_one p (2 * p + 1) c.value m m' k.0 k.2 s i; had = same_had i };
-          well = record { announced = h.announced; head = h.head; witness = h.witness; has = h.has; has_kept = h.has_kept; most = h.most; knows = (refl, (refl, k.1, k.2, k.3)) };
+          well = record { announced = h.announced; head = h.head; follows = h.follows; has = h.has; has_kept = h.has_kept; most = h.most; knows = (refl, (refl, k.1, k.2, k.3)) };
           grows = grown o' _ refl (le_refl _) (le_refl _) st.new;
           tells = λ t none. absurd none;
         },
@@ -247,7 +247,7 @@ module _ (n : ℕ) (w : World Doing (ℕ → List ℕ)) (c : WriteCall) (m' : Me
           well = record {
             announced = h.announced;
             head = (let a = k.2 in omega (arith, a));
-            witness = h.witness;
+            follows = h.follows;
             has = h.has;
             has_kept = has;
             most = h.most;
@@ -289,7 +289,7 @@ write_begins n w c sound low fits go may =
     let d : Moves w p w.memory (Writing c) [] = record {
       own = o;
       is = λ i. record { announced = o.announced; announced_kept = o.announced_kept; head = o.head; head_kept = o.head_kept; buffer = o.buffer; had = same_had i };
-      well = record { announced = h.announced; head = h.head; witness = h.witness; has = h.has; has_kept = h.has_kept; most = h.most; knows = (refl, st.knows) };
+      well = record { announced = h.announced; head = h.head; follows = h.follows; has = h.has; has_kept = h.has_kept; most = h.most; knows = (refl, st.knows) };
       grows = record { kept = λ v has le. has; head = le_refl _; announced = le_refl _; came = λ v le out has. has; leaves = st.new };
       tells = λ t none. absurd none;
     } in

@@ -76,7 +76,7 @@ Knows p o Stopped = o.buffer ≡ []
 pub record IsWell (p : ℕ) (o : Own) (now : Doing) : Type 0 where
   pub announced : o.announced_kept ≤ o.announced
   pub head : o.head_kept ≤ o.head
-  pub witness : o.head ≤ o.announced_kept
+  pub follows : o.head ≤ o.announced_kept
   pub has : In o.had o.head
   pub has_kept : In o.had o.head_kept
   pub most : (v : ℕ) → In o.had v → v ≤ o.head
