@@ -1,5 +1,5 @@
 -- Every process stops: what was answered stays true.
-use Rattle.std.proofs.Common.{ℕ, ◌≡◌, ◌≢◌, ◌<◌, ◌≤◌, List, [], zero, suc, refl, sym, ap, subst, ◌∷◌, ◌∙◌, ⊎_elim, tt, arith, le_refl, map}
+use Rattle.std.proofs.Common.{ℕ, ◌≡◌, ◌≢◌, ◌<◌, ◌≤◌, List, [], zero, suc, refl, sym, ap, subst, ◌∷◌, ◌∙◌, ⊎_elim, arith, le_refl, map}
 use mathlib.Core.Logic.{dite}
 use native.Mathlib.Decide.{ℕ_discrete}
 use Rattle.ds_layout.specs.declared.layout.Layout.{Layout}

@@ -9,7 +9,7 @@ use std::alloc::{AllocError, Global};
 use std::sync::atomic::{AtomicU64, Ordering};
 
 /// Which cells of a sheet each of its cells refers to, as far as threads have noted it. No call waits. What is noted may be
-/// behind the sheet, or ahead of it: orders that are made of it are guesses.
+/// older than the sheet, or newer: orders that are made of it are guesses.
 #[derive(Drop)]
 pub struct KnownReferences {
     shape: Shape,

@@ -2,7 +2,7 @@
 use Rattle.std.proofs.Common.{ℕ, ◌≡◌, ◌+◌, ◌*◌, ◌<◌, ◌≤◌, List, [], ◌∷◌, length, length-set, get_or, set, refl, ap, sym, ◌∙◌, subst, arith, zero, suc, Bool, true, false, le_refl}
 use Rattle.std.specs.Prelude.{if◌then◌else◌}
 use Rattle.std.proofs.lemmas.List.{get_or-set_same, get_or-set_other}
-use Rattle.std.proofs.Common.{⊎_elim, inl, inr, tt}
+use Rattle.std.proofs.Common.{⊎_elim, inl, inr}
 use Rattle.std.proofs.lemmas.Bool.Decides.{leb_tells}
 use mathlib.Core.Logic.{dite}
 use native.Mathlib.Decide.{ℕ_discrete}

@@ -3,7 +3,7 @@
 ghost use Rattle.std.specs.Prelude.{◌≡◌, ◌+◌, ◌*◌, ◌<◌, ◌^◌, ◌++◌, [], ℕ, true, false, IfOk, IfErr, length, List, Option, Some};
 ghost use Rattle.std.specs.Mem.Slots.{slots_items, slots_len, IsFull};
 ghost use Rattle.pm_base.specs.declared.history.Entry.{Entry};
-ghost use Rattle.pm_board.specs.Views.{RunsFrom, Sits, HasRest, first_now, first_view, whole_view, lone, newcomer, past_of, bygone, united};
+ghost use Rattle.pm_board.specs.Views.{RunsFrom, Sits, HasRest, deeds_at, first_now, first_view, whole_view, lone, newcomer, past_of, bygone, united};
 ghost use Rattle.pm_board.specs.Looks.{BeginsWithAll, Looks};
 ghost use Rattle.pm_board.specs.Rule.{AreFirst, AreTrue, AtRest, Witness, Closes};
 
@@ -223,7 +223,8 @@ impl<P: Structured> Board<P> {
         Ok((Board { table, key: own }, place))
     }
 
-    /// A seat for the first process of one that runs all from this one on, before their first call.
+    /// A seat for the first process of one that runs all from this one on, before their first call: it has done nothing.
+    /// `stopped` is false on a board that was made, and true on one that was opened again.
     pub fn deal(
         &self,
         rest: &mut TableSeat<P::Doing, P::Response>,
@@ -237,6 +238,7 @@ impl<P: Structured> Board<P> {
         ensures rest { RunsFrom P.structure self.now.key stopped (process + 1) rest.new.me }
         ensures past { rest.new.me.0.past ≡ rest.old.me.0.past }
         ensures sits { Sits result.me process (first_now P.structure stopped) }
+        ensures new { (deeds_at result.me).done ≡ [] }
     {
         let (_process, _stopped) = (process, stopped);
         let _words = P::words(&self.key);

@@ -37,9 +37,9 @@ pub struct Steps {
 }
 
 impl Fuse for Steps {
-    ghost use Rattle.std.specs.Prelude.{◌≡◌, ◌+◌};
+    ghost use Rattle.std.specs.Prelude.{◌≡◌, ◌+◌, ◌<◌};
 
-    ghost said = { λ first now yeses noes. now.left + yeses ≡ first.left };
+    ghost said = { λ first now yeses noes. (first.left ≡ now.left + yeses) × (0 < noes → now.left ≡ 0) };
 
     fn go(&mut self) -> bool {
         if self.left == 0 {

@@ -1,4 +1,4 @@
--- What a raise tells.
+-- What a raise is answered.
 use Rattle.std.proofs.Common.{ℕ, ◌≡◌, ◌∙◌, List, [], ◌∷◌, ◌++◌, refl, sym, ap, subst, Bool}
 use Rattle.std.proofs.lemmas.List.{append-nil}
 use Rattle.atomic_table.specs.Table.{Me}
@@ -13,7 +13,7 @@ use Rattle.pm_mark.specs.declared.mark.Stage.{Stage}
 use Rattle.pm_mark.specs.declared.mark.Stage.TheVariants as stage
 use Rattle.pm_mark.specs.declared.mark.Doing.{Doing}
 use Rattle.pm_mark.specs.declared.mark.Doing.TheVariants.{Idle, Raising}
-use Rattle.pm_shared.specs.Raises.{first_raise, says_up, IsRaised}
+use Rattle.pm_shared.specs.Raises.{first_raise, says_up, BreaksRaise, IsRaised}
 use Rattle.std.specs.Prelude.{Option, Some, None, MatchOption}
 use Rattle.pm_board.specs.Views.{RunsOne}
 use Rattle.pm_shared.proofs.Sitting.{sits_at, runs_on}
@@ -48,9 +48,9 @@ pub raised : (n process value : ℕ) (old me : Me ℕ (View Doing ℕ)) (c : Rai
 raised n process value old me c up k h =
     let r = ran_raise process value c h.is.responses k h.is.ran in
     let e = ended c c.stage up h.ends in
-    let returned : answered_so {S = Doing} h.is.responses ≡ says_up value up = ap (λ (l : List ℕ). answered_so {S = Doing} l) r.2 ∙ (e.1 ∙ ap (λ (v : ℕ). says_up v up) r.1) in record {
+    let answered : answered_so {S = Doing} h.is.responses ≡ says_up value up = ap (λ (l : List ℕ). answered_so {S = Doing} l) r.2 ∙ (e.1 ∙ ap (λ (v : ℕ). says_up v up) r.1) in record {
       sits = sits_at me c.process process (raises.doing c) Idle h.buffer h.is.held _ h.is.at h.is.grows.seen r.0 e.0;
-      done = ap (λ d. d.done) (ap deeds_at h.is.at) ∙ (h.is.done ∙ ap (λ (l : List (Deed Doing ℕ)). l ++ (deed.Began (Raising (first_raise process value)) ∷ (deeds_at old).done)) returned);
+      done = ap (λ d. d.done) (ap deeds_at h.is.at) ∙ (h.is.done ∙ ap (λ (l : List (Deed Doing ℕ)). l ++ (deed.Began (Raising (first_raise process value)) ∷ (deeds_at old).done)) answered);
       grows = subst (λ d. Grows process (deeds_at old) d k) (sym (ap deeds_at h.is.at)) h.is.grows;
       few = h.few;
     }
@@ -58,11 +58,11 @@ raised n process value old me c up k h =
 -- how a raise comes out, by what its fuse was asked
 pub raise_out : (A B : ℕ → Type 0) (n process value : ℕ) (old me : Me ℕ (View Doing ℕ)) (c : Raise) (r : Option Bool) → RunsOne old process
     → MatchOption r ((k : ℕ) × A k × Breaks mark raises n (first_raise process value) old me c k) (λ end. (k : ℕ) × B k × Settles mark raises n (first_raise process value) old me c end k)
-    → MatchOption r ((k : ℕ) × A k × RunsOne me process) (λ up. (k : ℕ) × B k × IsRaised old me process value up k)
-raise_out A B n process value old me c None runs h = (h.0, h.1, runs_on mark raises n (first_raise process value) old me c h.0 process runs (λ d ts x k m is. (ran_raise process value d is.responses k is.ran).0) h.2)
+    → MatchOption r ((k : ℕ) × A k × BreaksRaise n old me process value k) (λ up. (k : ℕ) × B k × IsRaised old me process value up k)
+raise_out A B n process value old me c None runs h = (h.0, h.1, c, h.2)
 raise_out A B n process value old me c (Some up) runs h = (h.0, h.1, raised n process value old me c up h.0 h.2)
 
 -- whatever came of it, the seat runs its process alone
-pub raise_runs : (A B : ℕ → Type 0) (old me : Me ℕ (View Doing ℕ)) (process value : ℕ) (r : Option Bool) → MatchOption r ((k : ℕ) × A k × RunsOne me process) (λ up. (k : ℕ) × B k × IsRaised old me process value up k) → RunsOne me process
-raise_runs A B old me process value None h = h.2
-raise_runs A B old me process value (Some up) h = h.2.sits.runs
+pub raise_runs : (A B : ℕ → Type 0) (n : ℕ) (old me : Me ℕ (View Doing ℕ)) (process value : ℕ) (r : Option Bool) → RunsOne old process → MatchOption r ((k : ℕ) × A k × BreaksRaise n old me process value k) (λ up. (k : ℕ) × B k × IsRaised old me process value up k) → RunsOne me process
+raise_runs A B n old me process value None runs h = runs_on mark raises n (first_raise process value) old me h.2.0 h.0 process runs (λ d ts x k m is. (ran_raise process value d is.responses k is.ran).0) h.2.1
+raise_runs A B n old me process value (Some up) runs h = h.2.sits.runs

@@ -19,7 +19,7 @@ use Rattle.pm_registers.specs.declared.calls.Doing.TheVariants.{Idle, Writing, R
 use Rattle.pm_registers.specs.declared.calls.Response.{Response}
 use Rattle.pm_registers.specs.declared.calls.Response.TheVariants.{Wrote}
 use Rattle.pm_registers.specs.Runs.{first_write}
-use Rattle.pm_shared.specs.Writes.{first_recovery, last_of, IsWritten, IsRecovered}
+use Rattle.pm_shared.specs.Writes.{BreaksRecovery, BreaksWrite, first_recovery, last_of, IsWritten, IsRecovered}
 use Rattle.std.specs.Prelude.{Option, Some, None, MatchBool, MatchOption}
 use Rattle.std.proofs.Common.{is_some}
 use Rattle.pm_board.specs.Views.{RunsOne}
@@ -49,9 +49,9 @@ pub written : (n process value : ℕ) (old me : Me ℕ (View Doing Response)) (c
 written n process value old me c end k h =
     let r = ran_write process value c h.is.responses k h.is.ran in
     let does : writes.doing c ≡ Idle value = ap (write_doing c) h.ends.0 ∙ ap Idle r.1 in
-    let returned : h.is.responses ≡ Wrote value ∷ [] = r.2 ∙ (ap (write_says c) h.ends.0 ∙ ap (λ (v : ℕ). Wrote v ∷ []) r.1) in record {
+    let answered : h.is.responses ≡ Wrote value ∷ [] = r.2 ∙ (ap (write_says c) h.ends.0 ∙ ap (λ (v : ℕ). Wrote v ∷ []) r.1) in record {
       sits = sits_at me c.process process (writes.doing c) (Idle value) h.buffer h.is.held _ h.is.at h.is.grows.seen r.0 does;
-      done = ap (λ d. d.done) (ap deeds_at h.is.at) ∙ (h.is.done ∙ ap (λ (l : List Response). answered_so l ++ (deed.Began (Writing (first_write process value)) ∷ (deeds_at old).done)) returned);
+      done = ap (λ d. d.done) (ap deeds_at h.is.at) ∙ (h.is.done ∙ ap (λ (l : List Response). answered_so l ++ (deed.Began (Writing (first_write process value)) ∷ (deeds_at old).done)) answered);
       grows = subst (λ d. Grows process (deeds_at old) d k) (sym (ap deeds_at h.is.at)) h.is.grows;
       few = h.few;
     }
@@ -81,9 +81,9 @@ recovered n process old me c end k h =
     let at : c.stage ≡ recover.Done last head = h.ends.2 in
     let is : end ≡ recalled last head = h.ends.3 in
     let does : recoveries.doing c ≡ Idle (last_of end) = ap (recover_doing c) at ∙ ap (λ (t : Response). Idle (last_of t)) (sym is) in
-    let returned : h.is.responses ≡ end ∷ [] = r.1 ∙ (ap recover_says at ∙ ap (λ (t : Response). t ∷ []) (sym is)) in record {
+    let answered : h.is.responses ≡ end ∷ [] = r.1 ∙ (ap recover_says at ∙ ap (λ (t : Response). t ∷ []) (sym is)) in record {
       sits = sits_at me c.process process (recoveries.doing c) (Idle (last_of end)) h.buffer h.is.held _ h.is.at h.is.grows.seen r.0 does;
-      done = ap (λ d. d.done) (ap deeds_at h.is.at) ∙ (h.is.done ∙ ap (λ (l : List Response). answered_so l ++ (deed.Began (Recovering (first_recovery process)) ∷ (deeds_at old).done)) returned);
+      done = ap (λ d. d.done) (ap deeds_at h.is.at) ∙ (h.is.done ∙ ap (λ (l : List Response). answered_so l ++ (deed.Began (Recovering (first_recovery process)) ∷ (deeds_at old).done)) answered);
       grows = subst (λ d. Grows process (deeds_at old) d k) (sym (ap deeds_at h.is.at)) h.is.grows;
       few = h.few;
     }
@@ -91,21 +91,21 @@ recovered n process old me c end k h =
 -- how a write comes out, by what its fuse was asked
 pub write_out : (A B : ℕ → Type 0) (n process value : ℕ) (old me : Me ℕ (View Doing Response)) (c : WriteCall) (r : Option ℕ) → RunsOne old process
     → MatchOption r ((k : ℕ) × A k × Breaks registers writes n (first_write process value) old me c k) (λ end. (k : ℕ) × B k × Settles registers writes n (first_write process value) old me c end k)
-    → MatchBool (is_some r) ((k : ℕ) × B k × IsWritten old me process value k) ((k : ℕ) × A k × RunsOne me process)
-write_out A B n process value old me c None runs h = (h.0, h.1, runs_on registers writes n (first_write process value) old me c h.0 process runs (λ d ts x k m is. (ran_write process value d is.responses k is.ran).0) h.2)
+    → MatchBool (is_some r) ((k : ℕ) × B k × IsWritten old me process value k) ((k : ℕ) × A k × BreaksWrite n old me process value k)
+write_out A B n process value old me c None runs h = (h.0, h.1, c, h.2)
 write_out A B n process value old me c (Some end) runs h = (h.0, h.1, written n process value old me c end h.0 h.2)
 
 pub recovery_out : (A B : ℕ → Type 0) (n process : ℕ) (old me : Me ℕ (View Doing Response)) (c : RecoverCall) (r : Option Response) → RunsOne old process
     → MatchOption r ((k : ℕ) × A k × Breaks registers recoveries n (first_recovery process) old me c k) (λ end. (k : ℕ) × B k × Settles registers recoveries n (first_recovery process) old me c end k)
-    → MatchOption r ((k : ℕ) × A k × RunsOne me process) (λ t. (k : ℕ) × B k × IsRecovered old me process t k)
-recovery_out A B n process old me c None runs h = (h.0, h.1, runs_on registers recoveries n (first_recovery process) old me c h.0 process runs (λ d ts x k m is. (ran_recovery process d is.responses k is.ran).0) h.2)
+    → MatchOption r ((k : ℕ) × A k × BreaksRecovery n old me process k) (λ t. (k : ℕ) × B k × IsRecovered old me process t k)
+recovery_out A B n process old me c None runs h = (h.0, h.1, c, h.2)
 recovery_out A B n process old me c (Some t) runs h = (h.0, h.1, recovered n process old me c t h.0 h.2)
 
 -- whatever came of it, the seat runs its process alone
-pub write_runs : (A B : ℕ → Type 0) (old me : Me ℕ (View Doing Response)) (process value : ℕ) (b : Bool) → MatchBool b ((k : ℕ) × B k × IsWritten old me process value k) ((k : ℕ) × A k × RunsOne me process) → RunsOne me process
-write_runs A B old me process value true h = h.2.sits.runs
-write_runs A B old me process value false h = h.2
+pub write_runs : (A B : ℕ → Type 0) (n : ℕ) (old me : Me ℕ (View Doing Response)) (process value : ℕ) (b : Bool) → RunsOne old process → MatchBool b ((k : ℕ) × B k × IsWritten old me process value k) ((k : ℕ) × A k × BreaksWrite n old me process value k) → RunsOne me process
+write_runs A B n old me process value true runs h = h.2.sits.runs
+write_runs A B n old me process value false runs h = runs_on registers writes n (first_write process value) old me h.2.0 h.0 process runs (λ d ts x k m is. (ran_write process value d is.responses k is.ran).0) h.2.1
 
-pub recovery_runs : (A B : ℕ → Type 0) (old me : Me ℕ (View Doing Response)) (process : ℕ) (r : Option Response) → MatchOption r ((k : ℕ) × A k × RunsOne me process) (λ t. (k : ℕ) × B k × IsRecovered old me process t k) → RunsOne me process
-recovery_runs A B old me process None h = h.2
-recovery_runs A B old me process (Some t) h = h.2.sits.runs
+pub recovery_runs : (A B : ℕ → Type 0) (n : ℕ) (old me : Me ℕ (View Doing Response)) (process : ℕ) (r : Option Response) → RunsOne old process → MatchOption r ((k : ℕ) × A k × BreaksRecovery n old me process k) (λ t. (k : ℕ) × B k × IsRecovered old me process t k) → RunsOne me process
+recovery_runs A B n old me process None runs h = runs_on registers recoveries n (first_recovery process) old me h.2.0 h.0 process runs (λ d ts x k m is. (ran_recovery process d is.responses k is.ran).0) h.2.1
+recovery_runs A B n old me process (Some t) runs h = h.2.sits.runs

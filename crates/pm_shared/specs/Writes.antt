@@ -3,9 +3,12 @@ use Rattle.std.specs.Prelude.{ℕ, ◌≡◌, ◌≤◌, ◌∷◌}
 use Rattle.atomic_table.specs.Table.{Me}
 use Rattle.pm_base.specs.declared.history.Deed.TheVariants as deed
 use Rattle.pm_board.specs.declared.board.View.{View}
-use Rattle.pm_board.specs.Machines.{Grows}
+use Rattle.pm_board.specs.Machines.{Breaks, Grows}
 use Rattle.pm_board.specs.Views.{deeds_at}
+
+use Rattle.pm_registers.specs.Registers.{recoveries, registers, writes}
 use Rattle.pm_registers.specs.Runs.{first_write}
+use Rattle.pm_registers.specs.declared.calls.WriteCall.{WriteCall}
 use Rattle.pm_registers.specs.declared.calls.RecoverCall.{RecoverCall}
 use Rattle.pm_registers.specs.declared.calls.RecoverStage.TheVariants as recover
 use Rattle.pm_registers.specs.declared.calls.Doing.{Doing}
@@ -26,7 +29,7 @@ pub record IsWritten (old new : Me ℕ (View Doing Response)) (process value n :
   pub grows : Grows process (deeds_at old) (deeds_at new) n
   pub few : n ≤ 7
 
--- the value of which a recovery tells
+-- the value that a recovery reports
 abbrev pub last_of : Response → ℕ
 last_of (Wrote v) = v
 last_of (Recalled v had) = v
@@ -37,3 +40,12 @@ pub record IsRecovered (old new : Me ℕ (View Doing Response)) (process : ℕ) 
   pub done : (deeds_at new).done ≡ deed.Response returned ∷ deed.Began (Recovering (first_recovery process)) ∷ (deeds_at old).done
   pub grows : Grows process (deeds_at old) (deeds_at new) n
   pub few : n ≤ 6
+
+-- among m processes, the write was broken off after n steps: before its first step, and the seat is as it was; or the process
+-- began it, was answered nothing, and did nothing else
+abbrev pub BreaksWrite : ℕ → Me ℕ (View Doing Response) → Me ℕ (View Doing Response) → ℕ → ℕ → ℕ → Type 0
+BreaksWrite m old new process value n = (call : WriteCall) × Breaks registers writes m (first_write process value) old new call n
+
+-- so was a recovery
+abbrev pub BreaksRecovery : ℕ → Me ℕ (View Doing Response) → Me ℕ (View Doing Response) → ℕ → ℕ → Type 0
+BreaksRecovery m old new process n = (call : RecoverCall) × Breaks registers recoveries m (first_recovery process) old new call n

@@ -3,7 +3,7 @@
 ghost use Rattle.std.specs.Prelude.{◌≡◌, ◌<◌, ℕ, MatchOption};
 ghost use Rattle.pm_board.specs.Fuses.{Asked};
 ghost use Rattle.pm_mark.specs.declared.mark.Doing.TheVariants.{Idle};
-ghost use Rattle.pm_shared.specs.Raises.{IsRaised};
+ghost use Rattle.pm_shared.specs.Raises.{BreaksRaise, IsRaised};
 ghost use Rattle.pm_board.specs.Views.{RunsOne, Sits};
 
 use pm_board::board::{Board, TableSeat};
@@ -11,8 +11,9 @@ use pm_board::drive::drive;
 use pm_board::fuse::Fuse;
 use pm_mark::mark::{Doing, Mark, Raise, Stage};
 
-/// A process raises the mark to a value: whether it is up for good, or another process was faster. None where the fuse
-/// broke the call off. A raise takes at most 4 steps.
+/// A process raises the mark to a value: whether it is up for good, or another process raised it meanwhile, perhaps to a
+/// lower value. None where the fuse broke the call off: then nothing of it has happened, or it has begun and was answered
+/// nothing. A raise takes at most 4 steps.
 pub fn raise<F: Fuse>(
     board: &Board<Mark>,
     place: &mut TableSeat<Doing, u64>,
@@ -24,7 +25,7 @@ pub fn raise<F: Fuse>(
     requires sits { Sits place.old.me process Idle }
     ensures table { place.new.table_id ≡ place.old.table_id }
     ensures runs { RunsOne place.new.me process }
-    ensures raised { MatchOption result ((n : ℕ) × Asked F.said fuse.old fuse.new n 1 × RunsOne place.new.me process) (λ up. (n : ℕ) × Asked F.said fuse.old fuse.new n 0 × IsRaised place.old.me place.new.me process value up n) }
+    ensures raised { MatchOption result ((n : ℕ) × Asked F.said fuse.old fuse.new n 1 × BreaksRaise board.now.key place.old.me place.new.me process value n) (λ up. (n : ℕ) × Asked F.said fuse.old fuse.new n 0 × IsRaised place.old.me place.new.me process value up n) }
 {
     let mut call = Raise {
         process,

@@ -4,7 +4,7 @@ ghost use Rattle.std.specs.Prelude.{◌≡◌, ◌*◌, ◌<◌, ◌^◌, ℕ, [
 ghost use Rattle.pm_board.specs.Fuses.{Asked};
 ghost use Rattle.pm_registers.specs.declared.calls.Doing.TheVariants.{Idle};
 ghost use Rattle.pm_board.specs.Views.{RunsOne, Sits};
-ghost use Rattle.pm_shared.specs.Writes.{IsRecovered, IsWritten};
+ghost use Rattle.pm_shared.specs.Writes.{BreaksRecovery, BreaksWrite, IsRecovered, IsWritten};
 
 use pm_board::board::{Board, TableSeat};
 use pm_board::drive::drive;
@@ -12,8 +12,9 @@ use pm_board::fuse::Fuse;
 use pm_registers::calls::{Doing, RecoverCall, RecoverStage, Response, WriteCall, WriteStage};
 use pm_registers::registers::Registers;
 
-/// A process writes to its register a value above the last one that it announced: whether it has, or was broken off by
-/// the fuse before. A write takes at most 7 steps.
+/// A process writes to its register a value above the last one that it announced, `last`: whether it has, or was broken
+/// off by the fuse before; then nothing of it has happened, or it has begun and was answered nothing. A write takes at most
+/// 7 steps.
 pub fn write<F: Fuse>(
     board: &Board<Registers>,
     place: &mut TableSeat<Doing, Response>,
@@ -28,7 +29,7 @@ pub fn write<F: Fuse>(
     requires above { last < value }
     ensures table { place.new.table_id ≡ place.old.table_id }
     ensures runs { RunsOne place.new.me process }
-    ensures wrote { MatchBool result ((n : ℕ) × Asked F.said fuse.old fuse.new n 0 × IsWritten place.old.me place.new.me process value n) ((n : ℕ) × Asked F.said fuse.old fuse.new n 1 × RunsOne place.new.me process) }
+    ensures wrote { MatchBool result ((n : ℕ) × Asked F.said fuse.old fuse.new n 0 × IsWritten place.old.me place.new.me process value n) ((n : ℕ) × Asked F.said fuse.old fuse.new n 1 × BreaksWrite board.now.key place.old.me place.new.me process value n) }
 {
     let _last = last;
     let mut call = WriteCall {
@@ -52,7 +53,7 @@ pub fn recover<F: Fuse>(
     requires low { (process < board.now.key) × (board.now.key < 2 ^ 32) }
     ensures table { place.new.table_id ≡ place.old.table_id }
     ensures runs { RunsOne place.new.me process }
-    ensures returned { MatchOption result ((n : ℕ) × Asked F.said fuse.old fuse.new n 1 × RunsOne place.new.me process) (λ t. (n : ℕ) × Asked F.said fuse.old fuse.new n 0 × IsRecovered place.old.me place.new.me process t n) }
+    ensures recovered { MatchOption result ((n : ℕ) × Asked F.said fuse.old fuse.new n 1 × BreaksRecovery board.now.key place.old.me place.new.me process n) (λ t. (n : ℕ) × Asked F.said fuse.old fuse.new n 0 × IsRecovered place.old.me place.new.me process t n) }
 {
     let mut call = RecoverCall {
         process,

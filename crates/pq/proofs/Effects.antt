@@ -13,7 +13,7 @@ use Rattle.pq.specs.History.{History, Has, HasNot, linking, claiming, emptying, 
 use Rattle.pq.specs.Sound.{IsSound}
 use Rattle.pq.specs.Knows.{KnowsEnqueue, KnowsDequeue, Knows}
 use Rattle.pq.specs.Queue.{enqueue_then, dequeue_then, recover_then, step_then, queue}
-use Rattle.pq.specs.Runs.{LinksAt, ClaimsAt, WasLinked, WasClaimed, EffectsInCalls}
+use Rattle.pq.specs.Runs.{IsAt, LinksAt, ClaimsAt, WasLinked, WasClaimed, EffectsInCalls}
 use Rattle.pq.specs.declared.enqueue.Enqueue.{Enqueue}
 use Rattle.pq.specs.declared.enqueue.EnqueueStage.{EnqueueStage}
 use Rattle.pq.specs.declared.enqueue.EnqueueStage.TheVariants as enqueue
@@ -258,6 +258,7 @@ module _ (n p i : ℕ) (mine : Belongs p i) where
       elim (step_links n v old q (h.before.situation q) i s.0 (s.1 q m.low).0 (subst (λ (z : Queue). Has z.hidden.links i) m.lands t)) [
         | inl has ↦ inl (has, ap (λ (z : Queue). z.hidden.value i) m.lands ∙ d.later.values i has)
         | inr new ↦ (
+            let now = subst (λ (z : Queue). Has z.hidden.links i) m.lands t in
             let same : q ≡ p = one_process q p i (subst (Belongs q) new.is (enqueue_owns v old q (h.before.situation q) new.call (s.1 q m.low).0 new.runs_it)) mine in
             inr (record {
               steps = at ∙ ap (λ (z : ℕ). (let e : Event Doing = Step z in e)) same;
@@ -266,6 +267,7 @@ module _ (n p i : ℕ) (mine : Belongs p i) where
               is = new.is;
               value = new.value ∙ ap (λ (z : Queue). z.hidden.value i) (sym m.lands);
               new = not_in (nodes n) old.links i s.0.links new.none;
+              effect = subst (λ (z : ℕ). (k : ℕ) × IsAt (step_then old v (h.before.situation z)).links k i) same (_, record { first = now.above; last = now.within; is = now.there });
             }))
       ]
 
@@ -284,6 +286,7 @@ module _ (n p i : ℕ) (mine : Belongs p i) where
       elim (step_claims n v old q (h.before.situation q) i s.0 (s.1 q m.low).0 (subst (λ (z : Queue). Has z.hidden.claims i) m.lands t)) [
         | inl has ↦ inl has
         | inr new ↦ (
+            let now = subst (λ (z : Queue). Has z.hidden.claims i) m.lands t in
             let same : q ≡ p = one_process q p i (subst (Belongs q) new.is (own_operation v old q (h.before.situation q) new.call (s.1 q m.low).0 new.runs_it)) mine in
             inr (record {
               steps = at ∙ ap (λ (z : ℕ). (let e : Event Doing = Step z in e)) same;
@@ -291,6 +294,7 @@ module _ (n p i : ℕ) (mine : Belongs p i) where
               runs = ap h.before.situation (sym same) ∙ new.runs_it;
               is = new.is;
               new = not_in (nodes n) old.claims i s.0.claims new.none;
+              effect = subst (λ (z : ℕ). (k : ℕ) × IsAt (step_then old v (h.before.situation z)).claims k i) same (_, record { first = now.above; last = now.within; is = now.there });
             }))
       ]
 

@@ -13,8 +13,8 @@ use Rattle.pq.specs.Places.{Belongs, nodes}
 use Rattle.pq.specs.History.{Log, History, Has, HasNot, HasKept, linking, emptying, claiming, Words, words_of}
 use Rattle.pq.specs.Sound.{IsLog, IsSound}
 use Rattle.pq.specs.Knows.{KnowsDequeue, Knows}
-use Rattle.pq.specs.Queue.{enqueue_then, dequeue_then, recover_then, step_then, queue}
-use Rattle.pq.specs.Runs.{IsAt, IsNotIn, IsTrueOf, values, IsOrder, IsHeld, RunsTellTheTruth, PlacesStay, IsEmptyMoment, WasEmpty, EmptyWasSo, NoneIsTorn, AnswersAgree}
+use Rattle.pq.specs.Queue.{enqueue_then, dequeue_then, recover_then, step_then, history_then, queue}
+use Rattle.pq.specs.Runs.{IsAt, IsNotIn, IsTrueOf, IsOrder, IsHeld, RunsTellTheTruth, PlacesStay, EmptiesAt, WasEmpty, EmptyWasSo, NoneIsTorn, AnswersAgree}
 use Rattle.pq.specs.declared.places.TheConstants.{EMPTY}
 use Rattle.pq.specs.declared.enqueue.EnqueueStage.{EnqueueStage}
 use Rattle.pq.specs.declared.enqueue.EnqueueStage.TheVariants as enqueue
@@ -60,21 +60,11 @@ is_true n w p (NotDequeued i) s h = not_in (nodes n) w.hidden.claims i s.0.claim
 once : (most : ℕ) (log : Log) (j k i : ℕ) → IsLog most log → IsAt log j i → IsAt log k i → j ≡ k
 once most log j k i l a b = one_place most log j k l a.last b.last (a.is ∙ sym b.is)
 
--- the first k of c values
-values_split : (h : History) (k c : ℕ) → k ≤ c → (rest : List ℕ) × (values h c ≡ values h k ++ rest)
-values_split h k zero up = ([], (let e : 0 ≡ k = omega (arith, up) in subst (λ (z : ℕ). values h 0 ≡ values h z ++ []) e refl))
-values_split h k (suc c) up = dite (ℕ_discrete k (suc c))
-    (λ same. ([], ap (values h) (sym same) ∙ sym (append-nil (values h k))))
-    (λ ne.
-    let r = values_split h k c (omega (arith, up, ne)) in
-    (r.0 ++ h.value (h.links.at (suc c)) ∷ [], ap (λ (l : List ℕ). l ++ h.value (h.links.at (suc c)) ∷ []) r.1 ∙ append_assoc (values h k) r.0 (h.value (h.links.at (suc c)) ∷ [])))
-
 is_order : (n : ℕ) (w : Queue) → queue.sound n w → IsOrder w.hidden
 is_order n w s = record {
   enqueued_once = λ j k i a b. once (nodes n) w.hidden.links j k i s.0.links a b;
   dequeued_once = λ j k i a b. once (nodes n) w.hidden.claims j k i s.0.claims a b;
   fewer = le_trans s.0.follows s.0.links.keeps;
-  first_out = values_split w.hidden w.hidden.claims.count w.hidden.links.count (le_trans s.0.follows s.0.links.keeps);
 }
 
 is_held : (n : ℕ) (w : Queue) → queue.sound n w → IsHeld w
@@ -165,8 +155,8 @@ places_stay n first mid last before after new run1 run2 =
 -- ---- the empty queue
 
 -- what a step of the process does to the dequeues that found the queue empty
-abbrev Adds : History → Doing → ℕ → Type 0
-Adds h now i = In h.empty i ⊎ ((c : Dequeue) × (now ≡ Dequeueing c) × (c.operation ≡ i) × (h.claims.count ≡ h.links.count))
+abbrev Adds : Words → History → Doing → ℕ → Type 0
+Adds v h now i = In h.empty i ⊎ ((c : Dequeue) × (now ≡ Dequeueing c) × (c.operation ≡ i) × (h.claims.count ≡ h.links.count) × (step_then h v now ≡ emptying h i))
 
 same_either : (b : Bool) (g h : History) (i : ℕ) → In (if b then g else h).empty i → (In g.empty i → In h.empty i) → In h.empty i
 same_either b g h i t f = elim (cases_Bool b) [
@@ -214,7 +204,7 @@ recover_adds h i (recover.LoadValue y) t = t
 recover_adds h i (recover.Done f) t = t
 recover_adds h i recover.Torn t = t
 
-dequeue_adds : (n : ℕ) (v : Words) (h : History) (p : ℕ) (c : Dequeue) (i : ℕ) (s : DequeueStage) → IsSound (nodes n) v h → KnowsDequeue v h p c.operation s → In (dequeue_then h v c.operation s).empty i → In h.empty i ⊎ ((c.operation ≡ i) × (h.claims.count ≡ h.links.count))
+dequeue_adds : (n : ℕ) (v : Words) (h : History) (p : ℕ) (c : Dequeue) (i : ℕ) (s : DequeueStage) → IsSound (nodes n) v h → KnowsDequeue v h p c.operation s → In (dequeue_then h v c.operation s).empty i → In h.empty i ⊎ ((c.operation ≡ i) × (h.claims.count ≡ h.links.count) × (dequeue_then h v c.operation s ≡ emptying h c.operation))
 dequeue_adds n v h p c i dequeue.StoreAnnounce sound k t = inl t
 dequeue_adds n v h p c i dequeue.FlushAnnounce sound k t = inl t
 dequeue_adds n v h p c i dequeue.BackAnnounce sound k t = inl t
@@ -246,17 +236,17 @@ dequeue_adds n v h p c i (dequeue.LoadNext a) sound k t = dite (ℕ_discrete (v.
     let up = k.2.within in
     let even : h.claims.count ≡ h.links.count = omega (arith, last, up, c1, c2, c3, c4) in
     elim u [
-      | inl e ↦ inr (e, even)
+      | inl e ↦ inr (e, even, ap (λ (b : Bool). if b then emptying h c.operation else h) (eq-eqb (v.next.now a) 0 z))
       | inr r ↦ inl r
     ])
     (λ nz. inl (subst (λ (b : Bool). In (if b then emptying h c.operation else h).empty i) (ne_eqb (v.next.now a) 0 nz) t))
 
-step_adds : (n : ℕ) (v : Words) (h : History) (p : ℕ) (now : Doing) (i : ℕ) → IsSound (nodes n) v h → Knows v h p now → In (step_then h v now).empty i → Adds h now i
+step_adds : (n : ℕ) (v : Words) (h : History) (p : ℕ) (now : Doing) (i : ℕ) → IsSound (nodes n) v h → Knows v h p now → In (step_then h v now).empty i → Adds v h now i
 step_adds n v h p (Idle u) i sound k t = inl t
 step_adds n v h p (Enqueueing c) i sound k t = inl (enqueue_adds v h c.operation c.value i c.stage t)
 step_adds n v h p (Dequeueing c) i sound k t = elim (dequeue_adds n v h p c i c.stage sound k.2 t) [
   | inl old ↦ inl old
-  | inr new ↦ inr (c, refl, new.0, new.1)
+  | inr new ↦ inr (c, refl, new.0, new.1, new.2 ∙ ap (emptying h) new.0)
 ]
 step_adds n v h p (Recovering c) i sound k t = inl (recover_adds h i c.stage t)
 step_adds n v h p Stopped i sound k t = inl t
@@ -268,14 +258,21 @@ own_operation v h q now c k is =
     let k2 : Knows v h q (Dequeueing c) = subst (Knows v h q) is k in
     k2.1
 
-event_adds : (n : ℕ) (w w2 : Queue) (event : Event Doing) (says : List Response) (p i : ℕ) → queue.sound n w → Moves queue n w event says w2 → Belongs p i → In w2.hidden.empty i → In w.hidden.empty i ⊎ IsEmptyMoment n w p i
+event_adds : (n : ℕ) (w w2 : Queue) (event : Event Doing) (says : List Response) (p i : ℕ) → queue.sound n w → Moves queue n w event says w2 → Belongs p i → In w2.hidden.empty i → In w.hidden.empty i ⊎ EmptiesAt n w event p i
 event_adds n w w2 (Begin q call) says p i s m mine t = inl (subst (λ (z : Queue). In z.hidden.empty i) m.2 t)
 event_adds n w w2 (Step q) says p i s m mine t = elim (step_adds n (words_of w.memory) w.hidden q (w.situation q) i s.0 (s.1 q m.low).0 (subst (λ (z : Queue). In z.hidden.empty i) m.lands t)) [
   | inl old ↦ inl old
   | inr new ↦ (
       let owns : Belongs q new.0.operation = own_operation (words_of w.memory) w.hidden q (w.situation q) new.0 (s.1 q m.low).0 new.1 in
       let same : q ≡ p = one_process q p i (subst (Belongs q) new.2 owns) mine in
-      inr (new.0, ap w.situation (sym same) ∙ new.1, new.2, new.3))
+      inr (record {
+        steps = ap (λ (z : ℕ). (let e : Event Doing = Step z in e)) same;
+        call = new.0;
+        runs = ap w.situation (sym same) ∙ new.1;
+        is = new.2;
+        all = new.3;
+        effect = ap (λ (z : ℕ). history_then w (let e : Event Doing = Step z in e)) (sym same) ∙ new.4;
+      }))
 ]
 event_adds n w w2 (Evict r) says p i s m mine t = inl (subst (λ (z : Queue). In z.hidden.empty i) m.2 t)
 event_adds n w w2 (Stop q) says p i s m mine t = inl (subst (λ (z : Queue). In z.hidden.empty i) m.2 t)

@@ -4,8 +4,9 @@ use Rattle.pm_base.specs.Structures.{In, World}
 use Rattle.pm_base.specs.Runs.{Happened, Run, IsNew, deeds_by, history_of}
 use Rattle.pm_base.specs.declared.history.Deed.TheVariants as deed
 use Rattle.pq.specs.Places.{Belongs, next_at, taker_at, value_at}
-use Rattle.pq.specs.History.{Log, History}
-use Rattle.pq.specs.Queue.{queue}
+use Rattle.pq.specs.History.{Log, History, emptying}
+use Rattle.pq.specs.Queue.{history_then, queue}
+use Rattle.pm_base.specs.declared.history.Event.{Event}
 use Rattle.pm_base.specs.declared.history.Event.TheVariants.{Step}
 use Rattle.pq.specs.declared.dequeue.Dequeue.{Dequeue}
 use Rattle.pq.specs.declared.enqueue.Enqueue.{Enqueue}
@@ -35,25 +36,12 @@ IsTrueOf h (WasEnqueued i) = (k : ℕ) × IsAt h.links k i
 IsTrueOf h (NotEnqueued i) = IsNotIn h.links i
 IsTrueOf h (NotDequeued i) = IsNotIn h.claims i
 
--- the values of the first k enqueues, in order
-abbrev pub values : History → ℕ → List ℕ
-values h zero = []
-values h (suc k) = values h k ++ h.value (h.links.at (suc k)) ∷ []
-
--- the values that were put in, in order
-abbrev pub enqueued : History → List ℕ
-enqueued h = values h h.links.count
-
--- those of them that were taken
-abbrev pub dequeued : History → List ℕ
-dequeued h = values h h.claims.count
-
--- no operation takes effect twice, and the values that were taken are the first of those that were put in
+-- no operation takes effect twice, and no more is taken than was put in: the k-th dequeue takes the value of the k-th
+-- enqueue, by what is true of its answer
 pub record IsOrder (h : History) : Type 0 where
   pub enqueued_once : (j k i : ℕ) → IsAt h.links j i → IsAt h.links k i → j ≡ k
   pub dequeued_once : (j k i : ℕ) → IsAt h.claims j i → IsAt h.claims k i → j ≡ k
   pub fewer : h.claims.count ≤ h.links.count
-  pub first_out : (rest : List ℕ) × (enqueued h ≡ dequeued h ++ rest)
 
 -- the words hold the queue of the history: a walk from the sentinel meets the enqueues in order, each with its value,
 -- and the dequeues that took them
@@ -78,16 +66,21 @@ module _ (n : ℕ) where
   PlacesStay = (first mid last : World Doing History) (before after : List (Happened queue n)) → IsNew queue n first → Run queue n first before mid → Run queue n mid after last
       → ((p k i x : ℕ) → WasAnswered before p (Enqueued i x) → IsAt mid.hidden.links k i → IsAt last.hidden.links k i) × ((p k i x : ℕ) → WasAnswered before p (Got i x) → IsAt mid.hidden.claims k i → IsAt last.hidden.claims k i)
 
-  -- the process was in this dequeue, and all that was put in was taken
-  abbrev pub IsEmptyMoment : World Doing History → ℕ → ℕ → Type 0
-  IsEmptyMoment w p i = (c : Dequeue) × (w.situation p ≡ Dequeueing c) × (c.operation ≡ i) × (w.hidden.claims.count ≡ w.hidden.links.count)
+  -- the event is the step of the process in this dequeue by which it finds that all that was put in was taken
+  pub record EmptiesAt (w : World Doing History) (event : Event Doing) (p i : ℕ) : Type 0 where
+    pub steps : event ≡ Step p
+    pub call : Dequeue
+    pub runs : w.situation p ≡ Dequeueing call
+    pub is : call.operation ≡ i
+    pub all : w.hidden.claims.count ≡ w.hidden.links.count
+    pub effect : history_then w (Step p) ≡ emptying w.hidden i
 
-  -- that was so at an event of the run
+  -- an event of the run is such a step
   abbrev pub WasEmpty : ℕ → ℕ → List (Happened queue n) → Type 0
   WasEmpty p i [] = ⊥
-  WasEmpty p i (h ∷ hs) = IsEmptyMoment h.before p i ⊎ WasEmpty p i hs
+  WasEmpty p i (h ∷ hs) = EmptiesAt h.before h.entry.event p i ⊎ WasEmpty p i hs
 
-  -- a dequeue that is answered that the queue was empty ran at a moment at which it was
+  -- a dequeue that is answered that the queue was empty found it so at a step of its own
   abbrev pub EmptyWasSo : Type 0
   EmptyWasSo = (first last : World Doing History) (hs : List (Happened queue n)) (p i : ℕ) → IsNew queue n first → Run queue n first hs last → WasAnswered hs p (Empty i) → WasEmpty p i hs
 
@@ -109,7 +102,7 @@ module _ (n : ℕ) where
   abbrev pub AnswersAgree : Type 0
   AnswersAgree = (first last : World Doing History) (hs : List (Happened queue n)) (p i : ℕ) → IsNew queue n first → Run queue n first hs last → IsAgreed hs p i
 
-  -- the event is a step of the process in this enqueue, of this value, which had no effect before
+  -- the event is the step of the process in this enqueue, of this value, by which it takes effect
   pub record LinksAt (h : Happened queue n) (p i x : ℕ) : Type 0 where
     pub steps : h.entry.event ≡ Step p
     pub call : Enqueue
@@ -117,14 +110,16 @@ module _ (n : ℕ) where
     pub is : call.operation ≡ i
     pub value : call.value ≡ x
     pub new : IsNotIn h.before.hidden.links i
+    pub effect : (k : ℕ) × IsAt (history_then h.before (Step p)).links k i
 
-  -- the event is a step of the process in this dequeue, which had no effect before
+  -- the event is the step of the process in this dequeue by which it takes effect
   pub record ClaimsAt (h : Happened queue n) (p i : ℕ) : Type 0 where
     pub steps : h.entry.event ≡ Step p
     pub call : Dequeue
     pub runs : h.before.situation p ≡ Dequeueing call
     pub is : call.operation ≡ i
     pub new : IsNotIn h.before.hidden.claims i
+    pub effect : (k : ℕ) × IsAt (history_then h.before (Step p)).claims k i
 
   -- an event of the run is such a step
   abbrev pub WasLinked : ℕ → ℕ → ℕ → List (Happened queue n) → Type 0

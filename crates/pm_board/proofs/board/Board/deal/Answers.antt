@@ -1,6 +1,6 @@
 use Rattle.std.proofs.Common.{[], refl, arith, ◌∙◌, ap}
 use Rattle.std.specs.Prelude.{Some}
-use Rattle.pm_board.specs.Views.{first_now, newcomer}
+use Rattle.pm_board.specs.Views.{deeds_at, first_now, newcomer}
 use Rattle.pm_board.proofs.Dealt.{cut, may_split}
 use Rattle.pm_board.proofs.board.Board.deal.Goals as goal
 
@@ -15,6 +15,12 @@ pub returns-clause-rest : goal.returns-clause-rest
 returns-clause-rest g c =
     let t = cut g.P.Structured.structure c.args.self.now.key (first_now g.P.Structured.structure c.args.stopped) (Some c.requires.rest.seen) c.args.process _ _ _ c.requires.low c.requires.rest.rest in
     record { seen = c.requires.rest.seen; rest = rw c.split_seat.ensures.2 t.left; empty = ap (λ m. m.1) c.split_seat.ensures.2 ∙ c.requires.rest.empty }
+
+pub returns-clause-new : goal.returns-clause-new
+returns-clause-new g c =
+    let s = g.P.Structured.structure in
+    let t = cut s c.args.self.now.key (first_now s c.args.stopped) (Some c.requires.rest.seen) c.args.process _ _ _ c.requires.low c.requires.rest.rest in
+    ap (λ m. (deeds_at m).done) (c.split_seat.ensures.4 ∙ (λ i. (t.right i, [])))
 
 pub returns-clause-sits : goal.returns-clause-sits
 returns-clause-sits g c =
