@@ -59,7 +59,7 @@ raised n process value old me c up k h =
 pub raise_out : (A B : ℕ → Type 0) (n process value : ℕ) (old me : Me ℕ (View Doing ℕ)) (c : Raise) (r : Option Bool) → RunsOne old process
     → MatchOption r ((k : ℕ) × A k × Breaks mark raises n (first_raise process value) old me c k) (λ end. (k : ℕ) × B k × Settles mark raises n (first_raise process value) old me c end k)
     → MatchOption r ((k : ℕ) × A k × BreaksRaise n old me process value k) (λ up. (k : ℕ) × B k × IsRaised old me process value up k)
-raise_out A B n process value old me c None runs h = (h.0, h.1, c, h.2)
+raise_out A B n process value old me c None runs h = (h.0, h.1, (c, h.2))
 raise_out A B n process value old me c (Some up) runs h = (h.0, h.1, raised n process value old me c up h.0 h.2)
 
 -- whatever came of it, the seat runs its process alone

@@ -92,13 +92,13 @@ recovered n process old me c end k h =
 pub write_out : (A B : ℕ → Type 0) (n process value : ℕ) (old me : Me ℕ (View Doing Response)) (c : WriteCall) (r : Option ℕ) → RunsOne old process
     → MatchOption r ((k : ℕ) × A k × Breaks registers writes n (first_write process value) old me c k) (λ end. (k : ℕ) × B k × Settles registers writes n (first_write process value) old me c end k)
     → MatchBool (is_some r) ((k : ℕ) × B k × IsWritten old me process value k) ((k : ℕ) × A k × BreaksWrite n old me process value k)
-write_out A B n process value old me c None runs h = (h.0, h.1, c, h.2)
+write_out A B n process value old me c None runs h = (h.0, h.1, (c, h.2))
 write_out A B n process value old me c (Some end) runs h = (h.0, h.1, written n process value old me c end h.0 h.2)
 
 pub recovery_out : (A B : ℕ → Type 0) (n process : ℕ) (old me : Me ℕ (View Doing Response)) (c : RecoverCall) (r : Option Response) → RunsOne old process
     → MatchOption r ((k : ℕ) × A k × Breaks registers recoveries n (first_recovery process) old me c k) (λ end. (k : ℕ) × B k × Settles registers recoveries n (first_recovery process) old me c end k)
     → MatchOption r ((k : ℕ) × A k × BreaksRecovery n old me process k) (λ t. (k : ℕ) × B k × IsRecovered old me process t k)
-recovery_out A B n process old me c None runs h = (h.0, h.1, c, h.2)
+recovery_out A B n process old me c None runs h = (h.0, h.1, (c, h.2))
 recovery_out A B n process old me c (Some t) runs h = (h.0, h.1, recovered n process old me c t h.0 h.2)
 
 -- whatever came of it, the seat runs its process alone

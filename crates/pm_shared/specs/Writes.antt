@@ -5,7 +5,6 @@ use Rattle.pm_base.specs.declared.history.Deed.TheVariants as deed
 use Rattle.pm_board.specs.declared.board.View.{View}
 use Rattle.pm_board.specs.Machines.{Breaks, Grows}
 use Rattle.pm_board.specs.Views.{deeds_at}
-
 use Rattle.pm_registers.specs.Registers.{recoveries, registers, writes}
 use Rattle.pm_registers.specs.Runs.{first_write}
 use Rattle.pm_registers.specs.declared.calls.WriteCall.{WriteCall}

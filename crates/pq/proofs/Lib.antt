@@ -12,3 +12,4 @@ pub mod Structure
 pub mod Fits
 pub mod Runs
 pub mod Effects
+pub mod Recalled

@@ -1,5 +1,5 @@
 -- What is so of every run of a queue.
-use Rattle.std.specs.Prelude.{ℕ, zero, suc, ◌++◌, ◌≡◌, ◌≢◌, ◌⊎◌, ◌<◌, ◌≤◌, List, [], ◌∷◌}
+use Rattle.std.specs.Prelude.{ℕ, suc, ◌≡◌, ◌≢◌, ◌⊎◌, ◌*◌, ◌/◌, ◌%◌, ◌<◌, ◌≤◌, List, [], ◌∷◌}
 use Rattle.pm_base.specs.Structures.{In, World}
 use Rattle.pm_base.specs.Runs.{Happened, Run, IsNew, deeds_by, history_of}
 use Rattle.pm_base.specs.declared.history.Deed.TheVariants as deed
@@ -10,8 +10,9 @@ use Rattle.pm_base.specs.declared.history.Event.{Event}
 use Rattle.pm_base.specs.declared.history.Event.TheVariants.{Step}
 use Rattle.pq.specs.declared.dequeue.Dequeue.{Dequeue}
 use Rattle.pq.specs.declared.enqueue.Enqueue.{Enqueue}
+use Rattle.pq.specs.declared.recover.Recover.{Recover}
 use Rattle.pq.specs.declared.calls.Doing.{Doing}
-use Rattle.pq.specs.declared.calls.Doing.TheVariants.{Enqueueing, Dequeueing, Torn}
+use Rattle.pq.specs.declared.calls.Doing.TheVariants.{Idle, Enqueueing, Dequeueing, Recovering, Torn}
 use Rattle.pq.specs.declared.calls.Response.{Response}
 use Rattle.pq.specs.declared.calls.Response.TheVariants.{Enqueued, Got, Empty, WasEnqueued, NotEnqueued, NotDequeued}
 
@@ -135,3 +136,23 @@ module _ (n : ℕ) where
   abbrev pub EffectsInCalls : Type 0
   EffectsInCalls = (first last : World Doing History) (hs : List (Happened queue n)) (p i : ℕ) → IsNew queue n first → Run queue n first hs last → Belongs p i
       → ((k : ℕ) → IsAt last.hidden.links k i → WasLinked p i (last.hidden.value i) hs) × ((k : ℕ) → IsAt last.hidden.claims k i → WasClaimed p i hs)
+
+  -- the answer is of this enqueue: it took effect, or never will
+  abbrev pub OfEnqueue : ℕ → List Response → Type 0
+  OfEnqueue i says = (says ≡ WasEnqueued i ∷ []) ⊎ (says ≡ NotEnqueued i ∷ [])
+
+  -- the answer is of this dequeue: it took a value, found the queue empty, or never will take one
+  abbrev pub OfDequeue : ℕ → List Response → Type 0
+  OfDequeue i says = ((x : ℕ) × (says ≡ Got i x ∷ [])) ⊎ ((says ≡ Empty i ∷ []) ⊎ (says ≡ NotDequeued i ∷ []))
+
+  -- what a recovery may answer where its process announced this word last: nothing, where it announced nothing; else of that
+  -- operation alone, an enqueue or a dequeue as the word says
+  abbrev pub AnswersFor : ℕ → List Response → Type 0
+  AnswersFor u says = ((u ≡ 0) × (says ≡ [])) ⊎ (((u ≢ 0) × (u % 2 ≡ 0) × OfEnqueue (u / 2) says) ⊎ ((u ≢ 0) × (u % 2 ≢ 0) × OfDequeue (u / 2) says))
+
+  -- a recovery that ends answers of the operation that its process announced last; and no later operation of the process has
+  -- a place
+  abbrev pub RecoveriesAnswerForTheLast : Type 0
+  RecoveriesAnswerForTheLast = (first last : World Doing History) (h : Happened queue n) (hs : List (Happened queue n)) (p u : ℕ) (c : Recover) → p < n → IsNew queue n first → Run queue n first (h ∷ hs) last
+      → h.entry.event ≡ Step p → h.before.situation p ≡ Recovering c → last.situation p ≡ Idle u
+      → AnswersFor u h.entry.responses × ((i k : ℕ) → Belongs p i → IsAt last.hidden.links k i ⊎ IsAt last.hidden.claims k i → 2 * i ≤ u)

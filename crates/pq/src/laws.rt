@@ -2,7 +2,7 @@
 
 ghost use Rattle.pm_base.specs.Structures.{IsStructure, AreCalls};
 ghost use Rattle.pq.specs.Queue.{queue, enqueues, dequeues, recoveries};
-ghost use Rattle.pq.specs.Runs.{RunsTellTheTruth, PlacesStay, EmptyWasSo, NoneIsTorn, AnswersAgree, EffectsInCalls};
+ghost use Rattle.pq.specs.Runs.{RunsTellTheTruth, PlacesStay, EmptyWasSo, NoneIsTorn, AnswersAgree, EffectsInCalls, RecoveriesAnswerForTheLast};
 
 /// Fresh words are a sound queue, and evictions, stops and crashes keep that, and what was answered.
 pub fn queue_is_a_structure(processes: usize)
@@ -35,7 +35,7 @@ pub fn places_stay(processes: usize)
     ensures { PlacesStay processes }
 {}
 
-/// A dequeue that is answered that the queue was empty ran at a moment at which it was.
+/// A dequeue that is answered that the queue was empty found it so at a step of its own.
 pub fn empty_was_so(processes: usize)
     ensures { EmptyWasSo processes }
 {}
@@ -53,4 +53,10 @@ pub fn answers_agree(processes: usize)
 /// Each operation that has a place in the order took effect at a step of its own call, which is its linearization point.
 pub fn effects_in_calls(processes: usize)
     ensures { EffectsInCalls processes }
+{}
+
+/// A recovery that ends answers of the operation that its process announced last, of its kind, and answers nothing only where
+/// the process announced nothing; no later operation of the process has taken effect.
+pub fn recoveries_answer_for_the_last(processes: usize)
+    ensures { RecoveriesAnswerForTheLast processes }
 {}

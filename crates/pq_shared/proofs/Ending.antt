@@ -22,7 +22,7 @@ use Rattle.pq.specs.declared.recover.RecoverStage.TheVariants as recover
 use Rattle.pq.specs.declared.calls.Doing.{Doing}
 use Rattle.pq.specs.declared.calls.Response.{Response}
 use Rattle.pq.specs.declared.calls.Ended.{Ended}
-use Rattle.pq_shared.specs.Endings.{HasEnded, EnqueueLeaves, DequeueLeaves, RecoverLeaves, IsEnqueued, IsDequeued, IsRecovered}
+use Rattle.pq_shared.specs.Endings.{HasEnded, EnqueueLeaves, DequeueLeaves, RecoverLeaves, BreaksEnqueue, BreaksDequeue, BreaksRecovery, IsEnqueued, IsDequeued, IsRecovered}
 
 abbrev Sat : Type 0
 Sat = Me ℕ (View Doing Response)
@@ -103,8 +103,8 @@ KeepsEnqueue p i x c = (c.process ≡ p) × (c.operation ≡ i) × (c.value ≡ 
 -- how an enqueue comes out, by what its fuse was asked
 pub enqueue_out : (A B : ℕ → Type 0) (n p i x : ℕ) (first : Enqueue) (old me : Sat) (c : Enqueue) (r : Option Ended) → first ≡ first_enqueue n p i x → RunsOne old p
     → MatchOption r ((k : ℕ) × A k × Breaks queue enqueues n first old me c k) (λ e. (k : ℕ) × B k × Settles queue enqueues n first old me c e k)
-    → MatchOption r ((k : ℕ) × A k × RunsOne me p) (λ e. (k : ℕ) × B k × IsEnqueued old me n p i x e k)
-enqueue_out A B n p i x first old me c None is runs h = (h.0, h.1, runs_on enqueues (KeepsEnqueue p i x) (λ d word k. k) (λ d go. quiet_enqueue d d.stage go) n p (first_enqueue n p i x) old me c h.0 (refl, refl, refl) refl (λ d k. k.0) runs (subst (λ (d : Enqueue). Breaks queue enqueues n d old me c h.0) is h.2))
+    → MatchOption r ((k : ℕ) × A k × BreaksEnqueue old me n p i x k) (λ e. (k : ℕ) × B k × IsEnqueued old me n p i x e k)
+enqueue_out A B n p i x first old me c None is runs h = (h.0, h.1, (c, subst (λ (d : Enqueue). Breaks queue enqueues n d old me c h.0) is h.2))
 enqueue_out A B n p i x first old me c (Some e) is runs h = (
   h.0,
   h.1,
@@ -113,9 +113,9 @@ enqueue_out A B n p i x first old me c (Some e) is runs h = (
 )
 
 -- whatever came of it, the seat runs its process alone
-pub enqueue_runs : (A B : ℕ → Type 0) (n p i x : ℕ) (old me : Sat) (r : Option Ended) → MatchOption r ((k : ℕ) × A k × RunsOne me p) (λ e. (k : ℕ) × B k × IsEnqueued old me n p i x e k) → RunsOne me p
-enqueue_runs A B n p i x old me None h = h.2
-enqueue_runs A B n p i x old me (Some e) h = h.2.sits.runs
+pub enqueue_runs : (A B : ℕ → Type 0) (n p i x : ℕ) (old me : Sat) (r : Option Ended) → RunsOne old p → MatchOption r ((k : ℕ) × A k × BreaksEnqueue old me n p i x k) (λ e. (k : ℕ) × B k × IsEnqueued old me n p i x e k) → RunsOne me p
+enqueue_runs A B n p i x old me None runs h = runs_on enqueues (KeepsEnqueue p i x) (λ d word k. k) (λ d go. quiet_enqueue d d.stage go) n p (first_enqueue n p i x) old me h.2.0 h.0 (refl, refl, refl) refl (λ d k. k.0) runs h.2.1
+enqueue_runs A B n p i x old me (Some e) runs h = h.2.sits.runs
 
 -- ---- dequeues
 
@@ -172,8 +172,8 @@ KeepsDequeue p i c = (c.process ≡ p) × (c.operation ≡ i)
 -- how a dequeue comes out
 pub dequeue_out : (A B : ℕ → Type 0) (n p i : ℕ) (first : Dequeue) (old me : Sat) (c : Dequeue) (r : Option Ended) → first ≡ first_dequeue n p i → RunsOne old p
     → MatchOption r ((k : ℕ) × A k × Breaks queue dequeues n first old me c k) (λ e. (k : ℕ) × B k × Settles queue dequeues n first old me c e k)
-    → MatchOption r ((k : ℕ) × A k × RunsOne me p) (λ e. (k : ℕ) × B k × IsDequeued old me n p i e k)
-dequeue_out A B n p i first old me c None is runs h = (h.0, h.1, runs_on dequeues (KeepsDequeue p i) (λ d word k. k) (λ d go. quiet_dequeue d d.stage go) n p (first_dequeue n p i) old me c h.0 (refl, refl) refl (λ d k. k.0) runs (subst (λ (d : Dequeue). Breaks queue dequeues n d old me c h.0) is h.2))
+    → MatchOption r ((k : ℕ) × A k × BreaksDequeue old me n p i k) (λ e. (k : ℕ) × B k × IsDequeued old me n p i e k)
+dequeue_out A B n p i first old me c None is runs h = (h.0, h.1, (c, subst (λ (d : Dequeue). Breaks queue dequeues n d old me c h.0) is h.2))
 dequeue_out A B n p i first old me c (Some e) is runs h = (
   h.0,
   h.1,
@@ -182,9 +182,9 @@ dequeue_out A B n p i first old me c (Some e) is runs h = (
 )
 
 -- whatever came of it, the seat runs its process alone
-pub dequeue_runs : (A B : ℕ → Type 0) (n p i : ℕ) (old me : Sat) (r : Option Ended) → MatchOption r ((k : ℕ) × A k × RunsOne me p) (λ e. (k : ℕ) × B k × IsDequeued old me n p i e k) → RunsOne me p
-dequeue_runs A B n p i old me None h = h.2
-dequeue_runs A B n p i old me (Some e) h = h.2.sits.runs
+pub dequeue_runs : (A B : ℕ → Type 0) (n p i : ℕ) (old me : Sat) (r : Option Ended) → RunsOne old p → MatchOption r ((k : ℕ) × A k × BreaksDequeue old me n p i k) (λ e. (k : ℕ) × B k × IsDequeued old me n p i e k) → RunsOne me p
+dequeue_runs A B n p i old me None runs h = runs_on dequeues (KeepsDequeue p i) (λ d word k. k) (λ d go. quiet_dequeue d d.stage go) n p (first_dequeue n p i) old me h.2.0 h.0 (refl, refl) refl (λ d k. k.0) runs h.2.1
+dequeue_runs A B n p i old me (Some e) runs h = h.2.sits.runs
 
 -- ---- recoveries
 
@@ -237,6 +237,10 @@ KeepsRecovery p c = c.process ≡ p
 -- a recovery that was broken off
 pub recovery_broken : (n p : ℕ) (first : Recover) (old me : Sat) (c : Recover) (k : ℕ) → first ≡ first_recovery n p → RunsOne old p → Breaks queue recoveries n first old me c k → RunsOne me p
 recovery_broken n p first old me c k is runs h = runs_on recoveries (KeepsRecovery p) (λ d word k. k) (λ d go. quiet_recovery d d.stage go) n p (first_recovery n p) old me c k refl refl (λ d k. k) runs (subst (λ (d : Recover). Breaks queue recoveries n d old me c k) is h)
+
+-- which call it was
+pub recovery_breaks : (n p : ℕ) (first : Recover) (old me : Sat) (c : Recover) (k : ℕ) → first ≡ first_recovery n p → Breaks queue recoveries n first old me c k → BreaksRecovery old me n p k
+recovery_breaks n p first old me c k is h = (c, subst (λ (d : Recover). Breaks queue recoveries n d old me c k) is h)
 
 -- one that has ended
 pub recovered : (n p : ℕ) (first : Recover) (old me : Sat) (c : Recover) (e : Ended) (k : ℕ) → first ≡ first_recovery n p → Settles queue recoveries n first old me c e k → IsRecovered old me n p (record { announced = c.announced; ended = e }) k

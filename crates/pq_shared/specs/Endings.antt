@@ -3,11 +3,14 @@ use Rattle.std.specs.Prelude.{ℕ, ◌≡◌, ◌+◌, ◌*◌, ◌/◌, ◌≤�
 use Rattle.atomic_table.specs.Table.{Me}
 use Rattle.pm_base.specs.declared.history.Deed.TheVariants as deed
 use Rattle.pm_board.specs.declared.board.View.{View}
-use Rattle.pm_board.specs.Machines.{answered_so, Grows}
+use Rattle.pm_board.specs.Machines.{answered_so, Breaks, Grows}
 use Rattle.pm_board.specs.Views.{deeds_at, Sits}
 use Rattle.pq.specs.Calls.{first_enqueue, first_dequeue, first_recovery}
 use Rattle.pq.specs.Places.{nodes}
-use Rattle.pq.specs.Queue.{found_says}
+use Rattle.pq.specs.Queue.{dequeues, enqueues, found_says, queue, recoveries}
+use Rattle.pq.specs.declared.enqueue.Enqueue.{Enqueue}
+use Rattle.pq.specs.declared.dequeue.Dequeue.{Dequeue}
+use Rattle.pq.specs.declared.recover.Recover.{Recover}
 use Rattle.pq.specs.declared.calls.Doing.{Doing}
 use Rattle.pq.specs.declared.calls.Doing.TheVariants.{Idle, Enqueueing, Dequeueing, Recovering, Torn}
 use Rattle.pq.specs.declared.calls.Response.{Response}
@@ -57,3 +60,16 @@ IsDequeued old new m p i end n = HasEnded old new p (Dequeueing (first_dequeue m
 -- among m processes, the process p recovered
 abbrev pub IsRecovered : Me ℕ (View Doing Response) → Me ℕ (View Doing Response) → ℕ → ℕ → Recovery → ℕ → Type 0
 IsRecovered old new m p r n = HasEnded old new p (Recovering (first_recovery m p)) (RecoverLeaves r.announced r.ended) (2 * nodes m + 12) n
+
+-- among m processes, the enqueue was broken off after n steps: before its first step, and the seat is as it was; or the
+-- process began it, was answered nothing, and did nothing else
+abbrev pub BreaksEnqueue : Me ℕ (View Doing Response) → Me ℕ (View Doing Response) → ℕ → ℕ → ℕ → ℕ → ℕ → Type 0
+BreaksEnqueue old new m p i x n = (call : Enqueue) × Breaks queue enqueues m (first_enqueue m p i x) old new call n
+
+-- so was a dequeue
+abbrev pub BreaksDequeue : Me ℕ (View Doing Response) → Me ℕ (View Doing Response) → ℕ → ℕ → ℕ → ℕ → Type 0
+BreaksDequeue old new m p i n = (call : Dequeue) × Breaks queue dequeues m (first_dequeue m p i) old new call n
+
+-- so was a recovery
+abbrev pub BreaksRecovery : Me ℕ (View Doing Response) → Me ℕ (View Doing Response) → ℕ → ℕ → ℕ → Type 0
+BreaksRecovery old new m p n = (call : Recover) × Breaks queue recoveries m (first_recovery m p) old new call n

@@ -5,7 +5,7 @@ ghost use Rattle.pm_board.specs.Fuses.{Asked};
 ghost use Rattle.pm_board.specs.Views.{RunsOne, Sits};
 ghost use Rattle.pq.specs.Places.{Belongs};
 ghost use Rattle.pq.specs.declared.calls.Doing.TheVariants.{Idle};
-ghost use Rattle.pq_shared.specs.Endings.{IsDequeued, IsEnqueued, IsRecovered};
+ghost use Rattle.pq_shared.specs.Endings.{BreaksDequeue, BreaksEnqueue, BreaksRecovery, IsDequeued, IsEnqueued, IsRecovered};
 
 use pm_board::board::{Board, TableSeat};
 use pm_board::drive::drive;
@@ -36,7 +36,8 @@ pub struct Recovery {
     pub ended: Ended,
 }
 
-/// A process puts a value into the queue: how that ended, or None where the fuse broke it off. Among n processes it takes
+/// A process puts a value into the queue: how that ended, or None where the fuse broke it off; then it has not begun, or
+/// was answered nothing. Among n processes it takes
 /// at most 9 × (1,024 n + 1) + 15 steps. It ends as `Torn` only on words that are not those of a queue, which no run has.
 pub fn enqueue<F: Fuse>(
     board: &Board<Queue>,
@@ -52,13 +53,14 @@ pub fn enqueue<F: Fuse>(
     requires above { operation.last < 2 * operation.number }
     ensures table { place.new.table_id ≡ place.old.table_id }
     ensures runs { RunsOne place.new.me operation.process }
-    ensures ends { MatchOption result ((n : ℕ) × Asked F.said fuse.old fuse.new n 1 × RunsOne place.new.me operation.process) (λ e. (n : ℕ) × Asked F.said fuse.old fuse.new n 0 × IsEnqueued place.old.me place.new.me board.now.key operation.process operation.number value e n) }
+    ensures ends { MatchOption result ((n : ℕ) × Asked F.said fuse.old fuse.new n 1 × BreaksEnqueue place.old.me place.new.me board.now.key operation.process operation.number value n) (λ e. (n : ℕ) × Asked F.said fuse.old fuse.new n 0 × IsEnqueued place.old.me place.new.me board.now.key operation.process operation.number value e n) }
 {
     let mut call = Enqueue::new(board.key, operation.process, operation.number, value);
     drive::<Queue, Enqueue, F>(board, place, &mut call, fuse)
 }
 
-/// A process takes a value from the queue: how that ended, or None where the fuse broke it off. Among n processes it takes
+/// A process takes a value from the queue: how that ended, or None where the fuse broke it off; then it has not begun, or
+/// was answered nothing. Among n processes it takes
 /// at most 12 × (1,024 n + 1) + 15 steps. It ends as `Torn` only on words that are not those of a queue, which no run has.
 pub fn dequeue<F: Fuse>(
     board: &Board<Queue>,
@@ -73,7 +75,7 @@ pub fn dequeue<F: Fuse>(
     requires above { operation.last < 2 * operation.number }
     ensures table { place.new.table_id ≡ place.old.table_id }
     ensures runs { RunsOne place.new.me operation.process }
-    ensures ends { MatchOption result ((n : ℕ) × Asked F.said fuse.old fuse.new n 1 × RunsOne place.new.me operation.process) (λ e. (n : ℕ) × Asked F.said fuse.old fuse.new n 0 × IsDequeued place.old.me place.new.me board.now.key operation.process operation.number e n) }
+    ensures ends { MatchOption result ((n : ℕ) × Asked F.said fuse.old fuse.new n 1 × BreaksDequeue place.old.me place.new.me board.now.key operation.process operation.number n) (λ e. (n : ℕ) × Asked F.said fuse.old fuse.new n 0 × IsDequeued place.old.me place.new.me board.now.key operation.process operation.number e n) }
 {
     let mut call = Dequeue::new(board.key, operation.process, operation.number);
     drive::<Queue, Dequeue, F>(board, place, &mut call, fuse)
@@ -93,7 +95,7 @@ pub fn recover<F: Fuse>(
     requires low { (process < board.now.key) × (board.now.key < 16384) }
     ensures table { place.new.table_id ≡ place.old.table_id }
     ensures runs { RunsOne place.new.me process }
-    ensures ends { MatchOption result ((n : ℕ) × Asked F.said fuse.old fuse.new n 1 × RunsOne place.new.me process) (λ r. (n : ℕ) × Asked F.said fuse.old fuse.new n 0 × IsRecovered place.old.me place.new.me board.now.key process r n) }
+    ensures ends { MatchOption result ((n : ℕ) × Asked F.said fuse.old fuse.new n 1 × BreaksRecovery place.old.me place.new.me board.now.key process n) (λ r. (n : ℕ) × Asked F.said fuse.old fuse.new n 0 × IsRecovered place.old.me place.new.me board.now.key process r n) }
 {
     let mut call = Recover::new(board.key, process);
     match drive::<Queue, Recover, F>(board, place, &mut call, fuse) {

@@ -6,4 +6,4 @@ pub returns-clause-ends : goal.returns-clause-ends
 returns-clause-ends g c = dequeue_out (λ k. Asked g.F.Fuse.said c.args.fuse.now c.drive.new.fuse k 1) (λ k. Asked g.F.Fuse.said c.args.fuse.now c.drive.new.fuse k 0) c.args.board.now.key c.args.operation.process c.args.operation.number c.new-call.result c.args.place.now.me c.drive.new.seat.me c.drive.new.call c.drive.result c.new-call.ensures c.requires.sits.runs c.drive.ensures.me
 
 pub returns-clause-runs : goal.returns-clause-runs
-returns-clause-runs g c = dequeue_runs (λ k. Asked g.F.Fuse.said c.args.fuse.now c.drive.new.fuse k 1) (λ k. Asked g.F.Fuse.said c.args.fuse.now c.drive.new.fuse k 0) c.args.board.now.key c.args.operation.process c.args.operation.number c.args.place.now.me c.drive.new.seat.me c.drive.result (returns-clause-ends g c)
+returns-clause-runs g c = dequeue_runs (λ k. Asked g.F.Fuse.said c.args.fuse.now c.drive.new.fuse k 1) (λ k. Asked g.F.Fuse.said c.args.fuse.now c.drive.new.fuse k 0) c.args.board.now.key c.args.operation.process c.args.operation.number c.args.place.now.me c.drive.new.seat.me c.drive.result c.requires.sits.runs (returns-clause-ends g c)

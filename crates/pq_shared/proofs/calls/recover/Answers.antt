@@ -1,4 +1,4 @@
-use Rattle.pq_shared.proofs.Ending.{recovery_broken, recovered}
+use Rattle.pq_shared.proofs.Ending.{recovery_breaks, recovery_broken, recovered}
 use Rattle.pq_shared.proofs.calls.recover.Goals as goal
 
 pub returns-in-Some-clause-ends : goal.returns-in-Some-clause-ends
@@ -19,4 +19,4 @@ returns-in-None-clause-runs g c =
 pub returns-in-None-clause-ends : goal.returns-in-None-clause-ends
 returns-in-None-clause-ends g c =
     let h = c.in-None.ensures.me in
-    (h.0, h.1, returns-in-None-clause-runs g c)
+    (h.0, h.1, recovery_breaks c.args.board.now.key c.args.process c.new-call.result c.args.place.now.me c.drive.new.seat.me c.drive.new.call h.0 c.new-call.ensures h.2)
