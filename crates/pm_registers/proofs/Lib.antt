@@ -4,3 +4,4 @@ pub mod Recoveries
 pub mod Sound
 pub mod Runs
 pub mod Linearizing
+pub mod Recalled

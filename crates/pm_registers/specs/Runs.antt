@@ -1,15 +1,16 @@
 -- What a run of registers says of what was answered on it.
-use Rattle.std.specs.Prelude.{ℕ, ◌≡◌, ◌≢◌, ◌↔◌, IsTrue, List, [], ◌∷◌, ◌++◌}
+use Rattle.std.specs.Prelude.{ℕ, ◌≡◌, ◌≢◌, ◌↔◌, ◌<◌, ◌≤◌, Bool, IsTrue, List, [], ◌∷◌, ◌++◌}
 use Rattle.pm_base.specs.Structures.{In, World}
 use Rattle.pm_base.specs.Runs.{Happened, Run, IsNew, deeds_by, history_of}
 use Rattle.pm_base.specs.declared.history.Deed.TheVariants as deed
 use Rattle.pm_base.specs.declared.history.Event.{Event}
 use Rattle.pm_base.specs.declared.history.Event.TheVariants.{Begin, Step, Evict, Stop, Crash}
 use Rattle.pm_registers.specs.Registers.{registers, had_then}
+use Rattle.pm_registers.specs.declared.calls.RecoverCall.{RecoverCall}
 use Rattle.pm_registers.specs.declared.calls.WriteCall.{WriteCall}
 use Rattle.pm_registers.specs.declared.calls.WriteStage.TheVariants as write
 use Rattle.pm_registers.specs.declared.calls.Doing.{Doing}
-use Rattle.pm_registers.specs.declared.calls.Doing.TheVariants.{Writing}
+use Rattle.pm_registers.specs.declared.calls.Doing.TheVariants.{Idle, Writing, Recovering}
 use Rattle.pm_registers.specs.declared.calls.Response.{Response}
 use Rattle.pm_registers.specs.declared.calls.Response.TheVariants.{Wrote, Recalled}
 
@@ -68,3 +69,9 @@ pub record TookEffect (n : ℕ) (hs : List (Happened registers n)) (p v : ℕ) :
 abbrev pub WritesLinearize : ℕ → Type 0
 WritesLinearize n = (first last : World Doing (ℕ → List ℕ)) (h : Happened registers n) (hs : List (Happened registers n)) (p v : ℕ) → IsNew registers n first → Run registers n first (h ∷ hs) last
     → h.entry.event ≡ Step p → In h.entry.responses (Wrote v) → TookEffect n hs p v
+
+-- a recovery that ends recalls the value that its process announced last, and the register has had no later one
+abbrev pub RecoveriesRecallTheLast : ℕ → Type 0
+RecoveriesRecallTheLast n = (first last : World Doing (ℕ → List ℕ)) (h : Happened registers n) (hs : List (Happened registers n)) (p v : ℕ) (c : RecoverCall) → p < n → IsNew registers n first → Run registers n first (h ∷ hs) last
+    → h.entry.event ≡ Step p → h.before.situation p ≡ Recovering c → last.situation p ≡ Idle v
+    → ((had : Bool) × (h.entry.responses ≡ Recalled v had ∷ [])) × ((x : ℕ) → In (last.hidden p) x → x ≤ v)

@@ -2,7 +2,7 @@
 
 ghost use Rattle.pm_base.specs.Structures.{IsStructure, AreCalls};
 ghost use Rattle.pm_registers.specs.Registers.{registers, writes, recoveries};
-ghost use Rattle.pm_registers.specs.Runs.{RunsTellTheTruth, WritesLinearize};
+ghost use Rattle.pm_registers.specs.Runs.{RecoveriesRecallTheLast, RunsTellTheTruth, WritesLinearize};
 
 /// Registers owe what a structure owes: new ones are sound, and each event leads from a sound world to a sound one, keeps
 /// what was answered true, and answers what is true.
@@ -29,4 +29,9 @@ pub fn runs_tell_the_truth(processes: usize)
 /// Whatever happens: each write that is answered took effect between its begin and its answer, by one step of its own.
 pub fn writes_linearize(processes: usize)
     ensures { WritesLinearize processes }
+{}
+
+/// A recovery that ends recalls the value that its process announced last, and the register has had no later one.
+pub fn recoveries_recall_the_last(processes: usize)
+    ensures { RecoveriesRecallTheLast processes }
 {}
