@@ -30,7 +30,7 @@ step_rises n p value answer old new buffer stage.Back go k perf = same_is_least 
 step_rises n p value answer old new buffer stage.Done go k perf = absurd go
 step_rises n p value answer old new buffer stage.Lost go k perf = absurd go
 
-raising : (c : Raise) (s : Stage) → RaiseGoes s → raise_doing c s ≡ Raising (record c { stage = s })
+pub raising : (c : Raise) (s : Stage) → RaiseGoes s → raise_doing c s ≡ Raising (record c { stage = s })
 raising c stage.Load go = refl
 raising c (stage.Swap seen) go = refl
 raising c stage.Flush go = refl

@@ -40,7 +40,7 @@ entry value = record { place = 0; class = Stamped; value = value }
 -- what a raise knows of the word and of its buffer
 abbrev pub KnowsAt : ℕ → ℕ → List (BufferEntry ℕ) → Stage → Type 0
 KnowsAt value up buffer stage.Load = buffer ≡ []
-KnowsAt value up buffer (stage.Swap seen) = (buffer ≡ []) × (seen < value)
+KnowsAt value up buffer (stage.Swap seen) = (buffer ≡ []) × (seen < value) × (seen ≤ up)
 KnowsAt value up buffer stage.Flush = (buffer ≡ []) × (value ≤ up)
 KnowsAt value up buffer stage.Back = (x : ℕ) × (buffer ≡ entry x ∷ []) × (value ≤ x) × (x ≤ up)
 KnowsAt value up buffer stage.Done = ⊥
