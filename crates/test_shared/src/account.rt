@@ -163,7 +163,7 @@ impl Account {
     }
 
     // The last edit that was announced ended so.
-    fn resolve(&mut self, returned: LastEdit) -> bool {
+    fn resolve(&mut self, resolved: LastEdit) -> bool {
         let fate = if resolved.counts {
             Fate::Counts
         } else {

@@ -36,7 +36,7 @@ pub enum Wrong {
         /// The cell.
         cell: usize,
         /// How many edits of it are linearized, by what was answered.
-        returned: u64,
+        answered: u64,
         /// The word of its head.
         head: u64,
     },
@@ -47,7 +47,7 @@ pub enum Wrong {
         /// The word of its head.
         head: u64,
         /// What its process was answered about its last edit of the cell.
-        returned: Option<Edit>,
+        answered: Option<Edit>,
     },
     /// The cell has another text than its last edit gave it.
     Text(usize),
@@ -91,19 +91,19 @@ fn last_of(crowd: &Crowd, process: usize, cell: usize) -> Option<Edit> {
 // The cell's head and text are those of its last edit that was answered as linearized.
 fn check_cell(shown: &Shown, crowd: &Crowd, cell: usize) -> Result<(), Wrong> {
     let head = shown.head;
-    let mut call_events = 0u64;
+    let mut answered = 0u64;
     for process in 0..PROCESSES {
-        call_events = returned.wrapping_add(crowd.hand(process).account.count_of(cell));
+        answered = answered.wrapping_add(crowd.hand(process).account.count_of(cell));
     }
     let parts = Head::parts(head);
-    if parts.stamp != returned {
+    if parts.stamp != answered {
         return Err(Wrong::Stamp {
             cell,
-            returned,
+            answered,
             head,
         });
     }
-    if returned == 0 {
+    if answered == 0 {
         return if shown.text.is_empty() {
             Ok(())
         } else {
@@ -118,10 +118,10 @@ fn check_cell(shown: &Shown, crowd: &Crowd, cell: usize) -> Result<(), Wrong> {
                 Err(Wrong::Text(cell))
             }
         }
-        call_events => Err(Wrong::Last {
+        answered => Err(Wrong::Last {
             cell,
             head,
-            returned,
+            answered,
         }),
     }
 }

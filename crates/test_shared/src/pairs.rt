@@ -343,7 +343,7 @@ fn broken_off(
     }
 }
 
-fn returned(steps: u64, unannounced: u64, undone: u64) -> Ended<RecoveryEnd> {
+fn resolved(steps: u64, unannounced: u64, undone: u64) -> Ended<RecoveryEnd> {
     if steps <= unannounced {
         return Ended::Answered(RecoveryEnd::Nothing);
     }
@@ -361,12 +361,12 @@ fn edits_are_resolved(rt: HostRuntime) -> Result<(), Fail> {
             return Err(Fail::new("memory is wanting"));
         };
         assert_eq!(rt; edited == Ended::Answered(EditEnd::Done(0)), steps == 19);
-        assert_eq!(rt; one, returned(steps, 8, 12));
+        assert_eq!(rt; one, resolved(steps, 8, 12));
         assert_eq!(rt; two, Ended::Answered(RecoveryEnd::Nothing));
         let Some((_edited, one, two)) = broken_off(rt.alloc(), steps, true) else {
             return Err(Fail::new("memory is wanting"));
         };
-        assert_eq!(rt; one, returned(steps, 6, 10));
+        assert_eq!(rt; one, resolved(steps, 6, 10));
         assert_eq!(rt; two, Ended::Answered(RecoveryEnd::Nothing));
     }
     Ok(())
