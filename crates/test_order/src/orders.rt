@@ -40,10 +40,12 @@ fn is_drawn(cell: usize, other: usize) -> bool {
 
 fn refers(kind: Kind, cell: usize, other: usize) -> bool {
     match kind {
-        Kind::Next => other == cell + 1,
+        Kind::Next => other == cell.saturating_add(1),
         Kind::AllAfter => other > cell,
-        Kind::NineAfter => other > cell && other <= cell + 100 && is_drawn(cell, other),
-        Kind::Circle => other == cell + 1 || cell + 1 == CELLS && other == 0,
+        Kind::NineAfter => other > cell
+            && other <= cell.saturating_add(100)
+            && is_drawn(cell, other),
+        Kind::Circle => other == cell.saturating_add(1) % CELLS,
         Kind::All => true,
     }
 }
