@@ -230,16 +230,18 @@ fn close<R: Wait + Log>(rt: &R, alloc: Global, sheet: OpenSheet, queues: &[Array
     }
 }
 
-// A new sheet of this layout, and a queue for the seat of each process. None where an allocation fails.
+// A new sheet of this layout, a queue for the seat of each process, and what is known of its references. None where an
+// allocation fails.
 fn opened<R: Wait>(
     rt: &R,
     alloc: Global,
     layout: Layout,
-) -> Option<(OpenSheet, Vec<ArrayQueue<Seat>>)> {
+) -> Option<(OpenSheet, Vec<ArrayQueue<Seat>>, KnownReferences)> {
+    let references = KnownReferences::new(alloc, layout.shape).ok()?;
     let mut sheet = OpenSheet::make(alloc, layout).ok()?;
     let seats = all_seats(alloc, &mut sheet)?;
     let queues = own_queues(rt, alloc, seats).ok()?;
-    Some((sheet, queues))
+    Some((sheet, queues, references))
 }
 
 // Closes the sheet of a server that has ended well, and sums up in the log what its sessions came to.
@@ -272,10 +274,7 @@ pub fn serve<R: Threads + Wait + Clock + Log + Sync>(
     ensures served { IfOk result (IsServed service.sessions) }
     ensures lasting { IfErr result IsLasting }
 {
-    let Some((sheet, queues)) = opened(rt, alloc, layout) else {
-        return Err(ServeError::NoMemory);
-    };
-    let Ok(references) = KnownReferences::new(alloc, layout.shape) else {
+    let Some((sheet, queues, references)) = opened(rt, alloc, layout) else {
         return Err(ServeError::NoMemory);
     };
     let queues = queues.as_slice();

@@ -174,24 +174,6 @@ fn close<L: Ledger, M: Ledger, R: Wait + Log>(
     }
 }
 
-// The sheet of a world behind its lock, with these blanks, and a queue for the pass of each process. None where an
-// allocation fails.
-fn locked<L: Ledger, M: Ledger, R: Wait>(
-    rt: &R,
-    alloc: Global,
-    world: World,
-    dones: Blank,
-    settleds: Blank,
-) -> Option<(LockedSheet<L, M>, Vec<ArrayQueue<Pass<L, M>>>)>
-    requires names { (dones.name ≡ L.name) × (settleds.name ≡ M.name) }
-    requires parts { (dones.parts ≡ L.parts) × (settleds.parts ≡ M.parts) }
-    requires processes { (L.parts ≡ world.sheet.layout.processes) × (M.parts ≡ world.sheet.layout.processes) }
-{
-    let (sheet, passes) = LockedSheet::<L, M>::make(alloc, world, dones, settleds).ok()?;
-    let queues = own_queues(rt, alloc, passes).ok()?;
-    Some((sheet, queues))
-}
-
 // The references of the texts of a world's linearized edits. None where an allocation fails.
 fn references(alloc: Global, world: &World) -> Option<KnownReferences> {
     let shape = world.words.layout().shape;
@@ -202,6 +184,31 @@ fn references(alloc: Global, world: &World) -> Option<KnownReferences> {
         }
     }
     Some(references)
+}
+
+// The sheet of a world behind its lock, with these blanks, a queue for the pass of each process, and what is known of its
+// references. None where an allocation fails.
+fn locked<L: Ledger, M: Ledger, R: Wait>(
+    rt: &R,
+    alloc: Global,
+    world: World,
+    dones: Blank,
+    settleds: Blank,
+) -> Option<
+    (
+        LockedSheet<L, M>,
+        Vec<ArrayQueue<Pass<L, M>>>,
+        KnownReferences,
+    ),
+>
+    requires names { (dones.name ≡ L.name) × (settleds.name ≡ M.name) }
+    requires parts { (dones.parts ≡ L.parts) × (settleds.parts ≡ M.parts) }
+    requires processes { (L.parts ≡ world.sheet.layout.processes) × (M.parts ≡ world.sheet.layout.processes) }
+{
+    let references = references(alloc, &world)?;
+    let (sheet, passes) = LockedSheet::<L, M>::make(alloc, world, dones, settleds).ok()?;
+    let queues = own_queues(rt, alloc, passes).ok()?;
+    Some((sheet, queues, references))
 }
 
 // So of a world, with these blanks.
@@ -230,10 +237,8 @@ fn serve_world<
     ensures lasting { IfErr result IsStoredLasting }
 {
     let processes = world.words.layout().processes;
-    let Some(references) = references(alloc, &world) else {
-        return Err(ServeError::NoMemory);
-    };
-    let Some((sheet, queues)) = locked::<L, M, _>(rt, alloc, world, dones, settleds) else {
+    let Some((sheet, queues, references)) = locked::<L, M, _>(rt, alloc, world, dones, settleds)
+    else {
         return Err(ServeError::NoMemory);
     };
     let queues = queues.as_slice();

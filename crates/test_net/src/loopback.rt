@@ -5,6 +5,7 @@ ghost use Rattle.std.specs.Prelude.{◌≡◌, IfOk};
 use crate::serving::{Clients, End, Served, serve_locked, serve_shared};
 use ds_formula::cells::Shape;
 use ds_layout::layout::Layout;
+use ds_order::known::KnownReferences;
 use ds_state::world::World;
 use std::alloc::{AllocError, Global};
 use std::marker::Brand;
@@ -124,12 +125,14 @@ fn serve_loopback(rt: HostRuntime) -> Result<(), Fail> {
     let alloc = rt.alloc();
     for row in ROWS {
         let world = world(alloc)?;
+        let references = KnownReferences::new(alloc, SHAPE)?;
         let served = serve_locked::<Brand, Brand, _>(
             &rt,
             alloc,
             world,
             Blank::new(2),
             Blank::new(2),
+            &references,
             row.workers,
             row.clients,
         )?;
@@ -144,7 +147,8 @@ fn serve_loopback(rt: HostRuntime) -> Result<(), Fail> {
 fn serve_shared_loopback(rt: HostRuntime) -> Result<(), Fail> {
     let alloc = rt.alloc();
     for row in ROWS {
-        let served = serve_shared(&rt, alloc, LAYOUT, row.workers, row.clients)?;
+        let references = KnownReferences::new(alloc, SHAPE)?;
+        let served = serve_shared(&rt, alloc, LAYOUT, &references, row.workers, row.clients)?;
         let got = str::from_utf8(served.answers.as_slice()).unwrap_or("?");
         assert!(rt; is_right(&served, row.answers, row.done), "{got}");
     }
@@ -162,12 +166,14 @@ const MANY: [&[u8]; 200] = [ONE; 200];
 fn two_hundred_clients(rt: HostRuntime) -> Result<(), Fail> {
     let alloc = rt.alloc();
     let world = world(alloc)?;
+    let references = KnownReferences::new(alloc, SHAPE)?;
     let served = serve_locked::<Brand, Brand, _>(
         &rt,
         alloc,
         world,
         Blank::new(2),
         Blank::new(2),
+        &references,
         1,
         Clients::Each(&MANY),
     )?;
@@ -183,7 +189,8 @@ fn two_hundred_clients(rt: HostRuntime) -> Result<(), Fail> {
 #[test]
 fn two_hundred_clients_share(rt: HostRuntime) -> Result<(), Fail> {
     let alloc = rt.alloc();
-    let served = serve_shared(&rt, alloc, LAYOUT, 1, Clients::Each(&MANY))?;
+    let references = KnownReferences::new(alloc, SHAPE)?;
+    let served = serve_shared(&rt, alloc, LAYOUT, &references, 1, Clients::Each(&MANY))?;
     let is_closed = match &served.end {
         End::Shared(_) => true,
         _ => false,

@@ -240,6 +240,7 @@ pub fn serve_locked<
     world: World,
     dones: Blank,
     settleds: Blank,
+    references: &KnownReferences,
     workers: usize,
     clients: Clients,
 ) -> Result<Served, Fail>
@@ -252,8 +253,7 @@ pub fn serve_locked<
         return Err(Fail::from("no memory"));
     };
     let queues = queues(rt, alloc, passes)?;
-    let references = KnownReferences::new(alloc, sheet.layout().shape)?;
-    let floor = LockedFloor::new(&sheet, &references, queues.as_slice(), workers);
+    let floor = LockedFloor::new(&sheet, references, queues.as_slice(), workers);
     let answers = run(rt, alloc, &floor, workers, clients)?;
     let back = gathered(rt, alloc, queues.as_slice())?;
     let end = if back.len() == processes && processes > 0 {
@@ -267,14 +267,20 @@ pub fn serve_locked<
 /// A server of a new sheet that the threads share, with no lock.
 pub fn serve_shared<
     R: Threads + Wait + Clock + Log + Net<Stream = TcpStream, Listener = TcpListener> + Sync,
->(rt: &R, alloc: Global, layout: Layout, workers: usize, clients: Clients) -> Result<Served, Fail> {
+>(
+    rt: &R,
+    alloc: Global,
+    layout: Layout,
+    references: &KnownReferences,
+    workers: usize,
+    clients: Clients,
+) -> Result<Served, Fail> {
     let mut sheet = OpenSheet::make(alloc, layout)?;
     let Some(seats) = all_seats(alloc, &mut sheet) else {
         return Err(Fail::from("no memory"));
     };
     let queues = queues(rt, alloc, seats)?;
-    let references = KnownReferences::new(alloc, layout.shape)?;
-    let floor = SharedFloor::new(&references, queues.as_slice(), workers);
+    let floor = SharedFloor::new(references, queues.as_slice(), workers);
     let answers = run(rt, alloc, &floor, workers, clients)?;
     for seat in gathered(rt, alloc, queues.as_slice())? {
         seat.give_back();
