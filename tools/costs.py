@@ -54,7 +54,7 @@ def main():
         counts = [lines(crate, "src", ".rt"), lines(crate, "specs", ".antt"), lines(crate, "proofs", ".antt")]
         edits = [len(files(crate, part, ".edit")) for part in ("must-fail", "more-edits")]
         proof, _tried, tests = times.get(crate, [0.0, 0.0, 0.0])
-        figures = [f"{it:.1f}" if it else "-" for it in (proof, tests)]
+        figures = [f"{it:.1f}" if it else "" for it in (proof, tests)]
         cells = [crate, "/".join(f"{it:,}" for it in counts), f"{edits[0]}+{edits[1]}", *figures]
         print("| " + " | ".join(cells) + " |")
 
