@@ -1,7 +1,7 @@
 #!/usr/bin/env python3
-"""Loads the program as a server: many clients one after another, many at once, many that are killed in mid-line, and
-some after them. Its threads and descriptors at the end have to be those of its start, and its memory, but for 1 MB (16
-of an unproved program, whose checks keep some: --quick). The last line counts the rows.
+"""Loads the program as a server: many clients one after another, many at once, many that are killed in mid-line, some
+after them, and stubborn ones beside its end. Its threads and descriptors before that have to be those of its start, and
+its memory, but for 1 MB (16 of an unproved program, whose checks keep some: --quick). The last line counts the rows.
     tests/load.py [--quick] PROGRAM
 """
 import os
@@ -10,6 +10,7 @@ import socket
 import struct
 import subprocess
 import sys
+import threading
 import time
 import traceback
 
@@ -117,6 +118,32 @@ def kill_clients(server, begun):
             server.settled(begun)
 
 
+def trickle(server):
+    """A client that is told to leave, and goes on."""
+    try:
+        with server.connect() as client:
+            client.sendall(b"GET / HTTP/1.0\r\n")
+            for _ in range(100):
+                time.sleep(0.4)
+                client.sendall(b"x")
+    except OSError:
+        pass
+
+
+def sip(server):
+    """A client that asks for much at once, and takes a little of it at a time."""
+    try:
+        with socket.socket() as client:
+            client.setsockopt(socket.SOL_SOCKET, socket.SO_RCVBUF, 2048)
+            client.connect(("127.0.0.1", server.port))
+            client.sendall((JOIN % 0 + "\n" + '{"op":"report"}\n' * 4000).encode())
+            for _ in range(200):
+                client.recv(1500)
+                time.sleep(0.3)
+    except OSError:
+        pass
+
+
 def load(server, kilobytes):
     """All rows; the first that is not as it has to be is an AssertionError."""
     wave(server, "a first wave")
@@ -137,11 +164,18 @@ def load(server, kilobytes):
     assert ended[:2] == begun[:2], f"threads and descriptors: wanted {begun[:2]}, came {ended[:2]}"
     assert ended[2] <= begun[2] + kilobytes, f"memory: wanted {begun[2]} kB and {kilobytes} at most, came {ended[2]} kB"
     pass_row(f"{ended[0]} threads and {ended[1]} descriptors, as at first; memory too")
+    stubborn = [threading.Thread(target=it, args=(server,), daemon=True) for it in (trickle, sip)]
+    for client in stubborn:
+        client.start()
+    time.sleep(1)
+    asked = time.monotonic()
     server.process.stdin.write("stop\n")
     server.process.stdin.close()
-    status = server.process.wait(timeout=20)
+    status = server.process.wait(timeout=60)
+    took = time.monotonic() - asked
     assert status == 0, f"its end: wanted status 0, came {status}"
-    pass_row("its end")
+    assert took < 5, f"its end took {took:.1f} s beside stubborn clients"
+    pass_row("its end within five seconds, beside clients that say and take a little, again and again")
 
 
 def main(*words):

@@ -1,10 +1,9 @@
 -- What the calls of a session over a shared sheet do to its seat.
-use Rattle.std.proofs.Common.{◌≡◌, ◌∙◌, ◌⊎◌, ◌<◌, ◌≤◌, ◌+◌, ◌*◌, arith, inl, inr, refl, sym, ap, subst, List, ℕ, Option, Some, Result, Ok, Err, IfOk, IfErr}
+use Rattle.std.proofs.Common.{◌≡◌, ◌∙◌, ◌⊎◌, ◌<◌, ◌≤◌, ◌+◌, ◌*◌, arith, inl, inr, refl, sym, ap, subst, ℕ, Option, Some, Result, Ok, Err, IfOk, IfErr}
 use Rattle.std.specs.Prelude.{Vec}
 use Rattle.std.proofs.Math.Nat.{mul-le-mul_right}
 use Rattle.std.specs.Result.{IsErrAnd, IsOkAnd}
 use Rattle.std.specs.Global.{Global}
-use Rattle.std.specs.Arc.{arc_value}
 use Rattle.ds_formula.specs.declared.cells.Cell.{Cell}
 use Rattle.ds_formula.specs.Cells.{IsInside}
 use Rattle.ds_eval.specs.declared.value.Value.{Value}

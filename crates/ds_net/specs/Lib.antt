@@ -1,3 +1,4 @@
-pub mod Desks
 pub mod Accepting
+pub mod Permits
 pub mod SharedDesks
+pub mod StoredDesks

@@ -93,8 +93,7 @@ fn one<F: Floor, R: Wait + Clock>(
         return Parting::Broken("no memory");
     };
     let mut reader = Reading::new(buffered);
-    let wire = Wire::new(stream, visit, ticks);
-    let mut writer = Writing::new(DurableWriter::new(rt, wire, visit));
+    let mut writer = Writing::new(DurableWriter::new(rt, floor, stream, visit, ticks));
     parting_of(floor.sit(rt, alloc, &mut reader, &mut writer, visit), visit)
 }
 
@@ -163,11 +162,12 @@ pub(crate) fn served<F: Floor, R: Wait + Clock + Log>(
     let visit = Visit::new(door);
     let ticks = door.patience();
     let parting = one(rt, alloc, floor, &stream, &visit, ticks);
+    // Its place is free before it is listened to for the last time.
+    door.leave();
     if let Parting::Answered(farewell) = parting {
-        part(&stream, farewell);
+        part(rt, &stream, farewell);
     }
     drop(stream);
-    door.leave();
     match parting {
         Parting::Ended => {}
         Parting::Answered(farewell) => {

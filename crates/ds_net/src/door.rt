@@ -1,6 +1,5 @@
 //! What the threads of a server share beside its sheet.
 
-use crate::keeping::Keeping;
 use std::sync::atomic::{AtomicBool, AtomicU64, Ordering};
 
 /// The door of a server: whether it is to stop, how many sessions it has, and what they have come to. It is shared by
@@ -18,7 +17,6 @@ pub struct Door {
     overtaken: AtomicU64,
     refused: AtomicU64,
     reports: AtomicU64,
-    keeping: Option<Keeping>,
 }
 
 /// What the sessions of a server have come to.
@@ -37,13 +35,8 @@ pub struct SessionTotals {
 }
 
 impl Door {
-    /// Of a server that has not begun, and that has no store.
+    /// Of a server that has not begun.
     pub fn new() -> Door {
-        Door::with_store(None)
-    }
-
-    /// Of a server that has not begun; where it has a store, its sessions tell the keeper of it what is to be kept.
-    pub fn with_store(keeping: Option<Keeping>) -> Door {
         Door {
             stopping: AtomicBool::new(false),
             ended: AtomicBool::new(false),
@@ -56,13 +49,7 @@ impl Door {
             overtaken: AtomicU64::new(0),
             refused: AtomicU64::new(0),
             reports: AtomicU64::new(0),
-            keeping,
         }
-    }
-
-    /// What is shared with the keeper of the server's store, if it has one.
-    pub fn keeping(&self) -> Option<&Keeping> {
-        self.keeping.as_ref()
     }
 
     /// Tells the server to stop: it takes no more connections, each session answers the lines that it has read, and

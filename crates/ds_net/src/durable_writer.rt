@@ -1,38 +1,80 @@
-//! Answers that wait until the edits before them are kept.
+//! Answers that wait until they may leave.
 
+ghost use Rattle.std.specs.Prelude.{◌≤◌, IfOk, length};
+ghost use Rattle.ds_net.specs.Permits.{Allows};
+
+use crate::floor::Floor;
+use crate::permit::Permit;
 use crate::visit::Visit;
-use crate::wire::Wire;
 use std::io::{self, ErrorKind, Write};
+use std::net::TcpStream;
 use std::sync::Wait;
 
-/// Writes to a connection, each time when all edits that the sessions of the server have made so far are kept, if the
-/// server has a store. Where they cannot be kept, nothing is written any more.
+// For how many ticks in all a client that takes nothing is waited for when the server was asked to stop.
+const LATE: u64 = 4;
+
+/// Writes to a connection, each time by a permit of what the server serves: of a sheet with a store, when all edits that the
+/// sessions have made so far are kept. Where none is given, nothing is written any more. A write that waits for longer than
+/// `ticks` fails, which the visit notes.
 #[derive(Drop)]
-pub(crate) struct DurableWriter<'a, R: Wait> {
+pub(crate) struct DurableWriter<'a, F: Floor, R: Wait> {
     rt: &'a R,
-    wire: Wire<'a>,
+    floor: &'a F,
+    stream: &'a TcpStream,
     visit: &'a Visit<'a>,
+    ticks: u64,
 }
 
-impl<'a, R: Wait> DurableWriter<'a, R> {
-    // What writes to this connection, for this session.
-    pub(crate) fn new(rt: &'a R, wire: Wire<'a>, visit: &'a Visit<'a>) -> DurableWriter<'a, R> {
-        DurableWriter { rt, wire, visit }
+impl<'a, F: Floor, R: Wait> DurableWriter<'a, F, R> {
+    // What writes to this connection, for this session over the floor.
+    pub(crate) fn new(
+        rt: &'a R,
+        floor: &'a F,
+        stream: &'a TcpStream,
+        visit: &'a Visit<'a>,
+        ticks: u64,
+    ) -> DurableWriter<'a, F, R> {
+        DurableWriter {
+            rt,
+            floor,
+            stream,
+            visit,
+            ticks,
+        }
+    }
+
+    // Bytes of a session go out here alone, each time by a permit of what the server serves.
+    fn send(&self, _permit: Permit, buf: &[u8]) -> io::Result<usize>
+        requires { Allows F.keeps _permit }
+        ensures { IfOk result (λ n. n ≤ length buf.now) }
+    {
+        let mut stream = self.stream;
+        for _ in 0..self.ticks {
+            match stream.write(buf) {
+                Err(error) if error.kind() == ErrorKind::WouldBlock => {}
+                written => return written,
+            }
+            if self.visit.is_over() && self.visit.counts_late() >= LATE {
+                break;
+            }
+        }
+        self.visit.waits_no_longer();
+        Err(io::Error::from(ErrorKind::TimedOut))
     }
 }
 
-impl<R: Wait> Write for DurableWriter<'_, R> {
+impl<F: Floor, R: Wait> Write for DurableWriter<'_, F, R> {
     fn write(&mut self, buf: &[u8]) -> io::Result<usize> {
-        if let Some(keeping) = self.visit.keeping() {
-            if !keeping.wait_for_all(self.rt) {
+        match self.floor.permit(self.rt) {
+            Some(permit) => self.send(permit, buf),
+            None => {
                 self.visit.loses();
-                return Err(io::Error::from(ErrorKind::Other));
+                Err(io::Error::from(ErrorKind::Other))
             }
         }
-        self.wire.write(buf)
     }
 
     fn flush(&mut self) -> io::Result<()> {
-        self.wire.flush()
+        Ok(())
     }
 }

@@ -2,9 +2,13 @@
 
 use std::io::{ErrorKind, Read, Write};
 use std::net::{Shutdown, TcpStream};
+use std::time::{Clock, Duration, Instant};
 
 // How many reads of a client that goes on are thrown away before its connection is closed.
 const READS: u32 = 16_384;
+
+// For how long a client that goes on is listened to before its connection is closed, in seconds.
+const PATIENCE: u64 = 2;
 
 // After how many ticks in which it says nothing its connection is closed.
 const QUIET: u32 = 4;
@@ -47,11 +51,18 @@ impl Farewell {
 }
 
 // Reads what the client still says, and throws it away: a connection that is closed before is reset, and the client
-// may lose what it was answered. It ends with the client, after a second in which it says nothing, or after 64 MB.
-fn drain(mut stream: &TcpStream) {
+// may lose what it was answered. It ends with the client, after a second in which it says nothing, after two seconds in
+// all, or after 64 MB.
+fn drain<R: Clock>(rt: &R, mut stream: &TcpStream) {
     let mut room = [0u8; 4096];
     let mut quiet = 0u32;
+    let Ok(begun) = Instant::now(rt) else {
+        return;
+    };
     for _ in 0..READS {
+        if begun.elapsed(rt).unwrap_or(Duration::MAX) >= Duration::from_secs(PATIENCE) {
+            return;
+        }
         match stream.read(&mut room) {
             Ok(0) => return,
             Ok(_) => quiet = 0,
@@ -66,11 +77,11 @@ fn drain(mut stream: &TcpStream) {
     }
 }
 
-/// Says the last line, ends writing, and reads on for a bounded time. No failure of these changes anything.
-pub(crate) fn part(mut stream: &TcpStream, farewell: Farewell) {
+/// Says the last line, ends writing, and reads on for two seconds at most. No failure of these changes anything.
+pub(crate) fn part<R: Clock>(rt: &R, mut stream: &TcpStream, farewell: Farewell) {
     let _ = stream.write_all(farewell.line().as_bytes());
     let _ = stream.shutdown(Shutdown::Write);
-    drain(stream);
+    drain(rt, stream);
 }
 
 /// The same where nobody may wait: what the client has said so far is read, at most once.

@@ -1,14 +1,11 @@
 //! What the sessions of a server tell the keeper of its store, and wait for.
 
-ghost use Rattle.ds_core.specs.declared.event.Event.TheVariants.{BeginEdit};
-ghost use Rattle.ds_core.specs.declared.reply.Reply.TheVariants.{Answered};
-ghost use Rattle.ds_crew.specs.Kept.{HasUsed};
-ghost use Rattle.ds_state.specs.declared.answer.Answer.TheVariants.{Edit};
-ghost use Rattle.ds_state.specs.declared.answer.EditEnd.TheVariants.{Done};
+ghost use Rattle.std.specs.Prelude.{◌≡◌, ◌+◌, ◌++◌, ◌∷◌, ◌≤◌, [], length, IfSome};
 
-use ds_crew::ended::Receipt;
-use ds_store::edit::AnsweredEdit;
-use std::alloc::Global;
+use ds_store::committed::Committed;
+use ds_store_journal::edit::AnsweredEdit;
+use http_server::Log;
+use std::alloc::{AllocError, Global};
 use std::mem;
 use std::sync::{Condvar, Mutex, MutexGuard, Wait};
 use std::time::{Clock, Duration};
@@ -38,87 +35,180 @@ pub(crate) enum News {
     Over,
 }
 
-// What the keeper has heard of, and what of it is kept.
+// How many edits are kept. It grows by commits alone, by as many as each has kept.
 #[derive(Drop)]
-struct Backlog {
-    // The edits that the keeper has not taken yet, in the order in which they were made.
-    edits: Vec<AnsweredEdit>,
-    // How many edits the keeper has heard of, and how many of them are kept.
-    heard: u64,
-    kept: u64,
-    phase: Phase,
+struct KeptCount {
+    count: u64,
 }
 
-/// What the sessions of a server share with the keeper of its store. Edits go one after another, so that the store has
-/// them in the order in which they were made; and what a session is to say waits until all edits that the keeper heard of before
-/// are kept, those of other sessions, too. Many wait for one commit.
+/// That all edits are kept of which the keeper had heard at some moment: what a session has to say after that moment may
+/// leave. Only `Keeping` makes one, where so many are kept.
+#[derive(Drop)]
+pub struct AllKept {
+    heard: u64,
+    kept: u64,
+    pub ghost all: { heard ≤ kept },
+}
+
+/// That all edits are kept of which the keeper has heard, and that no more come.
+#[derive(Drop)]
+pub struct Drained {
+    heard: u64,
+    kept: u64,
+    pub ghost all: { heard ≡ kept },
+}
+
+impl KeptCount {
+    // Counts the edits of a commit. None where 2^64 - 1 would be passed: then nothing is counted.
+    fn add(&mut self, committed: &Committed) -> Option<()>
+        ensures some { IfSome result (λ _. self.new.count ≡ self.old.count + length committed.now.edits.items) }
+        ensures none { result ≡ None → self.new ≡ self.old }
+    {
+        self.count = self.count.checked_add(committed.count() as u64)?;
+        Some(())
+    }
+
+    // The permit for what is said after so many were heard, if they are kept.
+    fn permit(&self, heard: u64) -> Option<AllKept>
+        ensures { IfSome result (λ permit. (permit.heard ≡ heard) × (permit.kept ≡ self.now.count)) }
+    {
+        if heard > self.count {
+            return None;
+        }
+        Some(AllKept {
+            heard,
+            kept: self.count,
+        })
+    }
+}
+
+// What the keeper has heard of, and what of it is kept.
+#[derive(Drop)]
+pub(crate) struct Backlog {
+    // The edits that the keeper has not taken yet, in the order in which they were made.
+    edits: Vec<AnsweredEdit>,
+    // How many edits the keeper has taken, and has not kept yet.
+    taken: u64,
+    // How many edits the keeper has heard of, and how many of them are kept.
+    heard: u64,
+    kept: KeptCount,
+    phase: Phase,
+    ghost counted: { heard ≡ kept.count + taken + length edits.items },
+}
+
+impl Backlog {
+    // Of a server that has not begun.
+    fn new(alloc: Global) -> Backlog {
+        Backlog {
+            edits: Vec::new(alloc),
+            taken: 0,
+            heard: 0,
+            kept: KeptCount { count: 0 },
+            phase: Phase::Keeps,
+        }
+    }
+
+    /// Room for one edit more, before it is made. An error is that an allocation failed, or that no more can be counted.
+    pub(crate) fn make_room(&mut self) -> Result<(), AllocError> {
+        if self.heard == u64::MAX {
+            return Err(AllocError);
+        }
+        self.edits.reserve(1)
+    }
+
+    /// The keeper hears of an edit that was answered Done, which stands then in this history of what it was told, too.
+    /// Where there is no room for it nothing is kept any more.
+    pub(crate) fn hear(&mut self, told: &mut Log<usize, AnsweredEdit>, edit: AnsweredEdit)
+        ensures { told.new.items ≡ told.old.items ++ (edit.process, edit) ∷ [] }
+    {
+        *told = told.and(&edit.process, &edit);
+        let Some(heard) = self.heard.checked_add(1) else {
+            self.phase = Phase::Failed;
+            return;
+        };
+        match self.edits.push(edit) {
+            Ok(()) => self.heard = heard,
+            Err(_) => self.phase = Phase::Failed,
+        }
+    }
+
+    // All edits that have come, which the keeper has in hand then.
+    fn take(&mut self, alloc: Global) -> Vec<AnsweredEdit>
+        ensures edits { result.items ≡ self.old.edits.items }
+        ensures taken { self.new.taken ≡ self.old.taken + length self.old.edits.items }
+    {
+        let edits = mem::replace(&mut self.edits, Vec::new(alloc));
+        self.taken += edits.len() as u64;
+        edits
+    }
+
+    // The edits of a commit are kept. Where they are more than the keeper has in hand, nothing is kept any more.
+    fn keep(&mut self, committed: &Committed)
+        ensures { self.new.kept.count ≤ self.old.kept.count + length committed.now.edits.items }
+    {
+        let Some(left) = self.taken.checked_sub(committed.count() as u64) else {
+            self.phase = Phase::Failed;
+            return;
+        };
+        match self.kept.add(committed) {
+            Some(()) => self.taken = left,
+            None => self.phase = Phase::Failed,
+        }
+    }
+
+    // That all is kept, if it is, and no more comes.
+    fn drained(&self) -> Option<Drained>
+        ensures { IfSome result (λ d. (d.heard ≡ self.now.heard) × (d.kept ≡ self.now.kept.count)) }
+    {
+        if self.phase != Phase::Ends || self.heard != self.kept.count {
+            return None;
+        }
+        Some(Drained {
+            heard: self.heard,
+            kept: self.kept.count,
+        })
+    }
+}
+
+/// What the sessions of a server share with the keeper of its store. Whoever edits holds its lock from before the edit
+/// until the keeper has heard of it: so the store has the edits in the order in which they count, and what a session is to
+/// say waits until all edits are kept that any session could have seen. Many wait for one commit.
 #[derive(Drop)]
 pub struct Keeping {
-    turn: Mutex<bool>,
     backlog: Mutex<Backlog>,
     news: Condvar,
     done: Condvar,
 }
 
-// The edit of a receipt.
-fn answered_edit(receipt: Receipt) -> AnsweredEdit {
-    let Receipt {
-        process,
-        number,
-        cell,
-        text,
-    } = receipt;
-    AnsweredEdit {
-        process,
-        number,
-        cell,
-        text,
-    }
-}
-
 impl Keeping {
     /// Of a server that has not begun.
     pub fn new(alloc: Global) -> Keeping {
-        let backlog = Backlog {
-            edits: Vec::new(alloc),
-            heard: 0,
-            kept: 0,
-            phase: Phase::Keeps,
-        };
         Keeping {
-            turn: Mutex::new(false),
-            backlog: Mutex::new(backlog),
+            backlog: Mutex::new(Backlog::new(alloc)),
             news: Condvar::new(),
             done: Condvar::new(),
         }
     }
 
     /// Waits for the turn to edit, which is the caller's until what is given back is dropped.
-    pub(crate) fn take_turn<R: Wait>(&self, rt: &R) -> MutexGuard<'_, bool> {
-        self.turn.lock(rt)
+    pub(crate) fn take_turn<R: Wait>(&self, rt: &R) -> MutexGuard<'_, Backlog> {
+        self.backlog.lock(rt)
     }
 
-    /// The keeper hears of an edit that was answered Done, by its receipt: it has happened. Where an allocation fails nothing is
-    /// kept any more.
-    pub(crate) fn tell<R: Wait>(&self, rt: &R, receipt: Receipt)
-        requires { HasUsed receipt.process (BeginEdit (record { process = receipt.process; cell = receipt.cell; text = receipt.text })) (Answered (Edit (Done receipt.number))) }
-    {
-        let mut backlog = self.backlog.lock(rt);
-        if backlog.edits.push(answered_edit(receipt)).is_err() {
-            backlog.phase = Phase::Failed;
-        }
-        backlog.heard = backlog.heard.saturating_add(1);
+    /// Wakes the keeper, which has heard of something.
+    pub(crate) fn wake(&self) {
         self.news.notify_one();
     }
 
-    /// Waits until all edits that the keeper has heard of are kept. False where that failed.
-    pub(crate) fn wait_for_all<R: Wait>(&self, rt: &R) -> bool {
+    /// Waits until all edits are kept that the keeper has heard of, also that which is being made. None where they cannot
+    /// be.
+    pub(crate) fn wait_for_all<R: Wait>(&self, rt: &R) -> Option<AllKept> {
         let backlog = self.backlog.lock(rt);
-        let wanted = backlog.heard;
+        let heard = backlog.heard;
         let backlog = self.done.wait_while(rt, backlog, |backlog| {
-            backlog.kept < wanted && backlog.phase != Phase::Failed
+            backlog.kept.count < heard && backlog.phase != Phase::Failed
         });
-        backlog.kept >= wanted
+        backlog.kept.permit(heard)
     }
 
     /// No more edits come.
@@ -137,8 +227,11 @@ impl Keeping {
         let (mut backlog, _) = self.news.wait_timeout_while(rt, backlog, tick, |backlog| {
             backlog.edits.is_empty() && backlog.phase == Phase::Keeps
         });
+        if backlog.phase == Phase::Failed {
+            return News::Over;
+        }
         if !backlog.edits.is_empty() {
-            return News::Edits(mem::replace(&mut backlog.edits, Vec::new(alloc)));
+            return News::Edits(backlog.take(alloc));
         }
         match backlog.phase {
             Phase::Keeps => News::Nothing,
@@ -146,22 +239,20 @@ impl Keeping {
         }
     }
 
-    // This number of edits more is kept.
-    pub(crate) fn count<R: Wait>(&self, rt: &R, count: usize) {
-        let mut backlog = self.backlog.lock(rt);
-        backlog.kept = backlog.kept.saturating_add(count as u64);
+    // The edits of a commit are kept: whoever waits for them may go on.
+    pub(crate) fn count<R: Wait>(&self, rt: &R, committed: &Committed) {
+        self.backlog.lock(rt).keep(committed);
         self.done.notify_all();
     }
 
-    // Whether something could not be kept.
-    pub(crate) fn has_failed<R: Wait>(&self, rt: &R) -> bool {
-        self.backlog.lock(rt).phase == Phase::Failed
+    // That all is kept, if it is, and no more comes.
+    pub(crate) fn drained<R: Wait>(&self, rt: &R) -> Option<Drained> {
+        self.backlog.lock(rt).drained()
     }
 
     // Nothing is kept any more.
     pub(crate) fn fail<R: Wait>(&self, rt: &R) {
-        let mut backlog = self.backlog.lock(rt);
-        backlog.phase = Phase::Failed;
+        self.backlog.lock(rt).phase = Phase::Failed;
         self.done.notify_all();
     }
 }

@@ -1,24 +1,24 @@
-//! Sessions over a sheet that threads share, or that lies behind a lock, and a server of them.
+//! Serves connections over TCP, each in its thread, over a sheet that the threads share; with a store of its edits or
+//! without one.
 #![tactic(auto)]
 
 mod accepting;
 mod connection;
 pub mod counts;
-pub mod desk;
 pub mod door;
 mod durable_writer;
 mod farewell;
 pub mod floor;
 pub mod keeper;
 pub mod keeping;
-pub mod locked_floor;
+pub mod permit;
 pub mod queues;
 pub mod server;
-mod settle;
 pub mod shared_desk;
 pub mod shared_floor;
 mod shared_settle;
 pub mod stored;
+pub mod stored_desk;
+pub mod stored_floor;
 pub mod visit;
 mod wire;
-mod worker;

@@ -9,7 +9,7 @@ use crate::counts::{Counts, Taken};
 use crate::door::Door;
 use crate::floor::Floor;
 use crate::queues::queues as own_queues;
-use crate::shared_floor::{SharedFloor, all_seats};
+use crate::shared_floor::SharedFloor;
 use crate::wire::ticks_of;
 use crossbeam_queue::ArrayQueue;
 use ds_layout::layout::Layout;
@@ -17,6 +17,7 @@ use ds_order::known::KnownReferences;
 use ds_shared_seats::seat::Seat;
 use ds_shared_seats::sheet::OpenSheet;
 use ds_store::fault::StoreFault;
+use ds_store::seated::SeatedSheet;
 use log::{Log, error, info, warn};
 use std::alloc::{AllocError, Global};
 use std::io::{self, ErrorKind};
@@ -223,7 +224,12 @@ fn is_closed(alloc: Global, sheet: OpenSheet) -> bool {
 }
 
 // Closes the sheet with the seats of all its processes, and says in the log where one is lost.
-fn close<R: Wait + Log>(rt: &R, alloc: Global, sheet: OpenSheet, queues: &[ArrayQueue<Seat>]) {
+pub(crate) fn close<R: Wait + Log>(
+    rt: &R,
+    alloc: Global,
+    sheet: OpenSheet,
+    queues: &[ArrayQueue<Seat>],
+) {
     give_back(rt, queues);
     if !is_closed(alloc, sheet) {
         error!(rt; "a process was lost");
@@ -238,8 +244,7 @@ fn opened<R: Wait>(
     layout: Layout,
 ) -> Option<(OpenSheet, Vec<ArrayQueue<Seat>>, KnownReferences)> {
     let references = KnownReferences::new(alloc, layout.shape).ok()?;
-    let mut sheet = OpenSheet::make(alloc, layout).ok()?;
-    let seats = all_seats(alloc, &mut sheet)?;
+    let (sheet, seats) = SeatedSheet::make(alloc, layout).ok()?.into_parts();
     let queues = own_queues(rt, alloc, seats).ok()?;
     Some((sheet, queues, references))
 }

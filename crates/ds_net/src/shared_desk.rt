@@ -25,14 +25,14 @@ use std::time::Clock;
 /// What one session sees of a sheet that threads share: the seats that nobody has, and the one that it has taken.
 #[derive(Drop)]
 pub struct SharedDesk<'a, R: Wait + Clock> {
-    rt: &'a R,
-    shape: Shape,
-    queues: &'a [ArrayQueue<Seat>],
+    pub(crate) rt: &'a R,
+    pub(crate) shape: Shape,
+    pub(crate) queues: &'a [ArrayQueue<Seat>],
     open: usize,
     visit: &'a Visit<'a>,
     references: &'a KnownReferences,
     course: Course,
-    seat: Option<Seat>,
+    pub(crate) seat: Option<Seat>,
 }
 
 impl<'a, R: Wait + Clock> SharedDesk<'a, R> {
@@ -61,6 +61,22 @@ impl<'a, R: Wait + Clock> SharedDesk<'a, R> {
     }
 }
 
+impl<'a, R: Wait + Clock> SharedDesk<'a, R> {
+    // Counts an edit that has ended so, and notes the references of a text that was set.
+    pub(crate) fn noted(
+        &self,
+        alloc: Global,
+        cell: Cell,
+        text: &[u8],
+        end: &Result<EditEnd, CallRefusal>,
+    ) {
+        if let Ok(EditEnd::Done(_)) = end {
+            self.references.note(alloc, cell, text);
+        }
+        self.visit.counts_set(end);
+    }
+}
+
 // What a recovery reports. It is stopped only after more steps than it can take.
 fn last_of(ended: Ended<RecoveryEnd>) -> Result<Option<LastEdit>, CallRefusal>
     ensures { last_view result ≡ last_said ended }
@@ -85,7 +101,12 @@ fn ended(ended: Ended<EditEnd>) -> Result<EditEnd, CallRefusal>
 }
 
 // A whole edit. A cell that the seat's sheet has not is another sheet's, as its process is.
-fn edited(alloc: Global, seat: &mut Seat, cell: Cell, text: &[u8]) -> Result<EditEnd, CallRefusal>
+pub(crate) fn edited(
+    alloc: Global,
+    seat: &mut Seat,
+    cell: Cell,
+    text: &[u8],
+) -> Result<EditEnd, CallRefusal>
     ensures { HasSet seat.old cell text.now (set_view result) (Some seat.new) }
 {
     match seat.edit(alloc, cell, text, STEPS_MOST) {
@@ -117,10 +138,11 @@ fn reported<R: Wait + Clock>(
     alloc: Global,
     seat: &mut Seat,
     course: &Course,
+    visit: &Visit<'_>,
 ) -> Result<Reported, CallRefusal>
     ensures { HasReported seat.old (report_view result) (Some seat.new) }
 {
-    shared_settle(rt, alloc, seat, course)?;
+    shared_settle(rt, alloc, seat, course, visit)?;
     let how = seat.show(alloc, STEPS_MOST);
     reported_as(alloc, how, seat)
 }
@@ -197,10 +219,7 @@ impl<'a, R: Wait + Clock> Desk for SharedDesk<'a, R> {
             return Err(CallRefusal::ProcessTaken);
         };
         let end = edited(alloc, seat, cell, text);
-        if let Ok(EditEnd::Done(_)) = end {
-            self.references.note(alloc, cell, text);
-        }
-        self.visit.counts_set(&end);
+        self.noted(alloc, cell, text, &end);
         end
     }
 
@@ -209,7 +228,7 @@ impl<'a, R: Wait + Clock> Desk for SharedDesk<'a, R> {
             return Err(CallRefusal::ProcessTaken);
         };
         self.course.renew(alloc, self.references);
-        let end = reported(self.rt, alloc, seat, &self.course);
+        let end = reported(self.rt, alloc, seat, &self.course, self.visit);
         self.visit.counts_report(&end);
         end
     }

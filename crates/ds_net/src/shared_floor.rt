@@ -1,10 +1,10 @@
 //! A sheet that threads share, as a server serves it.
 
 use crate::floor::Floor;
+use crate::permit::Permit;
 use crate::queues::put_back;
-use crate::settle::{REST, Round};
 use crate::shared_desk::SharedDesk;
-use crate::shared_settle::{STEPS_MOST, shared_round};
+use crate::shared_settle::{REST, Round, STEPS_MOST, shared_round};
 use crate::visit::Visit;
 use crossbeam_queue::ArrayQueue;
 use ds_formula::cells::Shape;
@@ -14,7 +14,6 @@ use ds_script_io::streams::{Reading, Writing};
 use ds_server::desk::CallRefusal;
 use ds_server::session::{SessionEnd, session};
 use ds_shared_seats::seat::Seat;
-use ds_shared_seats::sheet::OpenSheet;
 use std::alloc::Global;
 use std::io::{Read, Write};
 use std::sync::{Mutex, Wait};
@@ -46,20 +45,9 @@ impl<'a> SharedFloor<'a> {
     }
 }
 
-/// The seats of all processes of a sheet, in their order; none where an allocation fails, or one was taken.
-pub fn all_seats(alloc: Global, sheet: &mut OpenSheet) -> Option<Vec<Seat>> {
-    let processes = sheet.layout().processes;
-    let mut seats = Vec::with_capacity(alloc, processes).ok()?;
-    for process in 0..processes {
-        let seat = sheet.take(alloc, process).ok()?;
-        seats.push(seat).ok()?;
-    }
-    Some(seats)
-}
-
 // One round over the cells. Whether there was work.
 fn round(alloc: Global, seat: &mut Seat, course: &Course) -> bool {
-    match shared_round(alloc, seat, course) {
+    match shared_round(alloc, seat, course, None) {
         Ok(round) => round == Round::Worked,
         Err(why) => {
             if why == CallRefusal::Stopped {
@@ -90,9 +78,37 @@ fn go_round<R: Wait + Clock>(
     }
 }
 
+impl<'a> SharedFloor<'a> {
+    // A desk for one session over the sheet.
+    pub(crate) fn desk<'b, R: Wait + Clock>(
+        &'b self,
+        rt: &'b R,
+        alloc: Global,
+        visit: &'b Visit<'b>,
+    ) -> SharedDesk<'b, R> {
+        SharedDesk::new(
+            rt,
+            alloc,
+            self.shape,
+            self.queues,
+            self.open,
+            visit,
+            self.references,
+        )
+    }
+}
+
 impl<'a> Floor for SharedFloor<'a> {
+    ghost use Rattle.std.specs.Prelude.{false};
+
+    ghost keeps = { false };
+
     fn processes(&self) -> usize {
         self.queues.len()
+    }
+
+    fn permit<R: Wait>(&self, _rt: &R) -> Option<Permit> {
+        Some(Permit::NothingToKeep)
     }
 
     fn sit<I: Read, O: Write, R: Wait + Clock>(
@@ -103,15 +119,7 @@ impl<'a> Floor for SharedFloor<'a> {
         writer: &mut Writing<O>,
         visit: &Visit<'_>,
     ) -> SessionEnd {
-        let mut desk = SharedDesk::new(
-            rt,
-            alloc,
-            self.shape,
-            self.queues,
-            self.open,
-            visit,
-            self.references,
-        );
+        let mut desk = self.desk(rt, alloc, visit);
         session(alloc, reader, writer, &mut desk)
     }
 

@@ -1,7 +1,6 @@
 //! What one session notes of itself beside its calls.
 
 use crate::door::Door;
-use crate::keeping::Keeping;
 use ds_server::desk::{CallRefusal, Reported};
 use ds_state::answer::EditEnd;
 use std::sync::atomic::{AtomicBool, AtomicU64, Ordering};
@@ -15,6 +14,8 @@ pub struct Visit<'a> {
     joined: AtomicU64,
     idle: AtomicBool,
     lost: AtomicBool,
+    // For how many ticks its client has taken nothing since the server was asked to stop.
+    late: AtomicU64,
 }
 
 impl<'a> Visit<'a> {
@@ -25,6 +26,7 @@ impl<'a> Visit<'a> {
             joined: AtomicU64::new(0),
             idle: AtomicBool::new(false),
             lost: AtomicBool::new(false),
+            late: AtomicU64::new(0),
         }
     }
 
@@ -36,19 +38,14 @@ impl<'a> Visit<'a> {
         }
     }
 
-    // Whether the session is to read no more: the server was asked to stop.
+    // Whether the server was asked to stop: the session is to read no more.
     pub(crate) fn is_over(&self) -> bool {
         self.door.is_stopping()
     }
 
-    // Whether the server was asked to stop.
-    pub(crate) fn is_stopping(&self) -> bool {
-        self.door.is_stopping()
-    }
-
-    // What is shared with the keeper of the server's store, if it has one.
-    pub(crate) fn keeping(&self) -> Option<&Keeping> {
-        self.door.keeping()
+    // Its client has taken nothing for a tick more, since the server was asked to stop: for how many in all.
+    pub(crate) fn counts_late(&self) -> u64 {
+        self.late.fetch_add(1, Ordering::SeqCst).wrapping_add(1)
     }
 
     // Its client has neither said nor taken anything for too long.

@@ -1,7 +1,7 @@
-//! A connection that is waited for so long, and no longer.
+//! A connection that is read, and waited for so long, and no longer.
 
 use crate::visit::Visit;
-use std::io::{self, ErrorKind, Read, Write};
+use std::io::{self, ErrorKind, Read};
 use std::net::TcpStream;
 use std::time::Duration;
 
@@ -11,11 +11,8 @@ pub(crate) const TICK: u64 = 250;
 /// How many ticks are in a second.
 const TICKS_A_SECOND: u64 = 4;
 
-// For how many ticks a client that takes nothing is waited for when the server was asked to stop.
-const LATE: u64 = 4;
-
-/// Reads and writes a connection. A read or a write that waits for longer than `ticks` fails, which the visit notes; a
-/// server that was asked to stop reads no more, as if the client had ended.
+/// Reads a connection. A read that waits for longer than `ticks` fails, which the visit notes; a server that was asked to
+/// stop reads no more, as if the client had ended.
 #[derive(Drop)]
 pub(crate) struct Wire<'a> {
     stream: &'a TcpStream,
@@ -84,29 +81,5 @@ impl Read for Wire<'_> {
             }
         }
         Err(self.idle())
-    }
-}
-
-impl Write for Wire<'_> {
-    fn write(&mut self, buf: &[u8]) -> io::Result<usize> {
-        let mut stream = self.stream;
-        let mut late = 0u64;
-        for _ in 0..self.ticks {
-            match stream.write(buf) {
-                Err(error) if error.kind() == ErrorKind::WouldBlock => {}
-                written => return written,
-            }
-            if self.visit.is_stopping() {
-                late = late.saturating_add(1);
-                if late >= LATE {
-                    break;
-                }
-            }
-        }
-        Err(self.idle())
-    }
-
-    fn flush(&mut self) -> io::Result<()> {
-        Ok(())
     }
 }

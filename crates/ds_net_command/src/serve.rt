@@ -9,10 +9,8 @@ use ds_cli::serving::Serving;
 use ds_layout::layout::Layout;
 use ds_net::counts::Taken;
 use ds_net::door::Door;
-use ds_net::keeping::Keeping;
 use ds_net::server::{self, ServeError, Service};
-use ds_net::stored;
-use ds_state::world::World;
+use ds_net::stored::{self, StoredEnd};
 use ds_store::open::Databases;
 use ds_store::store::{Opened, Store, open_or_make};
 use ds_store_commands::stores::{Disk, close, tell_fault};
@@ -144,21 +142,19 @@ fn serve_kept<
 >(
     rt: &R,
     listener: &TcpListener,
-    world: World,
+    opened: Opened<Disk>,
     serving: Serving,
-    store: &mut Store<Disk>,
-) -> Result<Taken, ServeError> {
-    let door = Door::with_store(Some(Keeping::new(rt.alloc())));
+) -> (Result<StoredEnd, ServeError>, Store<Disk>) {
+    let door = Door::new();
     let mut listening = Listening::new(Control::new(rt), rt.reader(), &door);
     let logged = Logged::new(rt, serving.log, rt);
     stored::serve(
         &logged,
         rt.alloc(),
         listener,
-        world,
+        opened,
         &door,
         service_of(serving),
-        store,
         &mut listening,
     )
 }
@@ -171,8 +167,12 @@ fn opened<R: AllocGlobal + Eprint + Databases>(
 ) -> Result<Opened<Disk>, u8>
     requires { IsWithinLimits serving }
 {
+    let layout = Layout {
+        shape: serving.shape,
+        processes: serving.processes,
+    };
     let opened = match rt.open_database(path) {
-        Ok(conn) => open_or_make(rt.alloc(), conn, serving.shape, serving.processes),
+        Ok(conn) => open_or_make(rt.alloc(), conn, layout),
         Err(fault) => Err(fault),
     };
     match opened {
@@ -181,8 +181,8 @@ fn opened<R: AllocGlobal + Eprint + Databases>(
     }
 }
 
-/// Serves so the sheet of the store at this path, behind a lock; the store is made where there is none. Each answer
-/// waits until the edits before it are committed. Where they cannot be, the server stops, and its status says why.
+/// Serves so the sheet of the store at this path; the store is made where there is none. Each answer waits until the edits
+/// are committed that it could tell of. Where they cannot be, the server stops, and its status says why.
 pub fn serve_store<
     R: AllocGlobal
         + Eprint
@@ -197,7 +197,7 @@ pub fn serve_store<
 >(rt: &R, serving: Serving, path: &str) -> u8
     requires { IsWithinLimits serving }
 {
-    let Opened { mut store, sheet } = match opened(rt, serving, path) {
+    let opened = match opened(rt, serving, path) {
         Ok(opened) => opened,
         Err(status) => return status,
     };
@@ -205,8 +205,9 @@ pub fn serve_store<
         Ok(listener) => listener,
         Err(status) => return status,
     };
-    let served = serve_kept(rt, &listener, sheet, serving, &mut store);
-    match ended(rt, serving.listen, path, &served) {
+    let (served, store) = serve_kept(rt, &listener, opened, serving);
+    let taken = served.map(|end| end.taken);
+    match ended(rt, serving.listen, path, &taken) {
         0 => close(rt, path, store),
         status => status,
     }

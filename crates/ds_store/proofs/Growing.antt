@@ -1,22 +1,25 @@
--- What holds of a list that grows by one.
-use Rattle.std.proofs.Common.{◌≡◌, ◌+◌, ◌++◌, ◌∷◌, ◌<◌, [], ℕ, List, inl, inr, map, sym, subst, arith}
-use Rattle.std.proofs.lemmas.List.{map-append}
-use Rattle.std.proofs.lemmas.Bool.{cases_lt}
-use Rattle.ds_state.specs.Value.{WorldValue}
-use Rattle.ds_store_journal.specs.Journals.{Keeps}
-use Rattle.ds_store.specs.declared.edit.AnsweredEdit.{AnsweredEdit}
-use Rattle.ds_store.specs.Stores.{KeepAll, asked_by}
+-- A journal that grows by a line.
+use Rattle.std.proofs.Common.{◌≡◌, ◌++◌, ◌∷◌, [], ℕ, List, true, false, Some, Result, Ok, Err, IfOk, OnOk}
+use Rattle.ds_layout.specs.declared.layout.Layout.{Layout}
+use Rattle.ds_script_io.specs.Fields.{is_skipped}
+use Rattle.ds_store_journal.specs.Journals.{AreCounts, IsJournal, KeptEdit, asked_by, edit_in, edits_by}
+use Rattle.ds_store.specs.Stores.{GoesOn}
 
--- what holds below a number, and of it, holds below the next
-pub extends : (P : ℕ → Type 0) (n : ℕ) → ((k : ℕ) → k < n → P k) → P n → (k : ℕ) → k < n + 1 → P k
-extends P n all last k low = elim (cases_lt k n) [
-  | inl below ↦ all k below
-  | inr above ↦ let same : k ≡ n = omega (arith, above, low) in subst P (sym same) last
-]
+-- by a line that is passed over
+pub passes_over : (layout : Layout) (counts : List ℕ) (lines : List (List ℕ)) (line : List ℕ) (edits : List KeptEdit) → GoesOn layout counts lines edits → is_skipped line ≡ true
+    → GoesOn layout counts (lines ++ line ∷ []) edits
+passes_over layout counts lines line edits g is = record { journal = IsJournal.skips lines line edits g.journal is; counts_are = g.counts_are }
 
--- lines that keep edits, with one more
-pub keeps_one : {A : Type 0} (f : A → List ℕ) (old mid new : WorldValue) (edits more : List AnsweredEdit) (edit : AnsweredEdit) (texts grown : List A) (text : A)
-    → KeepAll old edits (map f texts) mid → Keeps mid (asked_by edit) edit.number (f text) new → more ≡ edits ++ edit ∷ [] → grown ≡ texts ++ text ∷ []
-    → KeepAll old more (map f grown) new
-keeps_one f old mid new edits more edit texts grown text so one is are =
-    rw (is, are, map-append f texts (text ∷ [])) (KeepAll.one old mid new edits (map f texts) edit (f text) so one)
+-- by the line of an edit
+pub keeps_one : (layout : Layout) (old new : List ℕ) (lines : List (List ℕ)) (line : List ℕ) (edits : List KeptEdit) (edit : KeptEdit) → GoesOn layout old lines edits → is_skipped line ≡ false
+    → edit_in layout line ≡ Some (asked_by edit) → edit.number ≡ edits_by edit.process edits → AreCounts new (edits ++ edit ∷ []) → GoesOn layout new (lines ++ line ∷ []) (edits ++ edit ∷ [])
+keeps_one layout old new lines line edits edit g is asks number are = record { journal = IsJournal.keeps lines line edits edit g.journal is asks number; counts_are = are }
+
+-- where it is so of what came well, so is what follows of it
+pub if_ok : {T E : Type 0} {P Q : T → Type 0} (r : Result T E) → IfOk r P → ((x : T) → P x → Q x) → IfOk r Q
+if_ok (Ok x) h f = f x h
+if_ok (Err e) h f = h
+
+pub on_ok : {T E : Type 0} {P Q : Type 0} (r : Result T E) → OnOk r P → (P → Q) → OnOk r Q
+on_ok (Ok x) h f = f h
+on_ok (Err e) h f = h

@@ -1,1 +1,4 @@
+mod Apart
 mod Growing
+mod Taking
+mod Texting

@@ -1,52 +1,69 @@
--- What a store keeps.
-use Rattle.std.specs.Prelude.{◌≡◌, ◌<◌, ℕ, List, [], ◌∷◌, ◌++◌}
-use Rattle.ds_formula.specs.Cells.{cell_at}
-use Rattle.ds_layout.specs.Places.{cells_of}
-use Rattle.ds_state.specs.Value.{WorldValue, world_of}
-use Rattle.ds_state.specs.Shown.{text_in}
-use Rattle.ds_core.specs.Requests.{PlainRequest}
-use Rattle.ds_core.specs.Takes.{Fits}
-use Rattle.ds_core.specs.declared.event.Event.TheVariants.{Crash}
-use Rattle.ds_core.specs.declared.reply.Reply.{Reply}
-use Rattle.ds_store_journal.specs.Journals.{Follows, Keeps}
+-- What a store keeps, and the sheet that is made of it.
+use Rattle.std.specs.Prelude.{◌≡◌, ◌≢◌, ◌<◌, false, ℕ, List, [], ◌∷◌, ◌++◌, length, slice_index_or}
+use Rattle.ds_layout.specs.declared.layout.Layout.{Layout}
+use Rattle.ds_state.specs.declared.answer.EditEnd.TheVariants.{Done}
+use Rattle.ds_drives.specs.Table.{new_words}
+use Rattle.ds_shared.specs.declared.ended.Ended.TheVariants.{Answered}
+use Rattle.ds_shared.specs.declared.sheet.SharedSheet.{SharedSheet}
+use Rattle.ds_shared.specs.Answers.{IsFresh, opened_with}
+use Rattle.ds_shared_seats.specs.declared.seat.Seat.{Seat}
+use Rattle.ds_shared_seats.specs.Calls.{Edits}
+use Rattle.ds_shared_seats.specs.Sheets.{IsSeatOf}
+use Rattle.ds_store_journal.specs.Journals.{AreCounts, IsJournal, KeptEdit}
 use Rattle.ds_store_table.specs.Tables.{MayHold}
 use Rattle.sqlite.specs.Tree.{Trees}
-use Rattle.ds_store.specs.declared.edit.AnsweredEdit.{AnsweredEdit}
 
--- what the edit asked for
-abbrev pub asked_by : AnsweredEdit → PlainRequest
-asked_by edit = record { process = edit.process; cell = edit.cell; text = edit.text.items }
+-- ---- the sheet
 
--- the lines keep these edits, each its own, and lead from the one world to the other: each edit, made as a whole after
--- those before it, is answered Done with the number that was answered
-pub data KeepAll : WorldValue → List AnsweredEdit → List (List ℕ) → WorldValue → Type 0 where
-  none : (world : WorldValue) → KeepAll world [] [] world
-  one : (old mid new : WorldValue) (edits : List AnsweredEdit) (lines : List (List ℕ)) (edit : AnsweredEdit) (line : List ℕ)
-      → KeepAll old edits lines mid → Keeps mid (asked_by edit) edit.number line new → KeepAll old (edits ++ edit ∷ []) (lines ++ line ∷ []) new
+-- how many steps a call may take that no fuse stops
+abbrev pub STEPS_MOST : ℕ
+STEPS_MOST = 18446744073709551615
 
--- the sheet is what a crash makes of one that the lines lead to
-pub record IsRestarted (lines : List (List ℕ)) (sheet : WorldValue) : Type 0 where
-  pub world : WorldValue
-  pub reply : Reply
-  pub follows : Follows lines world
-  pub crashed : Fits world Crash reply sheet
+-- each process of the sheet has its seat, in order
+pub record AreSeated (s : SharedSheet) (seats : List Seat) : Type 0 where
+  pub count : length seats ≡ s.board.layout.processes
+  pub of : (process : ℕ) (d : Seat) → process < length seats → IsSeatOf s (slice_index_or seats process d)
+  pub process_is : (process : ℕ) (d : Seat) → process < length seats → (slice_index_or seats process d).pass.process ≡ process
+
+-- no seat has begun a call
+abbrev pub AreFresh : List Seat → Type 0
+AreFresh seats = (process : ℕ) (d : Seat) → process < length seats → IsFresh false (slice_index_or seats process d).pass
+
+-- the seat of its process has made the edit, and was answered Done with its number; the other seats are as they were
+pub record MakesEdit (s : SharedSheet) (old : List Seat) (edit : KeptEdit) (new : List Seat) : Type 0 where
+  pub there : edit.process < length old
+  pub edits : (d : Seat) → Edits s edit.cell edit.text STEPS_MOST (slice_index_or old edit.process d).pass (slice_index_or new edit.process d).pass (Answered (Done edit.number))
+  pub others : (process : ℕ) (d : Seat) → process ≢ edit.process → slice_index_or new process d ≡ slice_index_or old process d
+
+-- the seats have made these edits, one after another, and nothing else
+pub data HaveMade (s : SharedSheet) (first : List Seat) : List KeptEdit → List Seat → Type 0 where
+  none : HaveMade s first [] first
+  one : (edits : List KeptEdit) (edit : KeptEdit) (old new : List Seat) → HaveMade s first edits old → MakesEdit s old edit new → HaveMade s first (edits ++ edit ∷ []) new
+
+-- the sheet is a new one of this layout, on which its seats have made these edits one after another, and nothing else
+pub record IsMadeBy (layout : Layout) (edits : List KeptEdit) (s : SharedSheet) (seats : List Seat) : Type 0 where
+  pub layout_is : s.board.layout ≡ layout
+  pub words : opened_with s ≡ new_words layout
+  pub first : List Seat
+  pub fresh : AreFresh first
+  pub seated : AreSeated s first
+  pub made : HaveMade s first edits seats
+
+-- ---- the store
+
+-- the lines are a journal of these edits, and the counts are those of the edits
+pub record GoesOn (layout : Layout) (counts : List ℕ) (lines : List (List ℕ)) (edits : List KeptEdit) : Type 0 where
+  pub journal : IsJournal layout lines edits
+  pub counts_are : AreCounts counts edits
+
+-- the lines lead to this sheet: they are a journal, whose edits have made it
+pub record LeadsTo (layout : Layout) (counts : List ℕ) (s : SharedSheet) (seats : List Seat) (lines : List (List ℕ)) : Type 0 where
+  pub edits : List KeptEdit
+  pub goes_on : GoesOn layout counts lines edits
+  pub made : IsMadeBy layout edits s seats
 
 -- the trees of a database that has these lines, and after them some that keep these edits
-pub record MayKeep (world : WorldValue) (edits : List AnsweredEdit) (before : List (List ℕ)) (trees : Trees) : Type 0 where
+pub record MayKeep (layout : Layout) (held : List (List ℕ)) (kept edits : List KeptEdit) (trees : Trees) : Type 0 where
   pub lines : List (List ℕ)
-  pub new : WorldValue
-  pub keep : KeepAll world edits lines new
-  pub holds : MayHold (before ++ lines) trees
-
--- the sheet has that number of columns, rows and processes
-pub record IsAsked (columns rows processes : ℕ) (world : WorldValue) : Type 0 where
-  pub columns_are : world.sheet.layout.shape.columns ≡ columns
-  pub rows_are : world.sheet.layout.shape.rows ≡ rows
-  pub processes_are : world.sheet.layout.processes ≡ processes
-
--- both sheets have as many columns and rows, and the same text in each cell
-pub record SameTexts (one other : WorldValue) : Type 0 where
-  pub columns_are : other.sheet.layout.shape.columns ≡ one.sheet.layout.shape.columns
-  pub rows_are : other.sheet.layout.shape.rows ≡ one.sheet.layout.shape.rows
-  pub texts : (cell : ℕ) → cell < cells_of one.sheet.layout
-      → text_in (world_of other) (cell_at one.sheet.layout.shape cell) ≡ text_in (world_of one) (cell_at one.sheet.layout.shape cell)
+  pub journal : IsJournal layout (held ++ lines) (kept ++ edits)
+  pub holds : MayHold (held ++ lines) trees

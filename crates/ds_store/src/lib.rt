@@ -1,8 +1,11 @@
 //! The store of a sheet: its journal in a database, from which the sheet is made again.
 #![tactic(auto)]
 
+pub mod committed;
 pub mod compact;
-pub mod edit;
 pub mod fault;
 pub mod open;
+mod replay;
+pub mod seated;
 pub mod store;
+pub mod texts;

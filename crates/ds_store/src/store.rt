@@ -1,94 +1,82 @@
-//! A store: a journal in a database, and the sheet that it leads to.
+//! A store: a journal in a database.
 
-ghost use Rattle.std.specs.Prelude.{◌≡◌, ◌++◌, ◌∷◌, [], ℕ, List, IfOk, OnOk, map};
+ghost use Rattle.std.specs.Prelude.{◌≡◌, ◌++◌, ◌∷◌, [], ℕ, List, true, length, IfOk, OnOk, map};
 ghost use Rattle.std.specs.String.{string_bytes};
 ghost use Rattle.sqlite.specs.Held.{state};
 ghost use Rattle.sqlite.specs.State.{HasCleanDisk, Survives};
-ghost use Rattle.ds_store_journal.specs.Journals.{Follows, Opens};
+ghost use Rattle.ds_store_journal.specs.Journals.{KeptEdit, edits_by, size_of};
 ghost use Rattle.ds_store_table.specs.Tables.{Holds, IsBare};
-ghost use Rattle.ds_store.specs.Stores.{IsAsked, IsRestarted, KeepAll, MayKeep};
+ghost use Rattle.ds_store.specs.Opened.{Leads};
+ghost use Rattle.ds_store.specs.Stores.{GoesOn, MayKeep};
 
-use crate::edit::{AnsweredEdit, kept_all, text_of};
+use crate::committed::Committed;
 use crate::fault::StoreFault;
-use ds_core::event::Event;
-use ds_core::take::take;
+use crate::replay::{Replay, replayed};
+use crate::seated::SeatedSheet;
 use ds_formula::cells::Shape;
 use ds_layout::layout::Layout;
-use ds_state::world::World;
-use ds_store_journal::journal::{self, begin, follow};
+use ds_store_journal::counts::EditCounts;
+use ds_store_journal::edit::AnsweredEdit;
+use ds_store_journal::fault::JournalFault;
+use ds_store_journal::journal::{edit_line, sheet_line};
 use ds_store_table::lines;
 use sqlite::{Alter, Connection};
 use std::alloc::Global;
-use std::slice;
 
-/// A journal in a database, and a sheet of its own, to which its lines lead: by that sheet it is seen, before a line is
-/// committed, that the line can be followed, and gives the number that was answered.
+/// A journal in a database. It goes on from the edits that its lines keep: of each process it knows how many they are.
 ///
 /// After an error nothing more is to be kept in it; what was committed stands.
 #[derive(Drop)]
 pub struct Store<S: Alter + Drop> {
-    pub(crate) conn: Connection<S>,
-    pub(crate) world: World,
+    conn: Connection<S>,
+    layout: Layout,
+    counts: EditCounts,
 }
 
-/// A store that is open, and the sheet that a program begins with.
+/// A store that is open, and the sheet that its edits have made.
 #[derive(Drop)]
 pub struct Opened<S: Alter + Drop> {
     /// The store.
     pub store: Store<S>,
-    /// The sheet that the lines lead to, after a crash: all its processes have stopped, and a recovery reports each how
-    /// its last edit ended.
-    pub sheet: World,
+    /// A new sheet, on which the edits that the store keeps were made again, one after another.
+    pub sheet: SeatedSheet,
+    /// The lines of the store's journal, all of them.
+    pub lines: Vec<String>,
 }
 
-// Follows the lines after the first one, each in its turn.
-fn follow_rest(alloc: Global, world: &mut World, rest: &[String]) -> Result<(), StoreFault>
-    ensures { OnOk result ((before : List (List ℕ)) → Follows before world.old → Follows (before ++ map string_bytes rest.now) world.new) }
+// The line of an edit that is to have the next number of its process.
+fn kept(
+    alloc: Global,
+    layout: &Layout,
+    counts: &mut EditCounts,
+    edit: &AnsweredEdit,
+) -> Result<String, JournalFault>
+    ensures { IfOk result (λ line. (lines : List (List ℕ)) (edits : List KeptEdit) → GoesOn layout.now counts.old.counts.items lines edits
+        → GoesOn layout.now counts.new.counts.items (lines ++ string_bytes line ∷ []) (edits ++ edit.now ∷ [])) }
 {
-    let mut number = 1usize;
-    for line in rest {
-        number = number.saturating_add(1);
-        if let Err(fault) = follow(alloc, world, line.as_bytes()) {
-            return Err(StoreFault::at_line(number, fault));
-        }
+    if counts.count(edit.process) == Some(edit.number) {
+        edit_line(alloc, layout, edit)
+    } else {
+        Err(JournalFault::Other)
     }
-    Ok(())
 }
 
-// Follows lines from the first one on: the sheet that they lead to.
-fn followed(alloc: Global, lines: &[String]) -> Result<World, StoreFault>
-    ensures { IfOk result (λ world. Follows (map string_bytes lines.now) world) }
+// The lines of edits, in their order. An error is that of the first edit that cannot be kept.
+fn kept_all(
+    alloc: Global,
+    layout: &Layout,
+    counts: &mut EditCounts,
+    edits: &[AnsweredEdit],
+) -> Result<Vec<String>, JournalFault>
+    ensures { IfOk result (λ texts. (lines : List (List ℕ)) (before : List KeptEdit) → GoesOn layout.now counts.old.counts.items lines before
+        → GoesOn layout.now counts.new.counts.items (lines ++ map string_bytes texts.items) (before ++ edits.now)) }
 {
-    let Some((first, rest)) = lines.split_first() else {
-        return Err(StoreFault::Missing(1));
-    };
-    let mut world = match begin(alloc, first.as_bytes()) {
-        Ok(world) => world,
-        Err(fault) => return Err(StoreFault::at_line(1, fault)),
-    };
-    follow_rest(alloc, &mut world, rest)?;
-    Ok(world)
-}
-
-// The sheet that lines lead to, after a crash.
-fn restarted(alloc: Global, lines: &[String]) -> Result<World, StoreFault>
-    ensures { IfOk result (IsRestarted (map string_bytes lines.now)) }
-{
-    let mut world = followed(alloc, lines)?;
-    let _crashed = take(alloc, &mut world, &Event::Crash);
-    Ok(world)
-}
-
-// The first line of a new sheet, and the sheet.
-fn begun(alloc: Global, shape: Shape, processes: usize) -> Result<(String, World), StoreFault>
-    ensures { IfOk result (λ new. Opens shape.columns shape.rows processes (string_bytes new.0) new.1) }
-{
-    let journal::OpenedJournal { line, world } = match journal::open(alloc, shape, processes) {
-        Ok(opened) => opened,
-        Err(fault) => return Err(StoreFault::at_line(1, fault)),
-    };
-    let line = text_of(alloc, &line)?;
-    Ok((line, world))
+    let mut texts = Vec::with_capacity(alloc, edits.len())?;
+    for edit in edits {
+        let text = kept(alloc, layout, counts, edit)?;
+        texts.push_reserved(text);
+    }
+    Ok(texts)
 }
 
 // Commits lines in a database that has nothing.
@@ -105,95 +93,110 @@ fn with_lines<S: Alter + Drop>(
 }
 
 impl<S: Alter + Drop> Store<S> {
-    /// Makes the store of a new sheet of this shape with that number of processes, 1 to 8, in a database that has
-    /// nothing: its first line is committed. Where the database has something, or there is no such sheet, it is an
-    /// error.
-    pub fn make(
-        alloc: Global,
-        conn: Connection<S>,
-        shape: Shape,
-        processes: usize,
-    ) -> Result<Opened<S>, StoreFault>
-        ensures opens { IfOk result (λ opened. (line : List ℕ) × Opens shape.columns shape.rows processes line opened.store.world
-            × IsRestarted (line ∷ []) opened.sheet
-            × (HasCleanDisk (state S.Store opened.store.conn) → IsBare (state S.Store conn).now
-            → Holds (line ∷ []) (state S.Store opened.store.conn).now × Holds (line ∷ []) (state S.Store opened.store.conn).committed)) }
-    {
-        let (line, world) = begun(alloc, shape, processes)?;
-        // (one line as a list of its own: an array that owns it would be dear to prove)
-        let conn = with_lines(conn, slice::from_ref(&line))?;
-        let sheet = restarted(alloc, slice::from_ref(&line))?;
-        let store = Store { conn, world };
-        Ok(Opened { store, sheet })
-    }
-
-    /// Opens the store in a database: all its lines are read, and followed, each in its turn. An error says which line
-    /// is missing, or cannot be followed.
-    pub fn open(alloc: Global, conn: Connection<S>) -> Result<Opened<S>, StoreFault>
-        ensures opens { IfOk result (λ opened. (lines : List (List ℕ)) × Follows lines opened.store.world × IsRestarted lines opened.sheet
-            × (HasCleanDisk (state S.Store opened.store.conn) → (held : List (List ℕ)) → Holds held (state S.Store conn).now
-            → (held ≡ lines) × Holds lines (state S.Store opened.store.conn).now)) }
-    {
-        let mut conn = conn;
-        let texts = lines::read(alloc, &mut conn)?;
-        let world = followed(alloc, &texts)?;
-        let sheet = restarted(alloc, &texts)?;
-        let store = Store { conn, world };
-        Ok(Opened { store, sheet })
-    }
-
     /// Makes the store of these lines, in a database that has nothing: they are followed first, each in its turn. An
     /// error says which line cannot be followed.
     pub fn of_lines(
         alloc: Global,
         conn: Connection<S>,
-        texts: &[String],
-    ) -> Result<Store<S>, StoreFault>
-        ensures { IfOk result (λ store. Follows (map string_bytes texts.now) store.world
-            × (HasCleanDisk (state S.Store store.conn) → IsBare (state S.Store conn).now
-            → Holds (map string_bytes texts.now) (state S.Store store.conn).now × Holds (map string_bytes texts.now) (state S.Store store.conn).committed)) }
+        lines: Vec<String>,
+    ) -> Result<Opened<S>, StoreFault>
+        ensures lines { IfOk result (λ opened. opened.lines ≡ lines) }
+        ensures leads { IfOk result (λ opened. Leads opened.store.layout opened.store.counts.counts.items opened.sheet (map string_bytes opened.lines.items)) }
+        ensures holds { IfOk result (λ opened. HasCleanDisk (state S.Store opened.store.conn) → IsBare (state S.Store conn).now
+            → Holds (map string_bytes opened.lines.items) (state S.Store opened.store.conn).now × Holds (map string_bytes opened.lines.items) (state S.Store opened.store.conn).committed) }
     {
-        let world = followed(alloc, texts)?;
-        let conn = with_lines(conn, texts)?;
-        Ok(Store { conn, world })
+        let Replay {
+            layout,
+            counts,
+            sheet,
+        } = replayed(alloc, &lines)?;
+        let conn = with_lines(conn, &lines)?;
+        Ok(Opened {
+            store: Store {
+                conn,
+                layout,
+                counts,
+            },
+            sheet,
+            lines,
+        })
     }
 
-    /// Keeps edits, in their order: their lines are committed together, all or none, when it returns. Each was seen to
-    /// be followed, and to be answered Done with the number that was answered.
-    pub fn keep_all(&mut self, alloc: Global, edits: &[AnsweredEdit]) -> Result<(), StoreFault>
-        ensures kept { OnOk result ((lines : List (List ℕ)) × KeepAll self.old.world edits.now lines self.new.world
-            × (HasCleanDisk (state S.Store self.new.conn) → (before : List (List ℕ)) → Holds before (state S.Store self.old.conn).now
-            → Holds (before ++ lines) (state S.Store self.new.conn).now × Holds (before ++ lines) (state S.Store self.new.conn).committed)) }
-        ensures crash { (before : List (List ℕ)) → Holds before (state S.Store self.old.conn).now
-            → Survives (state S.Store self.old.conn) (state S.Store self.new.conn) (MayKeep self.old.world edits.now before) }
+    /// Makes the store of a new sheet of this layout, in a database that has nothing: its first line is committed. Where
+    /// the database has something it is an error.
+    pub fn make(alloc: Global, conn: Connection<S>, layout: Layout) -> Result<Opened<S>, StoreFault>
+        ensures leads { IfOk result (λ opened. Leads opened.store.layout opened.store.counts.counts.items opened.sheet (map string_bytes opened.lines.items)) }
+        ensures one { IfOk result (λ opened. length opened.lines.items ≡ 1) }
+        ensures holds { IfOk result (λ opened. HasCleanDisk (state S.Store opened.store.conn) → IsBare (state S.Store conn).now
+            → Holds (map string_bytes opened.lines.items) (state S.Store opened.store.conn).now × Holds (map string_bytes opened.lines.items) (state S.Store opened.store.conn).committed) }
     {
-        let texts = kept_all(alloc, &mut self.world, edits)?;
+        let line = match sheet_line(alloc, &layout) {
+            Ok(line) => line,
+            Err(fault) => return Err(StoreFault::at_line(1, fault)),
+        };
+        let mut lines = Vec::with_capacity(alloc, 1)?;
+        lines.push_reserved(line);
+        Store::of_lines(alloc, conn, lines)
+    }
+
+    /// Opens the store in a database: all its lines are read, and followed, each in its turn. An error says which line
+    /// is missing, or cannot be followed.
+    pub fn open(alloc: Global, conn: Connection<S>) -> Result<Opened<S>, StoreFault>
+        ensures leads { IfOk result (λ opened. Leads opened.store.layout opened.store.counts.counts.items opened.sheet (map string_bytes opened.lines.items)) }
+        ensures holds { IfOk result (λ opened. HasCleanDisk (state S.Store opened.store.conn) → (held : List (List ℕ)) → Holds held (state S.Store conn).now
+            → (map string_bytes opened.lines.items ≡ held) × Holds held (state S.Store opened.store.conn).now) }
+    {
+        let mut conn = conn;
+        let lines = lines::read(alloc, &mut conn)?;
+        let Replay {
+            layout,
+            counts,
+            sheet,
+        } = replayed(alloc, &lines)?;
+        Ok(Opened {
+            store: Store {
+                conn,
+                layout,
+                counts,
+            },
+            sheet,
+            lines,
+        })
+    }
+
+    /// Keeps edits, in their order: their lines are committed together, all or none, when it returns. Each has the next
+    /// number of its process, and its line was read again.
+    pub fn keep_all(
+        &mut self,
+        alloc: Global,
+        edits: Vec<AnsweredEdit>,
+    ) -> Result<Committed, StoreFault>
+        ensures committed { IfOk result (λ c. c.edits ≡ edits) }
+        ensures layout { self.new.layout ≡ self.old.layout }
+        ensures kept { IfOk result (λ c. (lines : List (List ℕ))
+            × ((held : List (List ℕ)) (before : List KeptEdit) → GoesOn self.old.layout self.old.counts.counts.items held before → GoesOn self.new.layout self.new.counts.counts.items (held ++ lines) (before ++ edits.items))
+            × (HasCleanDisk (state S.Store self.new.conn) → (held : List (List ℕ)) → Holds held (state S.Store self.old.conn).now
+            → Holds (held ++ lines) (state S.Store self.new.conn).now × Holds (held ++ lines) (state S.Store self.new.conn).committed)) }
+        ensures crash { (held : List (List ℕ)) (before : List KeptEdit) → GoesOn self.old.layout self.old.counts.counts.items held before → Holds held (state S.Store self.old.conn).now
+            → Survives (state S.Store self.old.conn) (state S.Store self.new.conn) (MayKeep self.old.layout held before edits.items) }
+    {
+        let texts = kept_all(alloc, &self.layout, &mut self.counts, &edits)?;
         lines::append(&mut self.conn, &texts)?;
-        Ok(())
-    }
-
-    /// The sheet that the lines lead to.
-    pub fn sheet(&self) -> &World
-        ensures { result.now ≡ self.now.world }
-    {
-        &self.world
+        Ok(Committed::of(edits))
     }
 
     /// The shape of the sheet, and how many processes it has.
     pub fn layout(&self) -> Layout
-        ensures { result ≡ self.now.world.sheet.layout }
+        ensures { result ≡ self.now.layout }
     {
-        self.world.words.layout()
+        self.layout
     }
 
-    /// The lines of the journal, all of them.
-    pub fn lines(&mut self, alloc: Global) -> Result<Vec<String>, StoreFault>
-        ensures world { self.new.world ≡ self.old.world }
-        ensures lines { HasCleanDisk (state S.Store self.new.conn) → (held : List (List ℕ)) → Holds held (state S.Store self.old.conn).now
-            → IfOk result (λ texts. (map string_bytes texts.items ≡ held) × Holds held (state S.Store self.new.conn).now) }
+    /// How many edits of the process it keeps. 0 of a process that the sheet has not.
+    pub fn edits_of(&self, process: usize) -> usize
+        ensures { (lines : List (List ℕ)) (edits : List KeptEdit) → GoesOn self.now.layout self.now.counts.counts.items lines edits → result ≡ edits_by process edits }
     {
-        let texts = lines::read(alloc, &mut self.conn)?;
-        Ok(texts)
+        self.counts.of(process)
     }
 
     /// The database.
@@ -205,34 +208,54 @@ impl<S: Alter + Drop> Store<S> {
 }
 
 /// Whether a database has nothing.
-pub fn is_bare<S: Alter>(conn: &Connection<S>) -> bool {
+pub fn is_bare<S: Alter>(conn: &Connection<S>) -> bool
+    ensures bare { result ≡ true → IsBare (state S.Store conn.now).now }
+    ensures other { IsBare (state S.Store conn.now).now → result ≡ true }
+{
     let schema = conn.schema();
     schema.tables.is_empty() && schema.indexes.is_empty() && schema.views.is_empty()
 }
 
-/// The store in a database: made, for a new sheet of this shape with that number of processes, 1 to 8, where the
-/// database has nothing; else opened, and its sheet has to have that shape and that number of processes.
-pub fn open_or_make<S: Alter + Drop>(
-    alloc: Global,
-    conn: Connection<S>,
-    shape: Shape,
-    processes: usize,
-) -> Result<Opened<S>, StoreFault>
-    ensures { IfOk result (λ opened. IsAsked shape.columns shape.rows processes opened.store.world × ((lines : List (List ℕ)) × Follows lines opened.store.world × IsRestarted lines opened.sheet)) }
+// That the sheet of a store has this layout: as many columns, rows and processes.
+fn asked<S: Alter + Drop>(store: &Store<S>, layout: &Layout) -> Result<(), StoreFault>
+    ensures { OnOk result (size_of store.now.layout ≡ size_of layout.now) }
 {
-    if is_bare(&conn) {
-        return Store::make(alloc, conn, shape, processes);
-    }
-    let opened = Store::open(alloc, conn)?;
-    let layout = opened.store.layout();
-    let Shape { columns, rows, .. } = layout.shape;
-    if columns == shape.columns && rows == shape.rows && layout.processes == processes {
-        Ok(opened)
+    let found = store.layout;
+    let Shape { columns, rows, .. } = found.shape;
+    if columns == layout.shape.columns
+        && rows == layout.shape.rows
+        && found.processes == layout.processes
+    {
+        Ok(())
     } else {
         Err(StoreFault::OtherSheet {
             columns,
             rows,
-            processes: layout.processes,
+            processes: found.processes,
         })
     }
+}
+
+/// The store in a database: made, for a new sheet of this layout, where the database has nothing; else opened, and its
+/// sheet has to have that layout.
+pub fn open_or_make<S: Alter + Drop>(
+    alloc: Global,
+    conn: Connection<S>,
+    layout: Layout,
+) -> Result<Opened<S>, StoreFault>
+    ensures asked { IfOk result (λ opened. size_of opened.store.layout ≡ size_of layout) }
+    ensures leads { IfOk result (λ opened. Leads opened.store.layout opened.store.counts.counts.items opened.sheet (map string_bytes opened.lines.items)) }
+    ensures opens { IfOk result (λ opened. HasCleanDisk (state S.Store opened.store.conn) → (held : List (List ℕ)) → Holds held (state S.Store conn).now
+        → (map string_bytes opened.lines.items ≡ held) × Holds held (state S.Store opened.store.conn).now) }
+    ensures makes { IfOk result (λ opened. HasCleanDisk (state S.Store opened.store.conn) → IsBare (state S.Store conn).now
+        → (length opened.lines.items ≡ 1) × Holds (map string_bytes opened.lines.items) (state S.Store opened.store.conn).now × Holds (map string_bytes opened.lines.items) (state S.Store opened.store.conn).committed) }
+{
+    if is_bare(&conn) {
+        let opened = Store::make(alloc, conn, layout)?;
+        asked(&opened.store, &layout)?;
+        return Ok(opened);
+    }
+    let opened = Store::open(alloc, conn)?;
+    asked(&opened.store, &layout)?;
+    Ok(opened)
 }

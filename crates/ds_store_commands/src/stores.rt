@@ -84,17 +84,15 @@ fn written<R: Eprint>(rt: &R, out: io::Result<()>) -> u8 {
 // Writes what a store has: the shape of its sheet, and how many edits of each process.
 fn write_summary<W: Write>(out: &mut W, store: &Store<Disk>) -> io::Result<()> {
     let layout = store.layout();
-    let counted = store.sheet().counted.as_slice();
     let (columns, rows) = (layout.shape.columns, layout.shape.rows);
     writeln!(out, "sheet {columns} {rows} {}", layout.processes)?;
+    let mut all = 0usize;
     for process in 0..layout.processes {
-        let edits = counted
-            .iter()
-            .filter(|edit| edit.process == process)
-            .count();
+        let edits = store.edits_of(process);
+        all = all.saturating_add(edits);
         writeln!(out, "process {process}: {edits} edits of 256")?;
     }
-    writeln!(out, "{} edits count, none is in doubt", counted.len())?;
+    writeln!(out, "{all} edits count, none is in doubt")?;
     out.flush()
 }
 
@@ -139,16 +137,9 @@ pub fn export<R: AllocGlobal + Print + Eprint + Files<File = File> + Databases>(
     rt: &R,
     path: &str,
 ) -> u8 {
-    let Opened {
-        mut store,
-        sheet: _,
-    } = match open_there(rt, path) {
+    let Opened { store, lines, .. } = match open_there(rt, path) {
         Ok(opened) => opened,
         Err(status) => return status,
-    };
-    let lines = match store.lines(rt.alloc()) {
-        Ok(lines) => lines,
-        Err(fault) => return tell_fault(rt, path, &fault),
     };
     let Ok(mut out) = BufWriter::new(rt.alloc(), io::writer(rt)) else {
         return tell_fault(rt, path, &StoreFault::NoMemory);
@@ -201,8 +192,8 @@ pub fn import<R: AllocGlobal + Input + Eprint + Databases>(rt: &R, path: &str) -
         Ok(conn) => conn,
         Err(status) => return status,
     };
-    match Store::of_lines(rt.alloc(), conn, &lines) {
-        Ok(store) => close(rt, path, store),
+    match Store::of_lines(rt.alloc(), conn, lines) {
+        Ok(opened) => close(rt, path, opened.store),
         Err(fault) => tell_fault(rt, path, &fault),
     }
 }
@@ -222,8 +213,8 @@ pub fn compact<R: AllocGlobal + Eprint + Files<File = File> + Databases>(
         Ok(conn) => conn,
         Err(status) => return status,
     };
-    match compact::compact(rt.alloc(), opened.store.sheet(), conn, path) {
-        Ok(store) => close(rt, new, store),
+    match compact::compact(rt.alloc(), &opened.lines, conn, path) {
+        Ok(compacted) => close(rt, new, compacted.store),
         Err(fault) => tell_fault(rt, new, &fault),
     }
 }

@@ -1,1 +1,1 @@
-pub mod Followed
+mod Counting

@@ -1,6 +1,5 @@
 //! What is wrong with a line of a journal.
 
-use ds_script_io::ending::ScriptFault;
 use ds_state::refusal::Refusal;
 use std::alloc::AllocError;
 use std::fmt;
@@ -8,11 +7,9 @@ use std::fmt;
 /// Why a line cannot be a journal's next one.
 #[derive(Clone, Copy, Debug, PartialEq, Eq)]
 pub enum JournalFault {
-    /// It is no line of a script.
-    Line(ScriptFault),
     /// The first line is no `sheet`.
     NoSheet,
-    /// It is a line of a script, and no edit of the sheet.
+    /// It is no edit of the sheet: `set PROCESS CELL TEXT`, of a process and a cell that the sheet has.
     NoEdit,
     /// The edit of the line is refused.
     Refused(Refusal),
@@ -33,7 +30,6 @@ impl From<AllocError> for JournalFault {
 impl fmt::Display for JournalFault {
     fn fmt<W: fmt::Write>(&self, f: &mut fmt::Formatter<W>) -> fmt::Result {
         match self {
-            JournalFault::Line(fault) => write!(f, "{fault}"),
             JournalFault::NoSheet => f.write_str("the first line is no sheet"),
             JournalFault::NoEdit => f.write_str("not an edit of the sheet"),
             JournalFault::Refused(Refusal::Text(fault)) => write!(

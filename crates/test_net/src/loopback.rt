@@ -1,15 +1,9 @@
 //! Clients of a server of two columns, two rows and two processes: what they are answered, and the sheet at the end.
 
-ghost use Rattle.std.specs.Prelude.{◌≡◌, IfOk};
-
-use crate::serving::{Clients, End, Served, serve_locked, serve_shared};
+use crate::serving::{Clients, End, Served, serve_shared};
 use ds_formula::cells::Shape;
 use ds_layout::layout::Layout;
 use ds_order::known::KnownReferences;
-use ds_state::world::World;
-use std::alloc::{AllocError, Global};
-use std::marker::Brand;
-use std::sync::ledger::Blank;
 use std::test::Fail;
 
 const SHAPE: Shape = Shape {
@@ -22,31 +16,21 @@ const LAYOUT: Layout = Layout {
     processes: 2,
 };
 
-fn world(alloc: Global) -> Result<World, AllocError>
-    ensures { IfOk result (λ w. w.sheet.layout.processes ≡ 2) }
-{
-    World::new(alloc, SHAPE, 2)
-}
-
-// The answers are these, and the sheet is closed with what acts for each process. Of one behind a lock: no pass keeps
-// other values than it, and n edits were done.
-fn is_right(served: &Served, answers: &str, done: u64) -> bool {
+// The answers are these, and the sheet is closed with what acts for each process.
+fn is_right(served: &Served, answers: &str) -> bool {
     let is_closed = match &served.end {
-        End::Locked(closed) => closed.world.done == done && closed.stray.is_none(),
         End::Shared(_) => true,
         End::Lost => false,
     };
     is_closed && served.answers.as_slice() == answers.as_bytes()
 }
 
-// What clients say, one after another, with that number of workers; what they are answered; and how many edits are
-// done.
+// What clients say, one after another, with that number of workers; and what they are answered.
 #[derive(Clone, Copy)]
 struct LoopbackRow {
     workers: usize,
     clients: Clients,
     answers: &'static str,
-    done: u64,
 }
 
 const FIRST: &[u8] =
@@ -67,7 +51,6 @@ const ROWS: [LoopbackRow; 6] = [
         workers: 0,
         clients: Clients::Each(&[FIRST]),
         answers: FIRST_ANSWERS,
-        done: 1,
     },
     // A worker has process 1.
     LoopbackRow {
@@ -77,7 +60,6 @@ const ROWS: [LoopbackRow; 6] = [
             b"{\"op\":\"join\",\"process\":0}\n{\"op\":\"join\",\"process\":0}\n",
         ]),
         answers: "{\"code\":4,\"error\":\"process-taken\"}\n{\"code\":3,\"error\":\"bad-field\"}\n{\"code\":6,\"error\":\"not-joined\"}\n{\"last\":null,\"ok\":\"join\",\"process\":0}\n{\"code\":7,\"error\":\"already-joined\"}\n",
-        done: 0,
     },
     // The first client goes in mid-line; its process is free again, and says what it has done.
     LoopbackRow {
@@ -87,14 +69,12 @@ const ROWS: [LoopbackRow; 6] = [
             b"{\"op\":\"join\",\"process\":0}\n{\"op\":\"report\"}\n",
         ]),
         answers: "{\"last\":null,\"ok\":\"join\",\"process\":0}\n{\"number\":0,\"ok\":\"done\"}\n{\"last\":{\"cell\":\"B2\",\"number\":0,\"outcome\":\"done\"},\"ok\":\"join\",\"process\":0}\n{\"ok\":\"settled\",\"rows\":[[\"\",\"\"],[\"\",\"7\"]]}\n",
-        done: 1,
     },
     // Nothing is said, and then nothing that is JSON.
     LoopbackRow {
         workers: 0,
         clients: Clients::Each(&[b"", b"\n{\n\xff\n[]\n"]),
         answers: "{\"code\":1,\"error\":\"not-json\"}\n{\"code\":1,\"error\":\"not-json\"}\n{\"code\":1,\"error\":\"not-json\"}\n{\"code\":3,\"error\":\"bad-field\"}\n",
-        done: 0,
     },
     // While the slow client waits, the fast one makes twenty edits and ends.
     LoopbackRow {
@@ -105,7 +85,6 @@ const ROWS: [LoopbackRow; 6] = [
             rest: b"{\"op\":\"set\",\"cell\":\"B1\",\"text\":\"=[.A1]+1\"}\n{\"op\":\"report\"}\n",
         },
         answers: FAST_ANSWERS,
-        done: 21,
     },
     // The first client reads nothing but the answer to its join. Its process is free again, and its edit stands.
     LoopbackRow {
@@ -116,33 +95,9 @@ const ROWS: [LoopbackRow; 6] = [
             rest: b"{\"op\":\"report\"}\n",
         },
         answers: "{\"last\":{\"cell\":\"B2\",\"number\":0,\"outcome\":\"done\"},\"ok\":\"join\",\"process\":0}\n{\"ok\":\"settled\",\"rows\":[[\"\",\"\"],[\"\",\"7\"]]}\n",
-        done: 1,
     },
 ];
 
-#[test]
-fn serve_loopback(rt: HostRuntime) -> Result<(), Fail> {
-    let alloc = rt.alloc();
-    for row in ROWS {
-        let world = world(alloc)?;
-        let references = KnownReferences::new(alloc, SHAPE)?;
-        let served = serve_locked::<Brand, Brand, _>(
-            &rt,
-            alloc,
-            world,
-            Blank::new(2),
-            Blank::new(2),
-            &references,
-            row.workers,
-            row.clients,
-        )?;
-        let got = str::from_utf8(served.answers.as_slice()).unwrap_or("?");
-        assert!(rt; is_right(&served, row.answers, row.done), "{got}");
-    }
-    Ok(())
-}
-
-// All that sessions over the lock say, they say over the sheet that threads share.
 #[test]
 fn serve_shared_loopback(rt: HostRuntime) -> Result<(), Fail> {
     let alloc = rt.alloc();
@@ -150,7 +105,7 @@ fn serve_shared_loopback(rt: HostRuntime) -> Result<(), Fail> {
         let references = KnownReferences::new(alloc, SHAPE)?;
         let served = serve_shared(&rt, alloc, LAYOUT, &references, row.workers, row.clients)?;
         let got = str::from_utf8(served.answers.as_slice()).unwrap_or("?");
-        assert!(rt; is_right(&served, row.answers, row.done), "{got}");
+        assert!(rt; is_right(&served, row.answers), "{got}");
     }
     Ok(())
 }
@@ -161,31 +116,7 @@ const ONE: &[u8] =
 
 const MANY: [&[u8]; 200] = [ONE; 200];
 
-// 200 clients one after another, each with an edit: all of them are done.
-#[test]
-fn two_hundred_clients(rt: HostRuntime) -> Result<(), Fail> {
-    let alloc = rt.alloc();
-    let world = world(alloc)?;
-    let references = KnownReferences::new(alloc, SHAPE)?;
-    let served = serve_locked::<Brand, Brand, _>(
-        &rt,
-        alloc,
-        world,
-        Blank::new(2),
-        Blank::new(2),
-        &references,
-        1,
-        Clients::Each(&MANY),
-    )?;
-    let is_done = match &served.end {
-        End::Locked(closed) => closed.world.done == 200 && closed.stray.is_none(),
-        _ => false,
-    };
-    assert!(rt; is_done);
-    Ok(())
-}
-
-// The same clients of a sheet that threads share: the last one's edit is the 200th, and the sheet closes.
+// 200 clients one after another, each with an edit: the last one's edit is the 200th, and the sheet closes.
 #[test]
 fn two_hundred_clients_share(rt: HostRuntime) -> Result<(), Fail> {
     let alloc = rt.alloc();
@@ -193,7 +124,7 @@ fn two_hundred_clients_share(rt: HostRuntime) -> Result<(), Fail> {
     let served = serve_shared(&rt, alloc, LAYOUT, &references, 1, Clients::Each(&MANY))?;
     let is_closed = match &served.end {
         End::Shared(_) => true,
-        _ => false,
+        End::Lost => false,
     };
     assert!(rt; is_closed && served.answers.as_slice().ends_with(LAST_OF_MANY));
     Ok(())

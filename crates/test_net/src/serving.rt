@@ -1,25 +1,19 @@
 //! A server with its clients.
 
-ghost use Rattle.std.specs.Prelude.{◌≡◌};
-
-use ds_crew::locked::{Closed, LockedSheet};
 use ds_layout::layout::Layout;
 use ds_net::door::Door;
 use ds_net::floor::Floor;
-use ds_net::locked_floor::LockedFloor;
 use ds_net::queues::{gathered, queues};
 use ds_net::server::{Service, serve_floor};
-use ds_net::shared_floor::{SharedFloor, all_seats};
+use ds_net::shared_floor::SharedFloor;
 use ds_order::known::KnownReferences;
 use ds_shared_seats::resting::RestingSheet;
-use ds_shared_seats::sheet::OpenSheet;
-use ds_state::world::World;
+use ds_store::seated::SeatedSheet;
 use log::Log;
 use std::alloc::Global;
 use std::io::{self, Read, Write};
 use std::net::{Net, Shutdown, SocketAddr, TcpListener, TcpStream};
 use std::sync::Wait;
-use std::sync::ledger::{Blank, Ledger};
 use std::test::Fail;
 use std::thread;
 use std::thread::Threads;
@@ -58,10 +52,8 @@ pub enum Clients {
 /// What became of a sheet after its server.
 #[derive(Drop)]
 pub enum End {
-    /// A pass or a seat was lost.
+    /// A seat was lost.
     Lost,
-    /// The sheet behind the lock, and whether a pass keeps other values than it.
-    Locked(Closed),
     /// The sheet that the threads shared.
     Shared(RestingSheet),
 }
@@ -229,41 +221,6 @@ fn run<
     Ok(answers?)
 }
 
-/// Serves the clients a sheet behind a lock, with that number of workers on the last processes, and closes it.
-pub fn serve_locked<
-    L: Ledger + Send + Sync,
-    M: Ledger + Send + Sync,
-    R: Threads + Wait + Clock + Log + Net<Stream = TcpStream, Listener = TcpListener> + Sync,
->(
-    rt: &R,
-    alloc: Global,
-    world: World,
-    dones: Blank,
-    settleds: Blank,
-    references: &KnownReferences,
-    workers: usize,
-    clients: Clients,
-) -> Result<Served, Fail>
-    requires names { (dones.name ≡ L.name) × (settleds.name ≡ M.name) }
-    requires parts { (dones.parts ≡ L.parts) × (settleds.parts ≡ M.parts) }
-    requires processes { (L.parts ≡ world.sheet.layout.processes) × (M.parts ≡ world.sheet.layout.processes) }
-{
-    let processes = world.words.layout().processes;
-    let Ok((sheet, passes)) = LockedSheet::<L, M>::make(alloc, world, dones, settleds) else {
-        return Err(Fail::from("no memory"));
-    };
-    let queues = queues(rt, alloc, passes)?;
-    let floor = LockedFloor::new(&sheet, references, queues.as_slice(), workers);
-    let answers = run(rt, alloc, &floor, workers, clients)?;
-    let back = gathered(rt, alloc, queues.as_slice())?;
-    let end = if back.len() == processes && processes > 0 {
-        End::Locked(sheet.close(back))
-    } else {
-        End::Lost
-    };
-    Ok(Served { answers, end })
-}
-
 /// A server of a new sheet that the threads share, with no lock.
 pub fn serve_shared<
     R: Threads + Wait + Clock + Log + Net<Stream = TcpStream, Listener = TcpListener> + Sync,
@@ -275,10 +232,7 @@ pub fn serve_shared<
     workers: usize,
     clients: Clients,
 ) -> Result<Served, Fail> {
-    let mut sheet = OpenSheet::make(alloc, layout)?;
-    let Some(seats) = all_seats(alloc, &mut sheet) else {
-        return Err(Fail::from("no memory"));
-    };
+    let (sheet, seats) = SeatedSheet::make(alloc, layout)?.into_parts();
     let queues = queues(rt, alloc, seats)?;
     let floor = SharedFloor::new(references, queues.as_slice(), workers);
     let answers = run(rt, alloc, &floor, workers, clients)?;

@@ -1,4 +1,4 @@
-use Rattle.std.proofs.Common.{ℕ, ◌≡◌, subst}
+use Rattle.std.proofs.Common.{ℕ, subst}
 use Rattle.ds_net.specs.Accepting.{IsStep, MayGoOn}
 use Rattle.ds_net.proofs.accepting.next_session.Goals as goal
 

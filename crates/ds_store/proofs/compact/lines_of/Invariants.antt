@@ -2,4 +2,4 @@ use Rattle.std.proofs.Common.{◌<◌}
 use Rattle.ds_store.proofs.compact.lines_of.Given as goal
 
 abbrev pub invariant-loop-number : goal.invariant-loop-number
-invariant-loop-number l = l.process < l.processes
+invariant-loop-number l = l.process < l.layout.processes
