@@ -208,10 +208,11 @@ def check_commands(program, folder, store):
         raise Failed("what was exported and imported is another journal")
     expect("import over a store", run(program, "import", again, input=lines), 1, "already")
     rows = sqlite3.connect(f"file:{again}?mode=ro", uri=True).execute("SELECT line FROM journal ORDER BY number").fetchall()
-    if [row[0] for row in rows] != lines.splitlines():
+    kept = [row[0] for row in rows if not row[0].startswith("# sum ")]
+    if kept != lines.splitlines() or len(kept) + 1 != len(rows):
         raise Failed("another SQLite reads other lines")
     answers = run(program, "run", input=lines).stdout.splitlines()
-    if len(answers) != len(rows) - 1 or not all(answer.endswith(" done") for answer in answers):
+    if len(answers) != len(kept) - 1 or not all(answer.endswith(" done") for answer in answers):
         raise Failed("run does not answer each exported edit done")
     new = os.path.join(folder, "new.db")
     expect("compact", run(program, "compact", store, new), 0, "")
@@ -271,6 +272,38 @@ def check_files(program, folder, store):
         os.chmod(store, 0o644)
 
 
+def check_sums(program, folder, store, flips, draw):
+    """Lines that were changed, and bits of the file that were flipped, are told."""
+    whole = run(program, "export", store).stdout
+    changed = os.path.join(folder, "changed.db")
+    for name, change, words in (
+        ("a line that was changed", "UPDATE journal SET line = line || '1' WHERE number = 3", "it has the sum of other lines"),
+        ("a sum that was changed", "UPDATE journal SET line = line || '1' WHERE number = (SELECT max(number) FROM journal)", "it has the sum of other lines"),
+        ("a line after the last sum", "INSERT INTO journal (line) VALUES ('# a note')", "has no sum after it"),
+    ):
+        shutil.copy(store, changed)
+        link = sqlite3.connect(changed)
+        link.execute(change)
+        link.commit()
+        link.close()
+        expect(name, run(program, "check", changed), 1, words)
+    refused = 0
+    for _ in range(flips):
+        with open(store, "rb") as it:
+            held = bytearray(it.read())
+        held[draw.randrange(len(held))] ^= 1 << draw.randrange(8)
+        with open(changed, "wb") as out:
+            out.write(held)
+        if os.path.exists(changed + "-wal"):
+            os.remove(changed + "-wal")
+        said = run(program, "export", changed)
+        if said.returncode in (1, 3):
+            refused += 1
+        elif said.returncode != 0 or said.stdout != whole:
+            raise Failed(f"a flipped bit: status {said.returncode}: {said.stderr}")
+    pass_rows(f"{flips} flipped bits, {refused} refused, the others of what is not read", flips)
+
+
 def check_full(program, folder):
     """A disk with no more room: what was answered stands, and the server ends with a fault."""
     store = os.path.join(folder, "full.db")
@@ -324,6 +357,7 @@ def check_all(program, kills, cuts, draw):
         check_files(program, folder, store)
         check_full(program, folder)
         check_cuts(program, folder, store, cuts, draw)
+        check_sums(program, folder, store, cuts, draw)
 
 
 def main(*words):

@@ -1,5 +1,6 @@
 -- A journal that grows by a line.
-use Rattle.std.proofs.Common.{◌≡◌, ◌++◌, ◌∷◌, [], ℕ, List, true, false, Some, Result, Ok, Err, IfOk, OnOk}
+use Rattle.std.proofs.Common.{◌≡◌, ◌∙◌, ap, sym, subst, ◌++◌, ◌∷◌, [], ℕ, List, true, false, Some, Result, Ok, Err, IfOk, OnOk}
+use Rattle.std.proofs.lemmas.List.{append_assoc}
 use Rattle.ds_layout.specs.declared.layout.Layout.{Layout}
 use Rattle.ds_script_io.specs.Fields.{is_skipped}
 use Rattle.ds_store_journal.specs.Journals.{AreCounts, IsJournal, KeptEdit, asked_by, edit_in, edits_by}
@@ -9,6 +10,12 @@ use Rattle.ds_store.specs.Stores.{GoesOn}
 pub passes_over : (layout : Layout) (counts : List ℕ) (lines : List (List ℕ)) (line : List ℕ) (edits : List KeptEdit) → GoesOn layout counts lines edits → is_skipped line ≡ true
     → GoesOn layout counts (lines ++ line ∷ []) edits
 passes_over layout counts lines line edits g is = record { journal = IsJournal.skips lines line edits g.journal is; counts_are = g.counts_are }
+
+-- by lines of which the last one is passed over
+pub sum_after : (layout : Layout) (counts : List ℕ) (held plain all : List (List ℕ)) (sum : List ℕ) (edits : List KeptEdit) → GoesOn layout counts (held ++ plain) edits → all ≡ plain ++ sum ∷ []
+    → is_skipped sum ≡ true → GoesOn layout counts (held ++ all) edits
+sum_after layout counts held plain all sum edits g is skipped =
+    subst (λ ls. GoesOn layout counts ls edits) (append_assoc held plain (sum ∷ []) ∙ ap (λ t. held ++ t) (sym is)) (passes_over layout counts (held ++ plain) sum edits g skipped)
 
 -- by the line of an edit
 pub keeps_one : (layout : Layout) (old new : List ℕ) (lines : List (List ℕ)) (line : List ℕ) (edits : List KeptEdit) (edit : KeptEdit) → GoesOn layout old lines edits → is_skipped line ≡ false

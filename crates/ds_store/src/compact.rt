@@ -11,6 +11,7 @@ ghost use Rattle.ds_store.specs.Texts.{SameTexts};
 
 use crate::fault::StoreFault;
 use crate::store::{Opened, Store};
+use crate::summing::with_sum;
 use crate::texts::{JournalTexts, texts_of};
 use ds_formula::cells::Cell;
 use ds_store_journal::fault::JournalFault;
@@ -76,7 +77,7 @@ pub fn compact<S: Alter + Drop>(
     ensures holds { IfOk result (λ opened. HasCleanDisk (state S.Store opened.store.conn) → IsBare (state S.Store conn).now → Holds (map string_bytes opened.lines.items) (state S.Store opened.store.conn).committed) }
 {
     let texts = texts_of(alloc, lines)?;
-    let more = lines_of(alloc, &texts, origin)?;
+    let more = with_sum(alloc, lines_of(alloc, &texts, origin)?)?;
     let again = texts_of(alloc, &more)?;
     if texts.is_same(&again) {
         Store::of_lines(alloc, conn, more)

@@ -24,6 +24,10 @@ pub enum StoreFault {
         /// Why it cannot.
         fault: JournalFault,
     },
+    /// The line of this number, from 1, has a sum, which is not that of the lines before it: one of them was changed.
+    Sum(usize),
+    /// The line of this number, from 1, and those after it have no sum, though lines before them have one.
+    NoSum(usize),
     /// An edit that was reported cannot be kept.
     Edit(JournalFault),
     /// The sheet of the store has another shape, or another number of processes, than the one that was asked for.
@@ -93,6 +97,11 @@ impl fmt::Display for StoreFault {
             StoreFault::Foreign => f.write_str("it is a database of something else"),
             StoreFault::Missing(number) => write!(f, "line {number} is missing"),
             StoreFault::Line { number, fault } => write!(f, "line {number}: {fault}"),
+            StoreFault::Sum(number) => write!(
+                f,
+                "line {number}: it has the sum of other lines than are before it"
+            ),
+            StoreFault::NoSum(number) => write!(f, "line {number} has no sum after it"),
             StoreFault::Edit(fault) => write!(f, "an edit can not be kept: {fault}"),
             StoreFault::OtherSheet {
                 columns,

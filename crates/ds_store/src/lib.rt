@@ -8,4 +8,5 @@ pub mod open;
 mod replay;
 pub mod seated;
 pub mod store;
+pub mod summing;
 pub mod texts;

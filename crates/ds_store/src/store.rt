@@ -5,6 +5,7 @@ ghost use Rattle.std.specs.String.{string_bytes};
 ghost use Rattle.sqlite.specs.Held.{state};
 ghost use Rattle.sqlite.specs.State.{HasCleanDisk, Survives};
 ghost use Rattle.ds_store_journal.specs.Journals.{KeptEdit, edits_by, size_of};
+ghost use Rattle.ds_store_sums.specs.Taken.{IsAt};
 ghost use Rattle.ds_store_table.specs.Tables.{Holds, IsBare};
 ghost use Rattle.ds_store.specs.Opened.{Leads};
 ghost use Rattle.ds_store.specs.Stores.{GoesOn, MayKeep};
@@ -13,12 +14,14 @@ use crate::committed::Committed;
 use crate::fault::StoreFault;
 use crate::replay::{Replay, replayed};
 use crate::seated::SeatedSheet;
+use crate::summing::{sum_up, summed};
 use ds_formula::cells::Shape;
 use ds_layout::layout::Layout;
 use ds_store_journal::counts::EditCounts;
 use ds_store_journal::edit::AnsweredEdit;
 use ds_store_journal::fault::JournalFault;
 use ds_store_journal::journal::{edit_line, sheet_line};
+use ds_store_sums::sums::LineSums;
 use ds_store_table::lines;
 use sqlite::{Alter, Connection};
 use std::alloc::Global;
@@ -31,6 +34,7 @@ pub struct Store<S: Alter + Drop> {
     conn: Connection<S>,
     layout: Layout,
     counts: EditCounts,
+    sums: LineSums,
 }
 
 /// A store that is open, and the sheet that its edits have made.
@@ -94,7 +98,7 @@ fn with_lines<S: Alter + Drop>(
 
 impl<S: Alter + Drop> Store<S> {
     /// Makes the store of these lines, in a database that has nothing: they are followed first, each in its turn. An
-    /// error says which line cannot be followed.
+    /// error says which line cannot be followed, or has another sum than that of the lines before it.
     pub fn of_lines(
         alloc: Global,
         conn: Connection<S>,
@@ -102,6 +106,7 @@ impl<S: Alter + Drop> Store<S> {
     ) -> Result<Opened<S>, StoreFault>
         ensures lines { IfOk result (λ opened. opened.lines ≡ lines) }
         ensures leads { IfOk result (λ opened. Leads opened.store.layout opened.store.counts.counts.items opened.sheet (map string_bytes opened.lines.items)) }
+        ensures summed { IfOk result (λ opened. IsAt opened.store.sums (map string_bytes opened.lines.items)) }
         ensures holds { IfOk result (λ opened. HasCleanDisk (state S.Store opened.store.conn) → IsBare (state S.Store conn).now
             → Holds (map string_bytes opened.lines.items) (state S.Store opened.store.conn).now × Holds (map string_bytes opened.lines.items) (state S.Store opened.store.conn).committed) }
     {
@@ -110,12 +115,14 @@ impl<S: Alter + Drop> Store<S> {
             counts,
             sheet,
         } = replayed(alloc, &lines)?;
+        let sums = summed(alloc, &lines)?;
         let conn = with_lines(conn, &lines)?;
         Ok(Opened {
             store: Store {
                 conn,
                 layout,
                 counts,
+                sums,
             },
             sheet,
             lines,
@@ -140,9 +147,10 @@ impl<S: Alter + Drop> Store<S> {
     }
 
     /// Opens the store in a database: all its lines are read, and followed, each in its turn. An error says which line
-    /// is missing, or cannot be followed.
+    /// is missing, cannot be followed, or has another sum than that of the lines before it.
     pub fn open(alloc: Global, conn: Connection<S>) -> Result<Opened<S>, StoreFault>
         ensures leads { IfOk result (λ opened. Leads opened.store.layout opened.store.counts.counts.items opened.sheet (map string_bytes opened.lines.items)) }
+        ensures summed { IfOk result (λ opened. IsAt opened.store.sums (map string_bytes opened.lines.items)) }
         ensures holds { IfOk result (λ opened. HasCleanDisk (state S.Store opened.store.conn) → (held : List (List ℕ)) → Holds held (state S.Store conn).now
             → (map string_bytes opened.lines.items ≡ held) × Holds held (state S.Store opened.store.conn).now) }
     {
@@ -153,19 +161,21 @@ impl<S: Alter + Drop> Store<S> {
             counts,
             sheet,
         } = replayed(alloc, &lines)?;
+        let sums = summed(alloc, &lines)?;
         Ok(Opened {
             store: Store {
                 conn,
                 layout,
                 counts,
+                sums,
             },
             sheet,
             lines,
         })
     }
 
-    /// Keeps edits, in their order: their lines are committed together, all or none, when it returns. Each has the next
-    /// number of its process, and its line was read again.
+    /// Keeps edits, in their order: their lines, and one with the sum of all lines until then, are committed together, all
+    /// or none, when it returns. Each edit has the next number of its process, and its line was read again.
     pub fn keep_all(
         &mut self,
         alloc: Global,
@@ -174,13 +184,15 @@ impl<S: Alter + Drop> Store<S> {
         ensures committed { IfOk result (λ c. c.edits ≡ edits) }
         ensures layout { self.new.layout ≡ self.old.layout }
         ensures kept { IfOk result (λ c. (lines : List (List ℕ))
-            × ((held : List (List ℕ)) (before : List KeptEdit) → GoesOn self.old.layout self.old.counts.counts.items held before → GoesOn self.new.layout self.new.counts.counts.items (held ++ lines) (before ++ edits.items))
+            × ((held : List (List ℕ)) (before : List KeptEdit) → GoesOn self.old.layout self.old.counts.counts.items held before → IsAt self.old.sums held
+            → GoesOn self.new.layout self.new.counts.counts.items (held ++ lines) (before ++ edits.items) × IsAt self.new.sums (held ++ lines))
             × (HasCleanDisk (state S.Store self.new.conn) → (held : List (List ℕ)) → Holds held (state S.Store self.old.conn).now
             → Holds (held ++ lines) (state S.Store self.new.conn).now × Holds (held ++ lines) (state S.Store self.new.conn).committed)) }
-        ensures crash { (held : List (List ℕ)) (before : List KeptEdit) → GoesOn self.old.layout self.old.counts.counts.items held before → Holds held (state S.Store self.old.conn).now
+        ensures crash { (held : List (List ℕ)) (before : List KeptEdit) → GoesOn self.old.layout self.old.counts.counts.items held before → IsAt self.old.sums held → Holds held (state S.Store self.old.conn).now
             → Survives (state S.Store self.old.conn) (state S.Store self.new.conn) (MayKeep self.old.layout held before edits.items) }
     {
         let texts = kept_all(alloc, &self.layout, &mut self.counts, &edits)?;
+        let texts = sum_up(alloc, &mut self.sums, texts)?;
         lines::append(&mut self.conn, &texts)?;
         Ok(Committed::of(edits))
     }

@@ -20,6 +20,8 @@ pub fn store_status(fault: &StoreFault) -> u8
         StoreFault::Foreign
         | StoreFault::Missing(_)
         | StoreFault::Line { .. }
+        | StoreFault::Sum(_)
+        | StoreFault::NoSum(_)
         | StoreFault::Edit(_)
         | StoreFault::OtherSheet { .. } => BAD_STORE,
     }

@@ -9,6 +9,8 @@ use ds_store::compact;
 use ds_store::fault::StoreFault;
 use ds_store::open::Databases;
 use ds_store::store::{Opened, Store, is_bare};
+use ds_store::summing::with_sum;
+use ds_store_sums::sums::is_sum;
 use sqlite::{Connection, FileFrom, FileStore, Wary};
 use std::alloc::{AllocError, Global};
 use std::fs::{self, File, Files};
@@ -96,10 +98,13 @@ fn write_summary<W: Write>(out: &mut W, store: &Store<Disk>) -> io::Result<()> {
     out.flush()
 }
 
-// Writes lines, each ended; a line feed within one is white space of a formula, and is written as a space.
+// Writes lines, each ended, but for sums, which are of the file alone; a line feed within one is white space of a formula,
+// and is written as a space.
 fn write_lines<W: Write>(out: &mut W, lines: &[String]) -> io::Result<()> {
     for line in lines {
-        write_line(out, line.as_bytes())?;
+        if !is_sum(line) {
+            write_line(out, line.as_bytes())?;
+        }
     }
     out.flush()
 }
@@ -191,6 +196,10 @@ pub fn import<R: AllocGlobal + Input + Eprint + Databases>(rt: &R, path: &str) -
     let conn = match open_new(rt, path) {
         Ok(conn) => conn,
         Err(status) => return status,
+    };
+    let lines = match with_sum(rt.alloc(), lines) {
+        Ok(lines) => lines,
+        Err(fault) => return tell_fault(rt, path, &fault),
     };
     match Store::of_lines(rt.alloc(), conn, lines) {
         Ok(opened) => close(rt, path, opened.store),

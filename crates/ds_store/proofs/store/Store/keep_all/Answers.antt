@@ -4,33 +4,47 @@ use Rattle.sqlite.specs.Held.{state}
 use Rattle.sqlite.proofs.StateLemmas.{survives_weaker}
 use Rattle.ds_store_table.specs.Tables.{Holds}
 use Rattle.ds_store.specs.Stores.{GoesOn, MayKeep}
+use Rattle.ds_store.proofs.Growing.{sum_after}
 use Rattle.ds_store.proofs.store.Store.keep_all.Goals as goal
 
 pub returns-clause-kept : goal.returns-clause-kept
 returns-clause-kept g c =
     let layout = c.args.self.now.layout in
-    let texts = c.in_ok-texts.texts.items in
-    let same : c.deref-2.result.now ≡ texts = c.deref-2.ensures.value in
+    let counts = c.kept_all.new.counts.counts.items in
+    let plain = map string_bytes c.in_ok-texts.texts.items in
+    let all = map string_bytes c.in_ok-texts-2.texts.items in
+    let same : c.deref-2.result.now ≡ c.in_ok-texts-2.texts.items = c.deref-2.ensures.value in
     let edits : c.deref.result.now ≡ c.args.edits.items = c.deref.ensures.value in (
-      map string_bytes texts,
-      (λ held before goes. subst (λ es. GoesOn layout c.kept_all.new.counts.counts.items (held ++ map string_bytes texts) (before ++ es)) edits (c.in_ok-texts.ensures held before goes)),
+      all,
+      (λ held before goes at.
+          let kept = subst (λ es. GoesOn layout counts (held ++ plain) (before ++ es)) edits (c.in_ok-texts.ensures held before goes) in
+          let summed = c.in_ok-texts-2.ensures held at in
+          (sum_after layout counts held plain all summed.1.0 (before ++ c.args.edits.items) kept summed.1.1 summed.1.2, summed.0)),
       (λ clean held holds. subst (λ ts. Holds (held ++ map string_bytes ts) (state g.S.Store c.append.new.conn).now × Holds (held ++ map string_bytes ts) (state g.S.Store c.append.new.conn).committed) same (c.in_ok-append.ensures.added clean held holds)),
     )
 
 pub returns-in_err-append-clause-crash : goal.returns-in_err-append-clause-crash
-returns-in_err-append-clause-crash g c held before goes has =
+returns-in_err-append-clause-crash g c held before goes at has =
     let layout = c.args.self.now.layout in
+    let counts = c.kept_all.new.counts.counts.items in
+    let plain = map string_bytes c.in_ok-texts.texts.items in
     let edits : c.deref.result.now ≡ c.args.edits.items = c.deref.ensures.value in
-    let kept = subst (λ es. GoesOn layout c.kept_all.new.counts.counts.items (held ++ map string_bytes c.in_ok-texts.texts.items) (before ++ es)) edits (c.in_ok-texts.ensures held before goes) in
-    let all = subst (λ ts. GoesOn layout c.kept_all.new.counts.counts.items (held ++ map string_bytes ts) (before ++ c.args.edits.items)) (sym c.deref-2.ensures.value) kept in
+    let kept = subst (λ es. GoesOn layout counts (held ++ plain) (before ++ es)) edits (c.in_ok-texts.ensures held before goes) in
+    let summed = c.in_ok-texts-2.ensures held at in
+    let whole = sum_after layout counts held plain (map string_bytes c.in_ok-texts-2.texts.items) summed.1.0 (before ++ c.args.edits.items) kept summed.1.1 summed.1.2 in
+    let all = subst (λ ts. GoesOn layout counts (held ++ map string_bytes ts) (before ++ c.args.edits.items)) (sym c.deref-2.ensures.value) whole in
     survives_weaker (state g.S.Store c.args.self.now.conn) (state g.S.Store c.append.new.conn) _ (MayKeep layout held before c.args.edits.items)
     (λ clean db may. record { lines = map string_bytes c.deref-2.result.now; journal = all.journal; holds = may }) (c.append.ensures.crash held has)
 
 pub returns-clause-crash : goal.returns-clause-crash
-returns-clause-crash g c held before goes has =
+returns-clause-crash g c held before goes at has =
     let layout = c.args.self.now.layout in
+    let counts = c.kept_all.new.counts.counts.items in
+    let plain = map string_bytes c.in_ok-texts.texts.items in
     let edits : c.deref.result.now ≡ c.args.edits.items = c.deref.ensures.value in
-    let kept = subst (λ es. GoesOn layout c.kept_all.new.counts.counts.items (held ++ map string_bytes c.in_ok-texts.texts.items) (before ++ es)) edits (c.in_ok-texts.ensures held before goes) in
-    let all = subst (λ ts. GoesOn layout c.kept_all.new.counts.counts.items (held ++ map string_bytes ts) (before ++ c.args.edits.items)) (sym c.deref-2.ensures.value) kept in
+    let kept = subst (λ es. GoesOn layout counts (held ++ plain) (before ++ es)) edits (c.in_ok-texts.ensures held before goes) in
+    let summed = c.in_ok-texts-2.ensures held at in
+    let whole = sum_after layout counts held plain (map string_bytes c.in_ok-texts-2.texts.items) summed.1.0 (before ++ c.args.edits.items) kept summed.1.1 summed.1.2 in
+    let all = subst (λ ts. GoesOn layout counts (held ++ map string_bytes ts) (before ++ c.args.edits.items)) (sym c.deref-2.ensures.value) whole in
     survives_weaker (state g.S.Store c.args.self.now.conn) (state g.S.Store c.append.new.conn) _ (MayKeep layout held before c.args.edits.items)
     (λ clean db may. record { lines = map string_bytes c.deref-2.result.now; journal = all.journal; holds = may }) (c.append.ensures.crash held has)

@@ -1,0 +1,4 @@
+//! The sums of a journal's lines.
+#![tactic(auto)]
+
+pub mod sums;
