@@ -4,4 +4,4 @@
 pub mod laws;
 pub mod notation;
 pub mod texts;
-mod tokens;
+pub mod tokens;

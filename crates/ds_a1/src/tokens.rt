@@ -104,8 +104,8 @@ fn begins_mark(byte: u8, text: &[u8]) -> bool
     }
 }
 
-/// Whether a reference is at the front: the name of a cell, and no `(` behind it.
-pub(crate) fn begins_reference(text: &[u8]) -> bool
+/// Whether a reference in A1 notation is at the front of a text: the name of a cell, and no `(` behind it.
+pub fn begins_reference(text: &[u8]) -> bool
     ensures { result ≡ begins_reference (tokens text.now) }
 {
     let (word, behind) = text.split_at(word_length(text));

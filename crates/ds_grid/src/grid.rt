@@ -7,9 +7,9 @@ ghost use Rattle.csv.specs.declared.parser.State.TheVariants as state;
 ghost use Rattle.ds_grid.specs.Grids.{text_at, IsGridOf, HasFault, AllRead, FailsAt};
 
 use crate::ending::{GridEnd, GridFault};
+use csv::{ByteRecord, ReaderBuilder};
 use ds_a1::notation::Notation;
 use ds_a1::texts::read_text;
-use csv::{ByteRecord, ReaderBuilder};
 use ds_formula::cells::{Cell, Shape};
 use ds_formula::content::Content;
 use ds_formula::fault::FaultKind;
