@@ -54,13 +54,13 @@ begins_mark m [] = false
 begins_mark m (Word w ∷ ts) = false
 begins_mark m (Mark b ∷ ts) = b == m
 
--- whether a reference is at the front: the name of a cell, and no `(` behind it, which makes it a function's
+-- whether a reference is at the front: the name of a cell, and no `(` after it, which makes it a function's
 abbrev pub begins_reference : List Token → Bool
 begins_reference [] = false
 begins_reference (Mark b ∷ ts) = false
 begins_reference (Word w ∷ ts) = is_cell w && not (begins_mark 40 ts)
 
--- whether a reference goes on as a range: a colon is at the front, and another reference behind it
+-- whether a reference goes on as a range: a colon is at the front, and another reference after it
 abbrev pub goes_on : List Token → Bool
 goes_on [] = false
 goes_on (Word w ∷ ts) = false

@@ -104,7 +104,7 @@ fn begins_mark(byte: u8, text: &[u8]) -> bool
     }
 }
 
-/// Whether a reference in A1 notation is at the front of a text: the name of a cell, and no `(` behind it.
+/// Whether a reference in A1 notation is at the front of a text: the name of a cell, and no `(` after it.
 pub fn begins_reference(text: &[u8]) -> bool
     ensures { result ≡ begins_reference (tokens text.now) }
 {
@@ -112,7 +112,7 @@ pub fn begins_reference(text: &[u8]) -> bool
     is_cell(word) && !begins_mark(b'(', behind)
 }
 
-/// Whether a reference goes on as a range: a colon is at the front, and another reference behind it.
+/// Whether a reference goes on as a range: a colon is at the front, and another reference after it.
 pub(crate) fn goes_on(text: &[u8]) -> bool
     ensures { result ≡ goes_on (tokens text.now) }
 {

@@ -7,7 +7,7 @@ use Rattle.ds_a1.specs.Notation.{opens}
 use Rattle.ds_a1_script.specs.declared.lines.Commands.{Commands}
 use Rattle.ds_a1_script.specs.declared.lines.Commands.TheVariants.{OfScript, OfClient}
 
--- what is behind the first of these words, where there is a space
+-- what is after the first of these words, where there is a space
 abbrev pub behind_word : Option (List ℕ) → Option (List ℕ)
 behind_word None = None
 behind_word (Some words) = (word_of words).1

@@ -24,8 +24,8 @@ IsOrNoMemory made (Err fault) = fault ≡ no_memory
 abbrev pub HasNoLine : List ℕ → Type 0
 HasNoLine script = (next_of true script ≡ NoLine) ⊎ (next_of true script ≡ LongLine)
 
--- behind this many lines a script goes on so in OpenFormula: line by line, up to the first whose text is refused; a line
--- that is too long ends what is read of a script, so it and what is behind it stay as they stand
+-- after this many lines a script goes on so in OpenFormula: line by line, up to the first whose text is refused; a line
+-- that is too long ends what is read of a script, so it and what is after it stay as they stand
 pub data OpensScript : ℕ → List ℕ → List ℕ → Option RefusedLine → Type 0 where
   ends : (n : ℕ) (script : List ℕ) → HasNoLine script → OpensScript n script script None
   refused : (n : ℕ) (script line rest : List ℕ) (fault : TextFault)

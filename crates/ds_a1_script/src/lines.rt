@@ -14,7 +14,7 @@ pub enum Commands {
     OfClient,
 }
 
-// What is behind the first word.
+// What is after the first word.
 fn behind_word(words: Option<&[u8]>) -> Option<&[u8]>
     ensures { option_map (λ w. w.now) result ≡ behind_word (option_map (λ w. w.now) words.entry) }
 {
@@ -56,7 +56,7 @@ fn client_text(line: &[u8]) -> Option<&[u8]>
     }
 }
 
-/// The text in a line that edits a cell: what is behind the space after its cell. None where the line does not edit, or
+/// The text in a line that edits a cell: what is after the space after its cell. None where the line does not edit, or
 /// ends before that space.
 pub fn line_text(commands: Commands, line: &[u8]) -> Option<&[u8]>
     ensures { option_map (λ t. t.now) result ≡ line_text commands line.now }

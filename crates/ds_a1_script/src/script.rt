@@ -47,7 +47,7 @@ fn ended(mut text: Vec<u8>, rest: &[u8]) -> Result<OpenScript, AllocError>
 
 /// A script with formulas in A1 notation, in OpenFormula: each line with its text in the place of the one it had, and ended
 /// by a line feed alone, up to the first line whose text is refused. A line of more than 512 bytes, at which a script ends,
-/// and what is behind it stay as they stand. An error means that an allocation failed.
+/// and what is after it stay as they stand. An error means that an allocation failed.
 pub fn open_script(alloc: Global, script: &[u8]) -> Result<OpenScript, AllocError>
     ensures { IfOk result (λ open_script. OpensScript 0 script.now open_script.text.items open_script.refused) }
 {

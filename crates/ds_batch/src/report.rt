@@ -4,13 +4,14 @@ use crate::copying::Copying;
 use crate::run::no_memory;
 use crate::status::grid_status;
 use ds_a1::notation::Notation;
+use ds_a1::texts::to_open;
 use ds_formula::cells::Cell;
 use ds_formula::fault::TextFault;
 use ds_grid::ending::{GridEnd, GridFault};
 use ds_grid::grid::records;
 use ds_grid::report::report_grid;
 use ds_sched::{Reading, Writing};
-use ds_script_hints::texts::excerpt_of_text;
+use ds_script_hints::texts::{excerpt_of_text, opened_excerpt};
 use std::alloc::Global;
 use std::io::{self, BufWriter};
 
@@ -55,16 +56,13 @@ fn show_text<R: AllocGlobal + Eprint>(
     };
     if let Some(excerpt) = excerpt_of_text(notation, &text, &text, fault) {
         let _reported = eprintln!(rt; "{excerpt}");
+    } else if let (Notation::A1, Ok(open)) = (notation, to_open(rt.alloc(), &text)) {
+        let _reported = eprintln!(rt; "{}", opened_excerpt(&open, fault));
     }
 }
 
 // Reports on standard error how a report ended, where that is not as it should.
-fn print_end<R: AllocGlobal + Eprint>(
-    rt: &R,
-    notation: Notation,
-    end: &GridEnd,
-    grid: &[u8],
-) {
+fn print_end<R: AllocGlobal + Eprint>(rt: &R, notation: Notation, end: &GridEnd, grid: &[u8]) {
     let _reported = match end {
         GridEnd::Ended => Ok(()),
         GridEnd::Grid(GridFault::BadCsv) => match odd_record(rt.alloc(), grid) {

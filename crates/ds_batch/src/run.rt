@@ -7,8 +7,10 @@ use crate::faults::{show_line, show_refused};
 use crate::progress::Progress;
 use crate::status::{NO_MEMORY, REFUSED, script_status};
 use ds_a1::notation::Notation;
+use ds_a1_script::lines::Commands;
 use ds_a1_script::script::{OpenScript, open_script};
 use ds_sched::{Reading, ScriptEnd, StopRange, Writing, run_script, stop_in_range};
+use ds_script_hints::hint::line_at;
 use ds_script_hints::texts::first_bare;
 use ds_script_io::input::{InputEnd, read_input};
 use ds_script_io::line::INPUT_LIMIT;
@@ -97,8 +99,18 @@ impl ReadScript {
     // as one in A1 notation, that line is reported.
     fn conclude<R: AllocGlobal + Eprint>(&self, rt: &R, end: &ScriptEnd) -> u8 {
         match (end, &self.open) {
-            (ScriptEnd::Ended, Some(OpenScript { refused: Some(refused), .. })) => {
-                show_refused(rt, &self.script, *refused);
+            (
+                ScriptEnd::Ended,
+                Some(
+                    OpenScript {
+                        refused: Some(refused),
+                        ..
+                    },
+                ),
+            ) => {
+                let line = line_at(&self.script, refused.line).unwrap_or(&[]);
+                let number = refused.line as u64;
+                show_refused(rt, Commands::OfScript, number, line, refused.fault);
                 REFUSED
             }
             _ => {

@@ -37,7 +37,6 @@ fn answer<R: AllocGlobal + Env + Input + Print + Eprint>(rt: &R, shows: bool) ->
     if let [_, command, options @ ..] = words.as_slice() {
         let (notation, options) = match options {
             [first, others @ ..] if first.as_str() == "--a1" => (Notation::A1, others),
-            [others @ .., last] if last.as_str() == "--a1" => (Notation::A1, others),
             _ => (Notation::OpenFormula, options),
         };
         match (command.as_str(), options.first()) {
@@ -51,7 +50,9 @@ fn answer<R: AllocGlobal + Env + Input + Print + Eprint>(rt: &R, shows: bool) ->
             _ => {}
         }
     }
-    let _reported = eprintln!(rt; "dsheet: only run, run --stops --from K --to K, and report, with --a1 first or last");
+    let _reported = eprintln!(rt;
+        "dsheet: only run, run --stops --from K --to K, and report, each with --a1 before other options"
+    );
     WRONG_WORDS
 }
 

@@ -1,7 +1,7 @@
 //! What is wrong with the text in a line, beside its fault.
 
 use crate::excerpt::write_marked;
-use crate::hint::{layout_of, line_at};
+use crate::hint::layout_of;
 use ds_a1::notation::Notation;
 use ds_a1::tokens::begins_reference;
 use ds_a1_script::lines::{Commands, line_text};
@@ -21,6 +21,8 @@ pub enum TextNote {
     Bracket,
     /// In A1 notation: the text is too long once its references have brackets.
     TooLong,
+    /// In A1 notation: the text is shown as it is read, in OpenFormula.
+    AsRead,
 }
 
 impl fmt::Display for TextNote {
@@ -29,26 +31,22 @@ impl fmt::Display for TextNote {
             TextNote::NoBrackets => f.write_str("references are written [.A1]; --a1 reads A1"),
             TextNote::Bracket => f.write_str("with --a1 references are written A1"),
             TextNote::TooLong => {
-                write!(
-                    f,
-                    "written as [.A1] it has more than {TEXT_LIMIT} bytes"
-                )
+                write!(f, "written as [.A1] it has more than {TEXT_LIMIT} bytes")
             }
+            TextNote::AsRead => f.write_str("in the text as it is read"),
         }
     }
 }
 
-/// What there is to say of a fault of a text in this notation, in which a fault of A1 notation is one of
-/// `ds_a1::texts::to_open`; none where there is nothing.
+/// What there is to say of a fault of a text in this notation; none where there is nothing. In A1 notation it is a fault of
+/// `ds_a1::texts::to_open`.
 pub fn note_of(notation: Notation, text: &[u8], fault: TextFault) -> Option<TextNote> {
     match (notation, fault.kind) {
-        (Notation::A1, FaultKind::BadToken) => Some(TextNote::Bracket),
-        (Notation::A1, FaultKind::TooLong) => Some(TextNote::TooLong),
+        (Notation::A1, FaultKind::BadToken)
+            if matches!(text.get(fault.offset..)?, [b'[' | b']', ..]) => { Some(TextNote::Bracket) }
+        (Notation::A1, FaultKind::TooLong) if text.len() <= TEXT_LIMIT => Some(TextNote::TooLong),
         (Notation::OpenFormula, FaultKind::BadToken | FaultKind::UnknownFunction)
-            if begins_reference(text.get(fault.offset..)?) =>
-        {
-            Some(TextNote::NoBrackets)
-        }
+            if begins_reference(text.get(fault.offset..)?) => { Some(TextNote::NoBrackets) }
         _ => None,
     }
 }
@@ -84,11 +82,22 @@ pub fn excerpt_of_text<'a>(
     })
 }
 
-/// The excerpt of a line of a script in A1 notation, of this number from 1, whose text has this fault.
-pub fn refused_excerpt(script: &[u8], number: usize, fault: TextFault) -> Option<TextExcerpt<'_>> {
-    let line = line_at(script, number)?;
-    let text = line_text(Commands::OfScript, line)?;
-    excerpt_of_text(Notation::A1, line, text, fault)
+/// The excerpt of a line of these commands in A1 notation whose text has this fault; none where there is nothing to say.
+pub fn refused_excerpt(
+    commands: Commands,
+    line: &[u8],
+    fault: TextFault,
+) -> Option<TextExcerpt<'_>> {
+    excerpt_of_text(Notation::A1, line, line_text(commands, line)?, fault)
+}
+
+/// The excerpt of the text in OpenFormula of one in A1 notation, which is refused with this fault.
+pub fn opened_excerpt(text: &[u8], fault: TextFault) -> TextExcerpt<'_> {
+    TextExcerpt {
+        line: text,
+        offset: fault.offset.min(text.len()),
+        note: TextNote::AsRead,
+    }
 }
 
 /// A line of a script in which a reference has no brackets, its number from 1, and the fault of its text.
@@ -102,8 +111,9 @@ pub struct BareLine<'a> {
     pub excerpt: TextExcerpt<'a>,
 }
 
-// A line whose text is refused where a reference has no brackets: its fault, and what there is to say.
-fn bare_line<'a>(
+/// The fault of the text in a line of a script on a sheet of this shape, and what there is to say of it: that a reference
+/// has no brackets. None where that is not so.
+pub fn bare_line<'a>(
     alloc: Global,
     shape: &Shape,
     line: &'a [u8],

@@ -1,6 +1,8 @@
 //! The commands that work on a store.
 
 use crate::status::{BAD_STORE, store_status};
+use ds_a1::notation::Notation;
+use ds_batch::lines::{opened_lines, show_bare};
 use ds_batch::status::STREAM_FAILED;
 use ds_script_io::input::{InputEnd, read_input};
 use ds_script_io::line::INPUT_LIMIT;
@@ -191,9 +193,14 @@ fn read_lines<R: AllocGlobal + Input + Eprint>(rt: &R) -> Result<Vec<String>, u8
     Err(STREAM_FAILED)
 }
 
-/// `dsheet import FILE`: makes a store at this path of lines from standard input, as `export` writes them.
-pub fn import<R: AllocGlobal + Input + Eprint + Databases>(rt: &R, path: &str) -> u8 {
-    let lines = match read_lines(rt) {
+/// `dsheet import FILE`: makes a store at this path of lines from standard input, as `export` writes them, with formulas
+/// in this notation.
+pub fn import<R: AllocGlobal + Input + Eprint + Databases>(
+    rt: &R,
+    path: &str,
+    notation: Notation,
+) -> u8 {
+    let lines = match read_lines(rt).and_then(|lines| opened_lines(rt, notation, lines)) {
         Ok(lines) => lines,
         Err(status) => return status,
     };
@@ -203,7 +210,11 @@ pub fn import<R: AllocGlobal + Input + Eprint + Databases>(rt: &R, path: &str) -
     };
     match Store::of_lines(rt.alloc(), conn, &lines) {
         Ok(store) => close(rt, path, store),
-        Err(fault) => tell_fault(rt, path, &fault),
+        Err(fault) => {
+            let status = tell_fault(rt, path, &fault);
+            show_bare(rt, &lines);
+            status
+        }
     }
 }
 
