@@ -71,7 +71,7 @@ grep -q '^    =FOO(\[\.A1\])$' "$room/said" || fail "what was sent with --a1: $(
 grep -q '^line 5: BadToken 1$' "$room/said" || fail "a bracket with --a1: $(cat "$room/said")"
 passed "formulas in A1 notation"
 
-printf 'set A1 2\nset A1 =B1\n' | "$program" connect "127.0.0.1:$port" --process 1 >"$room/out" 2>"$room/said" || fail "status $?"
+printf 'set A1 1\nset A1 =B1\n' | "$program" connect "127.0.0.1:$port" --process 1 >"$room/out" 2>"$room/said" || fail "status $?"
 [ "$(tail -n 1 "$room/out")" = "1 refused 1 UnknownFunction 1" ] || fail "a reference without brackets: $(cat "$room/out")"
 grep -q 'references are written \[\.A1\]; --a1 reads A1$' "$room/said" || fail "a reference without brackets: $(cat "$room/said")"
 passed "a reference without brackets"

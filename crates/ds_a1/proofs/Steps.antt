@@ -115,7 +115,7 @@ pub mark_opens : (second : Bool) (b : ℕ) (bs : List ℕ) → word_length (b �
 unfolding opened
 mark_opens second b bs e = ap (opened second) (mark_front b bs (no_letter b bs e))
 
-by_reference : (second : Bool) (w : List ℕ) (ts : List Token) (t : Bool) → begins_reference (Word w ∷ ts) ≡ t
+pub by_reference : (second : Bool) (w : List ℕ) (ts : List Token) (t : Bool) → begins_reference (Word w ∷ ts) ≡ t
     → opened second (Word w ∷ ts) ≡ cond t (before second ++ (w ++ (after (goes_on ts) ++ opened (goes_on ts) ts))) (w ++ opened false ts)
 unfolding opened
 by_reference second w ts t e = ap (λ (x : Bool). cond x (before second ++ (w ++ (after (goes_on ts) ++ opened (goes_on ts) ts))) (w ++ opened false ts)) e
