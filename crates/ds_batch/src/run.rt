@@ -38,14 +38,19 @@ pub fn no_memory(rt: &impl Eprint) -> u8
     NO_MEMORY
 }
 
-// Says of the first line of a script whose text was refused where a reference has no brackets how it is written.
-fn print_bare<R: AllocGlobal + Eprint>(rt: &R, script: &[u8]) {
-    if let Some(bare) = first_bare(rt.alloc(), script) {
+// Says of the first line of a script that was carried out and whose text was refused where a reference has no brackets how
+// it is written.
+fn print_bare<R: AllocGlobal + Eprint>(rt: &R, end: &ScriptEnd, script: &[u8]) {
+    let lines = match end {
+        ScriptEnd::Fault { line, kind: _ } => line.saturating_sub(1),
+        _ => usize::MAX,
+    };
+    if let Some(bare) = first_bare(rt.alloc(), script, lines) {
         let _reported = eprintln!(rt; "line {}: {}\n{}", bare.number, bare.fault, bare.excerpt);
     }
 }
 
-// A script in OpenFormula, from standard input; `text` is what was read. An error is the status.
+// A script from standard input. An error is the status.
 fn read_script<R: AllocGlobal + Input + Eprint>(
     rt: &R,
     notation: Notation,
@@ -148,7 +153,7 @@ fn run_open<R: AllocGlobal + Input + Print + Eprint>(rt: &R) -> u8 {
         run_script(rt.alloc(), &mut reader, &mut writer)
     };
     print_end(rt, &end, &script);
-    print_bare(rt, &script);
+    print_bare(rt, &end, &script);
     script_status(&end)
 }
 

@@ -127,12 +127,12 @@ pub fn bare_line<'a>(
     Some((fault, excerpt))
 }
 
-/// The first line of a script, on the sheet that it makes, whose text is refused where a reference has no brackets; none
-/// where there is none before its end or a line of more than 512 bytes.
-pub fn first_bare(alloc: Global, script: &[u8]) -> Option<BareLine<'_>> {
+/// The first of these many lines of a script, on the sheet that it makes, whose text is refused where a reference has no
+/// brackets; none where there is none before its end or a line of more than 512 bytes.
+pub fn first_bare(alloc: Global, script: &[u8], lines: usize) -> Option<BareLine<'_>> {
     let shape = layout_of(script).shape;
     let mut rest = script;
-    for number in 1..=script.len() {
+    for number in 1..=script.len().min(lines) {
         match next_line(rest, true) {
             NextLine::Line(line, behind) => {
                 if let Some((fault, excerpt)) = bare_line(alloc, &shape, line) {
