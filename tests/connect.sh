@@ -60,6 +60,22 @@ status=0
 [ "$status" = 1 ] || fail "a process that is none of the sheet: status $status"
 passed "a process that is none of the sheet"
 
+# Formulas in A1 notation: what is sent is what a script in OpenFormula has, and a text that is none ends the lines.
+printf 'set A1 =B1*2+A2\nset B2 =SUM($A$2:B1,2)\nset B2 =FOO(A1)\nset B2\nset A1 =[.B1]\nset A1 3\n' >"$room/calls"
+status=0
+"$program" connect "127.0.0.1:$port" --process 1 --a1 <"$room/calls" >"$room/out" 2>"$room/said" || status=$?
+[ "$status" = 1 ] || fail "a bracket with --a1: status $status"
+printf '1 last 2 A2 done\n1 3 done\n1 4 done\n1 refused 1 UnknownFunction 1\n1 5 done\n' >"$room/wanted"
+cmp "$room/out" "$room/wanted" || fail "answers with --a1: $(cat "$room/out")"
+grep -q '^    =FOO(\[\.A1\])$' "$room/said" || fail "what was sent with --a1: $(cat "$room/said")"
+grep -q '^line 5: BadToken 1$' "$room/said" || fail "a bracket with --a1: $(cat "$room/said")"
+passed "formulas in A1 notation"
+
+printf 'set A1 1\nset A1 =B1\n' | "$program" connect "127.0.0.1:$port" --process 1 >"$room/out" 2>"$room/said" || fail "status $?"
+[ "$(tail -n 1 "$room/out")" = "1 refused 1 UnknownFunction 1" ] || fail "a reference without brackets: $(cat "$room/out")"
+grep -q 'references are written \[\.A1\]; --a1 reads A1$' "$room/said" || fail "a reference without brackets: $(cat "$room/said")"
+passed "a reference without brackets"
+
 # The server is killed, and started again at its port: the client joins anew, and is shown its last edit.
 mkfifo "$room/control"
 "$program" connect "127.0.0.1:$port" --process 0 <"$room/control" >"$room/out" 2>"$room/said" &

@@ -110,3 +110,21 @@ shows '1,2\n3\n' 'bad csv\nrecord 2 has 1 fields, the first one 2\n' report
 "$program" run --stops --from 19 --to 20 <examples/stops >"$said"
 "$program" run --stops <examples/stops | sed -n '/^stop 19$/,/^stop 21$/p' | grep -v '^stop 21$' | cmp - "$said"
 passed "run --stops --from 19 --to 20"
+
+# What is said of a text, beside its fault.
+shows 'set 0 A1 =[.B1]+B2*A1\n' 'line 1: UnknownFunction 7\n    set 0 A1 =[.B1]+B2*A1\n                    ^ references are written [.A1]; --a1 reads A1\n'
+shows 'set 0 A1 1\nset 0 A1 =B1+[.B2]\n' 'line 2: BadToken 4\n    set 0 A1 =B1+[.B2]\n                 ^ with --a1 references are written A1\n' 'run --a1'
+shows '1,=A1\n' 'cell B1: UnknownFunction 1\n    =A1\n     ^ references are written [.A1]; --a1 reads A1\n' report
+shows '1,=A1*FOO(1)\n' 'cell B1: UnknownFunction 7\n    =[.A1]*FOO(1)\n           ^ in the text as it is read\n' 'report --a1'
+
+# A store of lines in A1 notation is that of the lines in OpenFormula.
+printf 'sheet 2 2 1\nset 0 A1 =SUM($B$1:B2,1)\n# =A1\nset 0 B1 7\n' >"$room/lines"
+on "$room/lines" import --a1 "$room/a1.db"
+expect "import --a1" "$status" 0 ""
+"$program" export "$room/a1.db" >"$room/exported"
+printf 'sheet 2 2 1\nset 0 A1 =SUM([.$B$1:.B2];1)\n# =A1\nset 0 B1 7\n' | cmp - "$room/exported" || fail "import --a1: another store"
+on "$room/exported" import --a1 "$room/none.db"
+expect "import --a1 of brackets" "$status" 1 "line 2: BadToken 5"
+[ ! -e "$room/none.db" ] || fail "import --a1 of brackets: it leaves a file"
+on "$room/lines" import "$room/bare.db"
+expect "import without --a1" "$status" 1 " *\^ references are written \[\.A1\]; --a1 reads A1"

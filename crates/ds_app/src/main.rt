@@ -80,19 +80,22 @@ fn dispatch<
         return no_memory(rt);
     };
     match options(rt.alloc(), words.as_slice()) {
-        Ok(Action::Run) => run(rt),
-        Ok(Action::Stops(Stopping { from, to })) => {
-            run_stops(rt, stops_between(from as u64, to as u64), terminals.error)
+        Ok(Action::Run(notation)) => run(rt, notation),
+        Ok(Action::Stops(Stopping { from, to }, notation)) => {
+            let range = stops_between(from as u64, to as u64);
+            run_stops(rt, range, notation, terminals.error)
         }
-        Ok(Action::Report) => report(rt),
+        Ok(Action::Report(notation)) => report(rt, notation),
         Ok(Action::Explore(exploring)) => explore(rt, exploring, terminals.error),
         Ok(Action::Trace) => trace(rt),
         Ok(Action::Serve(serving)) => serve(rt, serving),
         Ok(Action::Keep(serving, path)) => serve_store(rt, serving, path),
-        Ok(Action::Connect(connecting)) => connect(rt, connecting, terminals.input),
+        Ok(Action::Connect(connecting, notation)) => {
+            connect(rt, connecting, notation, terminals.input)
+        }
         Ok(Action::Check(path)) => check(rt, path),
         Ok(Action::Export(path)) => export(rt, path),
-        Ok(Action::Import(path)) => import(rt, path),
+        Ok(Action::Import(path, notation)) => import(rt, path, notation),
         Ok(Action::Compact(path, new)) => compact(rt, path, new),
         Err(OptionsFault::CommandLine(error)) => explain(rt, &error),
         Err(OptionsFault::NoFile) => {

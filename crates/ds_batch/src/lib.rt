@@ -4,6 +4,7 @@
 
 mod copying;
 pub mod faults;
+pub mod lines;
 mod progress;
 pub mod report;
 pub mod run;

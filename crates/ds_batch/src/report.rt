@@ -3,10 +3,15 @@
 use crate::copying::Copying;
 use crate::run::no_memory;
 use crate::status::grid_status;
+use ds_a1::notation::Notation;
+use ds_a1::texts::to_open;
+use ds_formula::cells::Cell;
+use ds_formula::fault::TextFault;
 use ds_grid::ending::{GridEnd, GridFault};
 use ds_grid::grid::records;
 use ds_grid::report::report_grid;
 use ds_sched::{Reading, Writing};
+use ds_script_hints::texts::{excerpt_of_text, opened_excerpt};
 use std::alloc::Global;
 use std::io::{self, BufWriter};
 
@@ -31,8 +36,33 @@ fn odd_record(alloc: Global, grid: &[u8]) -> Option<OddRecord> {
     })
 }
 
+// The text of a cell; none where there is no memory, too.
+fn text_of(alloc: Global, grid: &[u8], cell: Cell) -> Option<Vec<u8>> {
+    let records = records(alloc, grid).ok()?;
+    let field = records.get(cell.row)?.get(cell.column)?;
+    Vec::from_slice(alloc, field).ok()
+}
+
+// Shows on standard error the text of a cell that is refused, where there is something to say of it.
+fn show_text<R: AllocGlobal + Eprint>(
+    rt: &R,
+    notation: Notation,
+    grid: &[u8],
+    cell: Cell,
+    fault: TextFault,
+) {
+    let Some(text) = text_of(rt.alloc(), grid, cell) else {
+        return;
+    };
+    if let Some(excerpt) = excerpt_of_text(notation, &text, &text, fault) {
+        let _reported = eprintln!(rt; "{excerpt}");
+    } else if let (Notation::A1, Ok(open)) = (notation, to_open(rt.alloc(), &text)) {
+        let _reported = eprintln!(rt; "{}", opened_excerpt(&open, fault));
+    }
+}
+
 // Reports on standard error how a report ended, where that is not as it should.
-fn print_end<R: AllocGlobal + Eprint>(rt: &R, end: &GridEnd, grid: &[u8]) {
+fn print_end<R: AllocGlobal + Eprint>(rt: &R, notation: Notation, end: &GridEnd, grid: &[u8]) {
     let _reported = match end {
         GridEnd::Ended => Ok(()),
         GridEnd::Grid(GridFault::BadCsv) => match odd_record(rt.alloc(), grid) {
@@ -47,14 +77,19 @@ fn print_end<R: AllocGlobal + Eprint>(rt: &R, end: &GridEnd, grid: &[u8]) {
             }
             None => eprintln!(rt; "{end}"),
         },
-        GridEnd::Grid(_) | GridEnd::CellFault { cell: _, fault: _ } => eprintln!(rt; "{end}"),
+        GridEnd::CellFault { cell, fault } => {
+            let reported = eprintln!(rt; "{end}");
+            show_text(rt, notation, grid, *cell, *fault);
+            reported
+        }
+        GridEnd::Grid(_) => eprintln!(rt; "{end}"),
         _ => eprintln!(rt; "dsheet: {end}"),
     };
 }
 
-/// `dsheet report`: a grid from standard input, of at most 1,048,576 bytes, its values to standard output. A fault of the
+/// `dsheet report`: a grid with formulas in this notation from standard input, of at most 1,048,576 bytes, its values to standard output. A fault of the
 /// grid is reported on standard error, and then nothing is written. Gives the exit status, `grid_status` of how it ended.
-pub fn report<R: AllocGlobal + Input + Print + Eprint>(rt: &R) -> u8 {
+pub fn report<R: AllocGlobal + Input + Print + Eprint>(rt: &R, notation: Notation) -> u8 {
     let Ok(buffered) = BufWriter::new(rt.alloc(), io::writer(rt)) else {
         return no_memory(rt);
     };
@@ -62,8 +97,8 @@ pub fn report<R: AllocGlobal + Input + Print + Eprint>(rt: &R) -> u8 {
     let end = {
         let mut reader = Reading::new(Copying::new(rt.reader(), &mut grid));
         let mut writer = Writing::new(buffered);
-        report_grid(rt.alloc(), &mut reader, &mut writer)
+        report_grid(rt.alloc(), notation, &mut reader, &mut writer)
     };
-    print_end(rt, &end, &grid);
+    print_end(rt, notation, &end, &grid);
     grid_status(&end)
 }

@@ -6,6 +6,9 @@ ghost use Rattle.ds_batch.specs.Statuses.{grid_status_of, status_of};
 use ds_grid::ending::GridEnd;
 use ds_sched::ScriptEnd;
 
+/// The exit status where a line's or a cell's text is refused.
+pub const REFUSED: u8 = 1;
+
 /// The exit status where memory is not there.
 pub const NO_MEMORY: u8 = 4;
 

@@ -11,6 +11,7 @@ use Rattle.ds_cli.specs.declared.command_line.Action.TheVariants.{Run, Stops, Re
 use Rattle.ds_cli.specs.declared.command_line.OptionsFault.{OptionsFault}
 use Rattle.ds_cli.specs.declared.command_line.OptionsFault.TheVariants.{CommandLine, NoCommand, NoFile, OutOfLimits}
 use Rattle.ds_cli.specs.Connectings.{IsConnecting, IsStopping}
+use Rattle.ds_cli.specs.Notations.{IsNotation}
 use Rattle.ds_cli.specs.Explorings.{IsExploring}
 use Rattle.ds_cli.specs.Servings.{IsOutOfLimits, IsServing}
 
@@ -36,13 +37,14 @@ number_option name default = record (new_rule name) {
   defaults = default ∷ [];
 }
 
--- `dsheet run [--stops] [--from K] [--to K]`
-abbrev pub run_command : App
-run_command = with_rule (with_rule (with_rule (new_app (codes "run")) stops) (number_option (codes "from") (codes "1"))) (number_option (codes "to") (codes "0"))
-
 -- a flag of this name
 abbrev pub flag : Text → Rule
 flag name = record (new_rule name) { long = Some name; action = Some SetTrue }
+
+-- `dsheet run [--stops] [--from K] [--to K] [--a1]`
+abbrev pub run_command : App
+run_command = with_rule (with_rule (with_rule (with_rule (new_app (codes "run")) stops) (number_option (codes "from") (codes "1"))) (number_option (codes "to") (codes "0")))
+    (flag (codes "a1"))
 
 -- `dsheet explore [--crashes] [--stops] [--evictions] [--most N]`
 abbrev pub explore_command : App
@@ -53,9 +55,9 @@ explore_command = with_rule (with_rule (with_rule (with_rule (new_app (codes "ex
 abbrev pub trace_command : App
 trace_command = new_app (codes "trace")
 
--- `dsheet report`
+-- `dsheet report [--a1]`
 abbrev pub report_command : App
-report_command = new_app (codes "report")
+report_command = with_rule (new_app (codes "report")) (flag (codes "a1"))
 
 -- `dsheet serve --listen ADDRESS [--columns N] [--rows N]`
 abbrev pub sheet_command : App
@@ -84,13 +86,18 @@ serve_command = with_rule (with_rule (with_rule (with_rule shared_command (numbe
 abbrev pub file : Text → Rule
 file name = record (new_rule name) { value_names = 1; required = true }
 
--- `dsheet connect SERVER [--process N]`
+-- `dsheet connect SERVER [--process N] [--a1]`
 abbrev pub connect_command : App
-connect_command = with_rule (with_rule (new_app (codes "connect")) (file (codes "server"))) (number_option (codes "process") (codes "0"))
+connect_command = with_rule (with_rule (with_rule (new_app (codes "connect")) (file (codes "server"))) (number_option (codes "process") (codes "0")))
+    (flag (codes "a1"))
 
 -- `dsheet COMMAND FILE`
 abbrev pub file_command : Text → App
 file_command name = with_rule (new_app name) (file (codes "file"))
+
+-- `dsheet import FILE [--a1]`
+abbrev pub import_command : App
+import_command = with_rule (file_command (codes "import")) (flag (codes "a1"))
 
 -- `dsheet compact FILE NEW`
 abbrev pub compact_command : App
@@ -99,7 +106,7 @@ compact_command = with_rule (file_command (codes "compact")) (file (codes "new")
 -- the program with the subcommands that work on a store
 abbrev pub with_stores : App → App
 with_stores app = with_subcommand (with_subcommand (with_subcommand (with_subcommand app (file_command (codes "check")).top)
-    (file_command (codes "export")).top) (file_command (codes "import")).top) compact_command.top
+    (file_command (codes "export")).top) import_command.top) compact_command.top
 
 -- the program, which has a version and wants one of its subcommands
 abbrev pub dsheet_alone : App
@@ -122,17 +129,17 @@ Names rows name value = first_of name rows ≡ Some value
 
 -- a subcommand of this name with these matches asks for this
 abbrev pub Asks : Text → List Row → Action → Type 0
-Asks name rows Run = (name ≡ codes "run") × (one_of (codes "stops") rows ≡ Some (codes "true") → ⊥)
-Asks name rows (Stops stopping) = (name ≡ codes "run") × (one_of (codes "stops") rows ≡ Some (codes "true")) × IsStopping rows stopping
-Asks name rows Report = name ≡ codes "report"
+Asks name rows (Run notation) = (name ≡ codes "run") × (one_of (codes "stops") rows ≡ Some (codes "true") → ⊥) × IsNotation rows notation
+Asks name rows (Stops stopping notation) = (name ≡ codes "run") × (one_of (codes "stops") rows ≡ Some (codes "true")) × IsStopping rows stopping × IsNotation rows notation
+Asks name rows (Report notation) = (name ≡ codes "report") × IsNotation rows notation
 Asks name rows Trace = name ≡ codes "trace"
 Asks name rows (Explore exploring) = (name ≡ codes "explore") × IsExploring rows exploring
 Asks name rows (Serve serving) = (name ≡ codes "serve") × IsServing rows serving × (first_of (codes "store") rows ≡ None)
 Asks name rows (Keep serving path) = (name ≡ codes "serve") × IsServing rows serving × Names rows (codes "store") path.now
-Asks name rows (Connect connecting) = (name ≡ codes "connect") × IsConnecting rows connecting
+Asks name rows (Connect connecting notation) = (name ≡ codes "connect") × IsConnecting rows connecting × IsNotation rows notation
 Asks name rows (Check path) = (name ≡ codes "check") × Names rows (codes "file") path.now
 Asks name rows (Export path) = (name ≡ codes "export") × Names rows (codes "file") path.now
-Asks name rows (Import path) = (name ≡ codes "import") × Names rows (codes "file") path.now
+Asks name rows (Import path notation) = (name ≡ codes "import") × Names rows (codes "file") path.now × IsNotation rows notation
 Asks name rows (Compact path new) = (name ≡ codes "compact") × Names rows (codes "file") path.now × Names rows (codes "new") new.now
 
 -- the words of the command line ask for this, by the subcommand and the matches that `clap` reads from them

@@ -2,3 +2,4 @@ pub mod Servings
 pub mod CommandLines
 pub mod Explorings
 pub mod Connectings
+pub mod Notations

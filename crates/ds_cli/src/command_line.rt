@@ -4,23 +4,25 @@ ghost use Rattle.std.specs.Prelude.{◌≡◌, ◌↔◌, IfErr, IfOk, IsTrue, N
 ghost use Rattle.std.specs.String.{string_bytes};
 ghost use Rattle.clap.specs.Words.{App, Rule, app_of, fault_of, new_app, first_of, found_of, one_of, rows_of, rule_of, with_rule, with_subcommand};
 ghost use Rattle.ds_cli.specs.declared.command_line.OptionsFault.TheVariants.{CommandLine, NoFile};
-ghost use Rattle.ds_cli.specs.CommandLines.{Asks, AsksNothing, AsksOfStore, IsAskedBy, IsCommand, IsRefusedFor, IsWanting, Names, compact_command as compact_app, connect_command as connect_app, dsheet, dsheet_alone, explore_command as explore_app, file as file_rule, flag as flag_rule, file_command as file_app, listen as listen_rule, log_option as log_rule, number_option as number_rule, report_command as report_app, run_command as run_app, serve_command as serve_app, shared_command as shared_app, sheet_command as sheet_app, store as store_rule, trace_command as trace_app, with_stores};
+ghost use Rattle.ds_cli.specs.CommandLines.{Asks, AsksNothing, AsksOfStore, IsAskedBy, IsCommand, IsRefusedFor, IsWanting, Names, compact_command as compact_app, connect_command as connect_app, dsheet, dsheet_alone, explore_command as explore_app, file as file_rule, flag as flag_rule, file_command as file_app, import_command as import_app, listen as listen_rule, log_option as log_rule, number_option as number_rule, report_command as report_app, run_command as run_app, serve_command as serve_app, shared_command as shared_app, sheet_command as sheet_app, store as store_rule, trace_command as trace_app, with_stores};
 
 use crate::connecting::{Connecting, Stopping, read_connecting, read_stopping};
 use crate::exploring::{Exploring, is_set, read_exploring};
+use crate::notations::notation_of;
 use crate::serving::{OutOfLimits, Serving, read_serving};
 use clap::{Arg, ArgAction, ArgMatches, Command, Error, value_parser};
+use ds_a1::notation::Notation;
 use std::alloc::{AllocError, Global};
 
 /// What the words ask for.
 #[derive(Clone, Copy, Debug, PartialEq, Eq)]
 pub enum Action<'a> {
-    /// `dsheet run`: a script on standard input.
-    Run,
+    /// `dsheet run`: a script on standard input, with formulas in this notation.
+    Run(Notation),
     /// `dsheet run --stops`: the same, crashed after each of its steps.
-    Stops(Stopping),
-    /// `dsheet report`: a grid on standard input.
-    Report,
+    Stops(Stopping, Notation),
+    /// `dsheet report`: a grid on standard input, with formulas in this notation.
+    Report(Notation),
     /// `dsheet explore`: all orders of the steps of a script's calls.
     Explore(Exploring),
     /// `dsheet trace`: a picture of the run of a script.
@@ -29,14 +31,14 @@ pub enum Action<'a> {
     Serve(Serving),
     /// `dsheet serve --store FILE`: the same, over the sheet of a store.
     Keep(Serving, &'a str),
-    /// `dsheet connect SERVER`: a session of lines.
-    Connect(Connecting),
+    /// `dsheet connect SERVER`: a session of lines, with formulas in this notation.
+    Connect(Connecting, Notation),
     /// `dsheet check FILE`: what a store has.
     Check(&'a str),
     /// `dsheet export FILE`: the lines of a store.
     Export(&'a str),
-    /// `dsheet import FILE`: a store of lines on standard input.
-    Import(&'a str),
+    /// `dsheet import FILE`: a store of lines on standard input, with formulas in this notation.
+    Import(&'a str, Notation),
     /// `dsheet compact FILE NEW`: a new store of the texts of an old one.
     Compact(&'a str, &'a str),
 }
@@ -56,6 +58,8 @@ pub enum OptionsFault {
 
 // The flag of `run` that crashes the sheet after each step.
 const STOPS: &str = "stops";
+
+const A1_HELP: &str = "Formulas are written as in Calc and Excel: =A1*2, =SUM(A1:B3,7)";
 
 // The program's version.
 const VERSION: &str = "0.1.0";
@@ -113,7 +117,9 @@ Places (N is one of the edits of P, from 0; PART is from 0):
   version
 
 A text is empty, a whole number or a formula, as =[.A1]*2 or =SUM([.A1:.B3];7):
-a reference is [.A1], a range [.A1:.B3], and ; parts arguments. =A1 is refused: write =[.A1].
+a reference is [.A1], a range [.A1:.B3], and ; parts arguments. With --a1 they are written as in
+Calc and Excel, =A1*2 or =SUM(A1:B3,7): brackets, and a text over 240 bytes with them, end the
+script at their line, which is named; what else is refused is told by its byte in the text with brackets.
 Functions: SUM MIN MAX COUNT AND OR of one argument or more, ranges among them;
 ABS and NOT of one; MOD and QUOTIENT of two; IF of two or three.
 Limits: 26 columns, 64 rows, 1024 cells; 8 processes, 256 edits of each;
@@ -127,6 +133,7 @@ of recover for each process, of settle 0 and of report 0.
 Examples:
   printf 'set 0 A1 =1+2\\nsettle 0\\nreport 0\\n' | dsheet run
   printf 'set 0 A1 7\\n' | dsheet run --stops
+  printf 'set 0 A1 =B1+1\\nsettle 0\\nreport 0\\n' | dsheet run --a1
 
 Exit status: 0 ended; 1 a fault in a line, which is named; 2 wrong words on the
 command line; 3 a failed read or write, or a script over 1048576 bytes; 4 no memory.";
@@ -134,7 +141,8 @@ command line; 3 a failed read or write, or a script over 1048576 bytes; 4 no mem
 const REPORT_HELP: &str = "\
 The grid is CSV without a heading line: a record is a row, a field the text of a cell.
 A text is empty, a whole number or a formula, as =[.A1]*2 or =SUM([.A1:.B3];7):
-a reference is [.A1], a range [.A1:.B3], and ; parts arguments. =A1 is refused: write =[.A1].
+a reference is [.A1], a range [.A1:.B3], and ; parts arguments. With --a1 they are written as in
+Calc and Excel, =A1*2 or =SUM(A1:B3,7) (a field with a comma stands in quotes), and brackets are refused.
 Functions: SUM MIN MAX COUNT AND OR of one argument or more, ranges among them;
 ABS and NOT of one; MOD and QUOTIENT of two; IF of two or three.
 Limits: 26 columns, 64 rows, 1024 cells; 240 bytes a text, 1048576 the grid.
@@ -142,10 +150,11 @@ What is written is the values, as CSV. Nothing is written where a fault is told:
   empty grid        no record
   bad csv           a record has another number of fields than the first
   grid too large    more columns, rows or cells than the limits
-  cell A1: KIND N   the text of this cell is refused at its byte N, from 0
+  cell A1: KIND N   the text of this cell is refused at its byte N, from 0; with --a1 at that of the text with brackets
 
 Example:
   printf '1,=[.A1]*20\\n2,=SUM([.A1:.A2])\\n' | dsheet report
+  printf '1,=A1*20\\n' | dsheet report --a1
 
 Exit status: 0 ended; 1 a fault in the grid; 2 wrong words on the command line;
 3 a failed read or write, or a grid over 1048576 bytes; 4 no memory.";
@@ -216,7 +225,7 @@ const CONNECT_HELP: &str = "\
 Joins the process, and tells what became of its last edit, as recover does in a script. Then each line of standard
 input is one call: set CELL TEXT, report, or last. Empty lines and lines that begin with # are skipped. Where the
 connection breaks, the process is joined anew, and what is told then says whether the edit under way counts; an edit is
-never sent twice.
+never sent twice. With --a1 a text is written as in Calc and Excel, as =A1*2, and is sent as =[.A1]*2.
 
 Example:
   printf 'set A1 =1+2\\nreport\\n' | dsheet connect 127.0.0.1:8080 --process 1
@@ -251,6 +260,7 @@ const IMPORT_ABOUT: &str = "Makes a store of the lines on standard input, as exp
 const IMPORT_HELP: &str = "\
 The first line is \"sheet COLUMNS ROWS PROCESSES\", each other one \"set PROCESS CELL TEXT\", a comment, or empty.
 Every edit is made on a new sheet, and has to be answered done. The file must not have anything yet.
+With --a1 formulas are written as in Calc and Excel, as =A1*2, and are kept as =[.A1]*2.
 
 Example:
   printf 'sheet 2 2 2\\nset 0 A1 =1+2\\n' | dsheet import sheet.db
@@ -288,6 +298,12 @@ fn run_alone<'a>(alloc: Global) -> Command<'a>
     ensures { IsCommand (new_app (codes "run")) result }
 {
     described(alloc, "run", RUN_ABOUT, RUN_HELP)
+}
+
+fn report_alone<'a>(alloc: Global) -> Command<'a>
+    ensures { IsCommand (new_app (codes "report")) result }
+{
+    described(alloc, "report", REPORT_ABOUT, REPORT_HELP)
 }
 
 fn explore_alone<'a>(alloc: Global) -> Command<'a>
@@ -351,7 +367,8 @@ fn run_command<'a>(alloc: Global) -> Result<Command<'a>, AllocError>
     let two = with_argument(one, number_option(alloc, "from", "1", from_help));
     let to_help = "With --stops: the last one; 0: to the end";
     let three = with_argument(two, number_option(alloc, "to", "0", to_help));
-    called(three, "dsheet run")
+    let four = with_argument(three, a1_flag(alloc));
+    called(four, "dsheet run")
 }
 
 // A flag.
@@ -363,6 +380,14 @@ fn flag<'a>(alloc: Global, name: &'a str, help: &'a str) -> Arg<'a>
         .long(name)
         .action(ArgAction::SetTrue)
         .help(help)
+}
+
+// The flag of the commands that read formulas.
+fn a1_flag<'a>(alloc: Global) -> Arg<'a>
+    ensures rule { rule_of result ≡ flag_rule (codes "a1") }
+    ensures local { result.global ≡ false }
+{
+    flag(alloc, "a1", A1_HELP)
 }
 
 fn explore_command<'a>(alloc: Global) -> Result<Command<'a>, AllocError>
@@ -388,8 +413,8 @@ fn trace_command<'a>(alloc: Global) -> Command<'a>
 fn report_command<'a>(alloc: Global) -> Result<Command<'a>, AllocError>
     ensures { IfOk result (IsCommand report_app) }
 {
-    let alone = described(alloc, "report", REPORT_ABOUT, REPORT_HELP);
-    called(Ok(alone), "dsheet report")
+    let one = with_argument(Ok(report_alone(alloc)), a1_flag(alloc));
+    called(one, "dsheet report")
 }
 
 // An option with a number from 0 to 65,535.
@@ -475,6 +500,14 @@ fn compact_command<'a>(alloc: Global) -> Result<Command<'a>, AllocError>
     with_argument(command, new)
 }
 
+// `dsheet import`.
+fn import_command<'a>(alloc: Global) -> Result<Command<'a>, AllocError>
+    ensures { IfOk result (IsCommand import_app) }
+{
+    let command = file_command(alloc, "import", IMPORT_ABOUT, IMPORT_HELP);
+    with_argument(command, a1_flag(alloc))
+}
+
 // A command with those on stores below it.
 fn with_stores<'a>(
     alloc: Global,
@@ -486,8 +519,7 @@ fn with_stores<'a>(
     let one = with_command(command, check);
     let export = file_command(alloc, "export", EXPORT_ABOUT, EXPORT_HELP);
     let two = with_command(one, export);
-    let import = file_command(alloc, "import", IMPORT_ABOUT, IMPORT_HELP);
-    let three = with_command(two, import);
+    let three = with_command(two, import_command(alloc));
     with_command(three, compact_command(alloc))
 }
 
@@ -537,7 +569,8 @@ fn connect_command<'a>(alloc: Global) -> Result<Command<'a>, AllocError>
     let server = file_argument(alloc, "server", "SERVER", server_help);
     let one = with_argument(Ok(connect_alone(alloc)), server);
     let process_help = "The process that is joined, 0 to 7";
-    with_argument(one, number_option(alloc, "process", "0", process_help))
+    let two = with_argument(one, number_option(alloc, "process", "0", process_help));
+    with_argument(two, a1_flag(alloc))
 }
 
 // The program wants one of its subcommands, and prints its version.
@@ -616,11 +649,12 @@ fn ran<'a>(found: &ArgMatches<'a>) -> Result<Action<'a>, OptionsFault>
     ensures action { IfOk result (Asks (codes "run") (rows_of (found_of found.now))) }
     ensures fault { IfErr result (AsksNothing (codes "run") (rows_of (found_of found.now))) }
 {
+    let notation = notation_of(found);
     if !is_set(found, STOPS) {
-        return Ok(Action::Run);
+        return Ok(Action::Run(notation));
     }
     match read_stopping(found) {
-        Ok(stopping) => Ok(Action::Stops(stopping)),
+        Ok(stopping) => Ok(Action::Stops(stopping, notation)),
         Err(limit) => Err(OptionsFault::OutOfLimits(limit)),
     }
 }
@@ -631,7 +665,7 @@ fn connected<'a>(found: &ArgMatches<'a>) -> Result<Action<'a>, OptionsFault>
     ensures fault { IfErr result (AsksNothing (codes "connect") (rows_of (found_of found.now))) }
 {
     match read_connecting(found) {
-        Ok(connecting) => Ok(Action::Connect(connecting)),
+        Ok(connecting) => Ok(Action::Connect(connecting, notation_of(found))),
         Err(limit) => Err(OptionsFault::OutOfLimits(limit)),
     }
 }
@@ -655,7 +689,7 @@ fn asked_of_store<'a>(name: &str, found: &ArgMatches<'a>) -> Result<Action<'a>, 
     match name {
         "check" => Ok(Action::Check(value_of(found, "file")?)),
         "export" => Ok(Action::Export(value_of(found, "file")?)),
-        "import" => Ok(Action::Import(value_of(found, "file")?)),
+        "import" => Ok(Action::Import(value_of(found, "file")?, notation_of(found))),
         "compact" => Ok(Action::Compact(value_of(found, "file")?, value_of(found, "new")?)),
         _ => Err(OptionsFault::NoCommand),
     }
@@ -669,7 +703,7 @@ fn asked<'a>(name: &str, found: &ArgMatches<'a>) -> Result<Action<'a>, OptionsFa
     match name {
         "run" => ran(found),
         "connect" => connected(found),
-        "report" => Ok(Action::Report),
+        "report" => Ok(Action::Report(notation_of(found))),
         "trace" => Ok(Action::Trace),
         "serve" => served(found),
         "explore" => explored(found),

@@ -1,5 +1,9 @@
 //! `dsheet connect`.
 
+use crate::notes::show_note;
+use ds_a1::notation::Notation;
+use ds_a1_script::lines::Commands;
+use ds_batch::lines::opened_line;
 use ds_batch::run::no_memory;
 use ds_batch::status::{NO_MEMORY, STREAM_FAILED};
 use ds_cli::connecting::Connecting;
@@ -38,7 +42,7 @@ struct Joined {
 #[derive(Clone, Copy)]
 struct Line<'a> {
     number: u64,
-    text: &'a [u8],
+    text: &'a str,
 }
 
 // Adds what stands before the first line feed to what was said: whether there is one.
@@ -195,18 +199,24 @@ fn call_anew<R: AllocGlobal + Print + Eprint + Clock + Net<Stream = TcpStream>>(
     }
 }
 
-// One call, on this connection, or on a new one where it is broken: what the new join says is shown then, and an edit
+// One call, its text in OpenFormula, on this connection, or on a new one where it is broken: what the new join says is shown then, and an edit
 // is not sent again. An error is the status.
 fn call<R: AllocGlobal + Print + Eprint + Clock + Net<Stream = TcpStream>>(
     rt: &R,
     connecting: Connecting,
+    notation: Notation,
     stream: &mut TcpStream,
     ask: Ask<'_>,
 ) -> Result<(), u8> {
-    match exchange(rt.alloc(), stream, ask) {
-        Ok(said) => show(rt, connecting.process, &said),
-        Err(_) => call_anew(rt, connecting, stream, ask),
+    let said = match exchange(rt.alloc(), stream, ask) {
+        Ok(said) => said,
+        Err(_) => return call_anew(rt, connecting, stream, ask),
+    };
+    show(rt, connecting.process, &said)?;
+    if let Ask::Set { cell: _, text } = ask {
+        show_note(rt, notation, text, &said);
     }
+    Ok(())
 }
 
 // A line without its end.
@@ -215,28 +225,30 @@ fn without_end(line: &str) -> &str {
     line.strip_suffix('\r').unwrap_or(line)
 }
 
-// The call that a line asks for; a line with a fault is reported, and ends nothing where there are prompts. An error is
-// the status.
+// The call that a line asks for, whose text is in this notation; a line with a fault is reported. An error is the status.
 fn obey<R: AllocGlobal + Print + Eprint + Clock + Net<Stream = TcpStream>>(
     rt: &R,
     connecting: Connecting,
+    notation: Notation,
     stream: &mut TcpStream,
     line: Line<'_>,
-    prompts: bool,
 ) -> Result<(), u8> {
-    match read_ask(line.text) {
-        Ok(ask) => call(rt, connecting, stream, ask),
+    let open = opened_line(rt, notation, Commands::OfClient, line.number, line.text)?;
+    match read_ask(open.as_bytes()) {
+        Ok(ask) => call(rt, connecting, notation, stream, ask),
         Err(fault) => {
             let _reported = eprintln!(rt; "line {}: {fault}", line.number);
-            if prompts { Ok(()) } else { Err(REFUSED) }
+            Err(REFUSED)
         }
     }
 }
 
-// The calls of the lines of standard input, up to its end. An error is the status.
+// The calls of the lines of standard input, up to its end; one with a fault ends nothing where there are prompts. An error
+// is the status.
 fn talk<R: AllocGlobal + Input + Print + Eprint + Clock + Net<Stream = TcpStream>>(
     rt: &R,
     connecting: Connecting,
+    notation: Notation,
     stream: &mut TcpStream,
     prompts: bool,
 ) -> Result<(), u8> {
@@ -253,21 +265,28 @@ fn talk<R: AllocGlobal + Input + Print + Eprint + Clock + Net<Stream = TcpStream
         }
         let line = Line {
             number,
-            text: without_end(&text).as_bytes(),
+            text: without_end(&text),
         };
-        if !is_skipped(line.text) {
-            obey(rt, connecting, stream, line, prompts)?;
+        if is_skipped(line.text.as_bytes()) {
+            continue;
+        }
+        match obey(rt, connecting, notation, stream, line) {
+            Err(REFUSED) if prompts => {}
+            Err(status) => return Err(status),
+            Ok(()) => {}
         }
     }
     Ok(())
 }
 
-/// `dsheet connect`: joins a process of a server, and makes a call for each line of standard input; what the server says
+/// `dsheet connect`: joins a process of a server, and makes a call for each line of standard input, with formulas in this
+/// notation; what the server says
 /// goes to standard output as the lines of a script's answers. A prompt is shown on standard error where that is asked
 /// for; then a line with a fault ends nothing. Gives the status.
 pub fn connect<R: AllocGlobal + Input + Print + Eprint + Clock + Net<Stream = TcpStream>>(
     rt: &R,
     connecting: Connecting,
+    notation: Notation,
     prompts: bool,
 ) -> u8 {
     let Joined { mut stream, said } = match join(rt, connecting) {
@@ -280,7 +299,7 @@ pub fn connect<R: AllocGlobal + Input + Print + Eprint + Clock + Net<Stream = Tc
     if is_refusal(&said) {
         return REFUSED;
     }
-    match talk(rt, connecting, &mut stream, prompts) {
+    match talk(rt, connecting, notation, &mut stream, prompts) {
         Ok(()) => 0,
         Err(status) => status,
     }

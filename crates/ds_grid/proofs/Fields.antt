@@ -10,7 +10,8 @@ use Rattle.ds_formula.specs.declared.fault.TextFault.{TextFault}
 use Rattle.ds_formula.specs.declared.fault.FaultKind.TheVariants.{NoMemory}
 use Rattle.ds_formula.specs.Cells.{IsInside, cell_at, index_of}
 use Rattle.ds_formula.specs.Plain.{plain}
-use Rattle.ds_formula.specs.Grammar.{Reads, Faults, Answers}
+use Rattle.ds_a1.specs.declared.notation.Notation.{Notation}
+use Rattle.ds_a1.specs.Answers.{ReadsBy, FaultsBy, AnswersBy}
 use Rattle.ds_grid.specs.declared.ending.GridEnd.TheVariants as ends
 use Rattle.ds_eval.specs.declared.sheet.Sheet.{Sheet}
 use Rattle.ds_eval.specs.SheetContents.{contents_of, plain_or_empty}
@@ -73,12 +74,12 @@ pushed (z ∷ xs) x y (suc i) is = elim (pushed xs x y i is) [
 ]
 
 -- the content of the next cell's text, after those of the cells before
-pub read_more : (shape : Shape) (rows : List (List (List ℕ))) (contents : List Content) (content : Content) (index : ℕ) (cell : Cell) (text : List ℕ) → AreRead shape rows contents → length contents ≡ index
-    → cell ≡ cell_at shape index → text ≡ text_at rows cell → Reads shape text (plain content) → AreRead shape rows (contents ++ content ∷ [])
-read_more shape rows contents content index cell text read all at is now k x found = elim (pushed contents content x k found) [
+pub read_more : (notation : Notation) (shape : Shape) (rows : List (List (List ℕ))) (contents : List Content) (content : Content) (index : ℕ) (cell : Cell) (text : List ℕ) → AreRead notation shape rows contents → length contents ≡ index
+    → cell ≡ cell_at shape index → text ≡ text_at rows cell → ReadsBy notation shape text (plain content) → AreRead notation shape rows (contents ++ content ∷ [])
+read_more notation shape rows contents content index cell text read all at is now k x found = elim (pushed contents content x k found) [
   | inl early ↦ read k x early
-  | inr late ↦ subst (λ (c : Content). Reads shape (text_at rows (cell_at shape k)) (plain c)) late.1
-      (subst (λ (t : List ℕ). Reads shape t (plain content)) (is ∙ ap (λ (c : Cell). text_at rows c) (at ∙ ap (λ n. cell_at shape n) (sym all ∙ sym late.0))) now)
+  | inr late ↦ subst (λ (c : Content). ReadsBy notation shape (text_at rows (cell_at shape k)) (plain c)) late.1
+      (subst (λ (t : List ℕ). ReadsBy notation shape t (plain content)) (is ∙ ap (λ (c : Cell). text_at rows c) (at ∙ ap (λ n. cell_at shape n) (sym all ∙ sym late.0))) now)
 ]
 
 content_at : {A : Type 0} (xs : List A) (i : ℕ) → i < length xs → (x : A) × (slice_get xs i ≡ Some x)
@@ -87,40 +88,40 @@ content_at (x ∷ xs) zero lt = (x, refl)
 content_at (x ∷ xs) (suc i) lt = content_at xs i (omega arith)
 
 -- a text that has no content has this fault, and those before it have one
-pub first_fault : (shape : Shape) (rows : List (List (List ℕ))) (contents : List Content) (index : ℕ) (cell : Cell) (text : List ℕ) (fault : TextFault) → AreRead shape rows contents → length contents ≡ index
-    → index_of shape cell ≡ index → IsInside shape cell → text ≡ text_at rows cell → Answers shape text (Err fault) → fault.kind ≢ NoMemory → IsFirstFault shape rows cell fault
-first_fault shape rows contents index cell text fault read all back inside is (inl none) not = absurd (not (ap (λ (f : TextFault). f.kind) none.0))
-first_fault shape rows contents index cell text fault read all back inside is (inr faults) not = record {
+pub first_fault : (notation : Notation) (shape : Shape) (rows : List (List (List ℕ))) (contents : List Content) (index : ℕ) (cell : Cell) (text : List ℕ) (fault : TextFault) → AreRead notation shape rows contents → length contents ≡ index
+    → index_of shape cell ≡ index → IsInside shape cell → text ≡ text_at rows cell → AnswersBy notation shape text (Err fault) → fault.kind ≢ NoMemory → IsFirstFault notation shape rows cell fault
+first_fault notation shape rows contents index cell text fault read all back inside is (inl none) not = absurd (not (ap (λ (f : TextFault). f.kind) none))
+first_fault notation shape rows contents index cell text fault read all back inside is (inr faults) not = record {
   inside = inside;
-  faults = subst (λ (t : List ℕ). Faults shape t fault) is faults;
+  faults = subst (λ (t : List ℕ). FaultsBy notation shape t fault) is faults;
   before = λ k lt. (let c = content_at contents k (omega arith) in (plain c.0, read k c.0 c.1));
 }
 
 -- ---- the report
 
 -- a grid fails as the reading of its contents does
-pub fails_of : (bytes : List ℕ) (rows : List (List (List ℕ))) (shape : Shape) (end : GridEnd) → IsCsv bytes rows → IsGridOf rows shape → FailsAt shape rows end → Fails bytes end
-fails_of bytes rows shape (ends.CellFault cell fault) csv grid first = record { rows = rows; csv = csv; shape = shape; grid = grid; first = first }
-fails_of bytes rows shape ends.NoMemory csv grid first = tt
-fails_of bytes rows shape (ends.Grid fault) csv grid first = absurd first
-fails_of bytes rows shape ends.Ended csv grid first = absurd first
-fails_of bytes rows shape ends.TooLong csv grid first = absurd first
-fails_of bytes rows shape ends.ReadFailed csv grid first = absurd first
-fails_of bytes rows shape ends.WriteFailed csv grid first = absurd first
+pub fails_of : (notation : Notation) (bytes : List ℕ) (rows : List (List (List ℕ))) (shape : Shape) (end : GridEnd) → IsCsv bytes rows → IsGridOf rows shape → FailsAt notation shape rows end → Fails notation bytes end
+fails_of notation bytes rows shape (ends.CellFault cell fault) csv grid first = record { rows = rows; csv = csv; shape = shape; grid = grid; first = first }
+fails_of notation bytes rows shape ends.NoMemory csv grid first = tt
+fails_of notation bytes rows shape (ends.Grid fault) csv grid first = absurd first
+fails_of notation bytes rows shape ends.Ended csv grid first = absurd first
+fails_of notation bytes rows shape ends.TooLong csv grid first = absurd first
+fails_of notation bytes rows shape ends.ReadFailed csv grid first = absurd first
+fails_of notation bytes rows shape ends.WriteFailed csv grid first = absurd first
 
 -- each cell of the sheet holds the content of its text
-pub reads_all : (rows : List (List (List ℕ))) (sheet : Sheet) → AllRead sheet.shape rows sheet.contents.items → (cell : Cell) → IsInside sheet.shape cell → Reads sheet.shape (text_at rows cell) (contents_of sheet cell)
-reads_all rows sheet h cell inside =
+pub reads_all : (notation : Notation) (rows : List (List (List ℕ))) (sheet : Sheet) → AllRead notation sheet.shape rows sheet.contents.items → (cell : Cell) → IsInside sheet.shape cell → ReadsBy notation sheet.shape (text_at rows cell) (contents_of sheet cell)
+reads_all notation rows sheet h cell inside =
     let c = content_at sheet.contents.items (index_of sheet.shape cell) (let low = index_below sheet.shape cell inside in let all = h.all in omega arith) in
-    subst (λ (x : Cell). Reads sheet.shape (text_at rows x) (contents_of sheet cell)) (cell_back sheet.shape cell inside)
-    (subst (λ (o : Option Content). Reads sheet.shape (text_at rows (cell_at sheet.shape (index_of sheet.shape cell))) (plain_or_empty o)) (sym c.1) (h.each (index_of sheet.shape cell) c.0 c.1))
+    subst (λ (x : Cell). ReadsBy notation sheet.shape (text_at rows x) (contents_of sheet cell)) (cell_back sheet.shape cell inside)
+    (subst (λ (o : Option Content). ReadsBy notation sheet.shape (text_at rows (cell_at sheet.shape (index_of sheet.shape cell))) (plain_or_empty o)) (sym c.1) (h.each (index_of sheet.shape cell) c.0 c.1))
 
 -- nothing is written where the report fails
-pub ran_of : (bytes : List ℕ) (end : GridEnd) → Fails bytes end → Ran inputs.Ended bytes [] end
-ran_of bytes (ends.CellFault cell fault) fails = (refl, refl, fails)
-ran_of bytes (ends.Grid fault) fails = (refl, refl, fails)
-ran_of bytes ends.NoMemory fails = refl
-ran_of bytes ends.Ended fails = absurd fails
-ran_of bytes ends.TooLong fails = absurd fails
-ran_of bytes ends.ReadFailed fails = absurd fails
-ran_of bytes ends.WriteFailed fails = absurd fails
+pub ran_of : (notation : Notation) (bytes : List ℕ) (end : GridEnd) → Fails notation bytes end → Ran notation inputs.Ended bytes [] end
+ran_of notation bytes (ends.CellFault cell fault) fails = (refl, refl, fails)
+ran_of notation bytes (ends.Grid fault) fails = (refl, refl, fails)
+ran_of notation bytes ends.NoMemory fails = refl
+ran_of notation bytes ends.Ended fails = absurd fails
+ran_of notation bytes ends.TooLong fails = absurd fails
+ran_of notation bytes ends.ReadFailed fails = absurd fails
+ran_of notation bytes ends.WriteFailed fails = absurd fails

@@ -8,10 +8,11 @@ ghost use Rattle.ds_grid.specs.Grids.{text_at, IsGridOf, HasFault, AllRead, Fail
 
 use crate::ending::{GridEnd, GridFault};
 use csv::{ByteRecord, ReaderBuilder};
+use ds_a1::notation::Notation;
+use ds_a1::texts::read_text;
 use ds_formula::cells::{Cell, Shape};
 use ds_formula::content::Content;
 use ds_formula::fault::FaultKind;
-use ds_formula::reading::read_content;
 use std::alloc::{AllocError, Global};
 
 /// Every record of a text without a heading line; a byte order mark and blank lines are passed over,
@@ -64,20 +65,21 @@ fn text<'a>(records: &'a [ByteRecord], cell: Cell) -> &'a [u8]
     }
 }
 
-/// The content of each cell, row by row from the left.
+/// The content of each cell, row by row from the left, of texts in this notation.
 pub fn contents(
     alloc: Global,
+    notation: Notation,
     shape: &Shape,
     records: &[ByteRecord],
 ) -> Result<Vec<Content>, GridEnd>
     requires { length records.now ≡ shape.now.rows }
-    ensures all { IfOk result (λ contents. AllRead shape.now (map fields_of records.now) contents.items) }
-    ensures fails { IfErr result (λ end. FailsAt shape.now (map fields_of records.now) end) }
+    ensures all { IfOk result (λ contents. AllRead notation shape.now (map fields_of records.now) contents.items) }
+    ensures fails { IfErr result (λ end. FailsAt notation shape.now (map fields_of records.now) end) }
 {
     let mut contents = Vec::new(alloc);
     for index in 0..shape.count() {
         let cell = shape.cell(index);
-        match read_content(alloc, shape, text(records, cell)) {
+        match read_text(alloc, notation, shape, text(records, cell)) {
             Ok(content) => contents.push(content)?,
             Err(fault) => {
                 return Err(match fault.kind {

@@ -12,6 +12,7 @@ ghost use Rattle.ds_formula.specs.Limits.{INPUT_MOST};
 
 use crate::ending::GridEnd;
 use crate::grid::{contents, records, shape_of};
+use ds_a1::notation::Notation;
 use ds_eval::scratch::scratch;
 use ds_eval::sheet::Sheet;
 use ds_script_io::answer::value_lines;
@@ -22,13 +23,13 @@ use std::alloc::{AllocError, Global};
 use std::io::{Read, Write};
 
 // The values of a grid, as CSV.
-fn values_of(alloc: Global, bytes: &[u8]) -> Result<Vec<u8>, GridEnd>
-    ensures shows { IfOk result (λ text. Shows bytes.now text.items) }
-    ensures fails { IfErr result (λ end. Fails bytes.now end) }
+fn values_of(alloc: Global, notation: Notation, bytes: &[u8]) -> Result<Vec<u8>, GridEnd>
+    ensures shows { IfOk result (λ text. Shows notation bytes.now text.items) }
+    ensures fails { IfErr result (λ end. Fails notation bytes.now end) }
 {
     let records = records(alloc, bytes)?;
     let shape = shape_of(&records)?;
-    let contents = match contents(alloc, &shape, &records) {
+    let contents = match contents(alloc, notation, &shape, &records) {
         Ok(contents) => contents,
         Err(end) => return Err(end),
     };
@@ -51,10 +52,11 @@ fn write_out<W: Write>(writer: &mut Writing<W>, text: &[u8]) -> GridEnd
     GridEnd::Ended
 }
 
-/// Reads a grid of texts as CSV, a record a row and without a heading line, evaluates the sheet that
+/// Reads a grid of texts in this notation as CSV, a record a row and without a heading line, evaluates the sheet that
 /// it gives, and writes the values of its cells as CSV. At most 1,048,577 bytes are read.
 pub fn report_grid<R: Read, W: Write>(
     alloc: Global,
+    notation: Notation,
     reader: &mut Reading<R>,
     writer: &mut Writing<W>,
 ) -> GridEnd
@@ -64,7 +66,7 @@ pub fn report_grid<R: Read, W: Write>(
     ensures flushed { is_flushed writer.old ≡ true → result ≢ GridEnd.WriteFailed → is_flushed writer.new ≡ true }
     ensures outcome { result ≢ GridEnd.WriteFailed → (bytes : List ℕ) × (out : List ℕ) × Consumes (R.remaining (reader_of reader.old)) (R.remaining (reader_of reader.new)) bytes
         × Appends (W.contents (writer_of writer.old)) (W.contents (writer_of writer.new)) out
-        × Concludes INPUT_MOST (R.remaining (reader_of reader.new)) (has_ended reader.new) (read_failed reader.new) bytes out result }
+        × Concludes notation INPUT_MOST (R.remaining (reader_of reader.new)) (has_ended reader.new) (read_failed reader.new) bytes out result }
 {
     let Ok(input) = read_input(alloc, reader, INPUT_LIMIT) else {
         return GridEnd::NoMemory;
@@ -72,7 +74,7 @@ pub fn report_grid<R: Read, W: Write>(
     match input.end {
         InputEnd::TooLong => GridEnd::TooLong,
         InputEnd::Failed => GridEnd::ReadFailed,
-        InputEnd::Ended => match values_of(alloc, &input.bytes) {
+        InputEnd::Ended => match values_of(alloc, notation, &input.bytes) {
             Ok(text) => write_out(writer, &text),
             Err(end) => end,
         },

@@ -2,6 +2,7 @@
 //! proved yet, since it is built in half a minute. It answers as the whole program does.
 #![tactic(auto)]
 
+use ds_a1::notation::Notation;
 use ds_batch::report::report;
 use ds_batch::run::{no_memory, run, run_stops, stops_between};
 use std::env;
@@ -34,18 +35,24 @@ fn answer<R: AllocGlobal + Env + Input + Print + Eprint>(rt: &R, shows: bool) ->
         return no_memory(rt);
     };
     if let [_, command, options @ ..] = words.as_slice() {
+        let (notation, options) = match options {
+            [first, others @ ..] if first.as_str() == "--a1" => (Notation::A1, others),
+            _ => (Notation::OpenFormula, options),
+        };
         match (command.as_str(), options.first()) {
-            ("run", None) => return run(rt),
-            ("report", None) => return report(rt),
+            ("run", None) => return run(rt, notation),
+            ("report", None) => return report(rt, notation),
             ("run", Some(first)) if first.as_str() == "--stops" => {
                 if let Some((from, to)) = stops_of(options.get(1..).unwrap_or(&[])) {
-                    return run_stops(rt, stops_between(from, to), shows);
+                    return run_stops(rt, stops_between(from, to), notation, shows);
                 }
             }
             _ => {}
         }
     }
-    let _reported = eprintln!(rt; "dsheet: only run, run --stops --from K --to K, and report");
+    let _reported = eprintln!(rt;
+        "dsheet: only run, run --stops --from K --to K, and report, each with --a1 before other options"
+    );
     WRONG_WORDS
 }
 

@@ -41,14 +41,24 @@ fn write_part<W: fmt::Write>(part: &[u8], f: &mut fmt::Formatter<W>) -> fmt::Res
     Ok(())
 }
 
+/// Writes what stands in a line around this byte, and below it a caret.
+pub(crate) fn write_marked<W: fmt::Write>(
+    line: &[u8],
+    offset: usize,
+    f: &mut fmt::Formatter<W>,
+) -> fmt::Result {
+    let from = offset.saturating_sub(BEFORE);
+    let part = line.get(from..).unwrap_or(&[]);
+    let part = part.get(..MOST).unwrap_or(part);
+    f.write_str("    ")?;
+    write_part(part, f)?;
+    let column = offset.saturating_sub(from) + 5;
+    write!(f, "\n{:>column$}", '^')
+}
+
 impl fmt::Display for Excerpt<'_> {
     fn fmt<W: fmt::Write>(&self, f: &mut fmt::Formatter<W>) -> fmt::Result {
-        let from = self.hint.offset.saturating_sub(BEFORE);
-        let part = self.line.get(from..).unwrap_or(&[]);
-        let part = part.get(..MOST).unwrap_or(part);
-        f.write_str("    ")?;
-        write_part(part, f)?;
-        let column = self.hint.offset.saturating_sub(from) + 5;
-        write!(f, "\n{:>column$} expected: {}", '^', self.hint)
+        write_marked(self.line, self.hint.offset, f)?;
+        write!(f, " expected: {}", self.hint)
     }
 }

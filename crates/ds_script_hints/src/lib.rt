@@ -4,4 +4,5 @@
 pub mod excerpt;
 mod forms;
 pub mod hint;
+pub mod texts;
 pub mod wanted;

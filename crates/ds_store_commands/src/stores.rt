@@ -1,6 +1,8 @@
 //! The commands that work on a store.
 
 use crate::status::{BAD_STORE, store_status};
+use ds_a1::notation::Notation;
+use ds_batch::lines::{opened_lines, show_bare};
 use ds_batch::status::STREAM_FAILED;
 use ds_script_io::input::{InputEnd, read_input};
 use ds_script_io::line::INPUT_LIMIT;
@@ -187,9 +189,23 @@ fn read_lines<R: AllocGlobal + Input + Eprint>(rt: &R) -> Result<Vec<String>, u8
     Err(STREAM_FAILED)
 }
 
-/// `dsheet import FILE`: makes a store at this path of lines from standard input, as `export` writes them.
-pub fn import<R: AllocGlobal + Input + Eprint + Databases>(rt: &R, path: &str) -> u8 {
-    let lines = match read_lines(rt) {
+// Copies of lines.
+fn copied(alloc: Global, lines: &[String]) -> Result<Vec<String>, AllocError> {
+    let mut copies = Vec::new(alloc);
+    for line in lines {
+        copies.push(String::from_str(alloc, line)?)?;
+    }
+    Ok(copies)
+}
+
+/// `dsheet import FILE`: makes a store at this path of lines from standard input, as `export` writes them, with formulas
+/// in this notation.
+pub fn import<R: AllocGlobal + Input + Eprint + Databases>(
+    rt: &R,
+    path: &str,
+    notation: Notation,
+) -> u8 {
+    let lines = match read_lines(rt).and_then(|lines| opened_lines(rt, notation, lines)) {
         Ok(lines) => lines,
         Err(status) => return status,
     };
@@ -197,13 +213,21 @@ pub fn import<R: AllocGlobal + Input + Eprint + Databases>(rt: &R, path: &str) -
         Ok(conn) => conn,
         Err(status) => return status,
     };
-    let lines = match with_sum(rt.alloc(), lines) {
-        Ok(lines) => lines,
-        Err(fault) => return tell_fault(rt, path, &fault),
+    let summed = match copied(rt.alloc(), &lines) {
+        Ok(copies) => with_sum(rt.alloc(), copies),
+        Err(_) => Err(StoreFault::NoMemory),
     };
-    match Store::of_lines(rt.alloc(), conn, lines) {
+    let made = match summed {
+        Ok(summed) => Store::of_lines(rt.alloc(), conn, summed),
+        Err(fault) => Err(fault),
+    };
+    match made {
         Ok(opened) => close(rt, path, opened.store),
-        Err(fault) => tell_fault(rt, path, &fault),
+        Err(fault) => {
+            let status = tell_fault(rt, path, &fault);
+            show_bare(rt, &lines);
+            status
+        }
     }
 }
 

@@ -1,3 +1,4 @@
+use ds_a1::notation::Notation;
 use ds_grid::ending::GridEnd;
 use ds_grid::report::report_grid;
 use ds_script_io::streams::{Reading, Writing};
@@ -11,7 +12,7 @@ fn failing_readers(rt: HostRuntime) {
     for calls in 0..10usize {
         let mut reader = Reading::new(Failing { bytes: GRID, calls });
         let mut writer = Writing::new(Vec::new(rt.alloc()));
-        let end = report_grid(rt.alloc(), &mut reader, &mut writer);
+        let end = report_grid(rt.alloc(), Notation::OpenFormula, &mut reader, &mut writer);
         let text = writer.into_inner();
         let (expected, values) = if calls < 8 {
             (GridEnd::ReadFailed, "")
@@ -29,7 +30,7 @@ fn failing_writers(rt: HostRuntime) {
     for room in 0..8usize {
         let mut reader = Reading::new(GRID);
         let mut writer = Writing::new(Full { room });
-        let end = report_grid(rt.alloc(), &mut reader, &mut writer);
+        let end = report_grid(rt.alloc(), Notation::OpenFormula, &mut reader, &mut writer);
         let expected = if room < 5 {
             GridEnd::WriteFailed
         } else {

@@ -3,4 +3,5 @@ use Rattle.ds_cli.proofs.command_line.connect_command.Goals as goal
 pub returns : goal.returns
 returns c =
     let one = c.with_argument-one.ensures _ _ c.connect_alone.ensures c.file_argument-server.ensures.rule c.file_argument-server.ensures.local in
-    c.with_argument.ensures _ _ one c.number_option.ensures.rule c.number_option.ensures.local
+    let two = c.with_argument-two.ensures _ _ one c.number_option.ensures.rule c.number_option.ensures.local in
+    c.with_argument.ensures _ _ two c.a1_flag.ensures.rule c.a1_flag.ensures.local

@@ -4,5 +4,5 @@ pub returns : goal.returns
 returns c app is =
     let one = c.with_command-one.ensures _ _ is c.file_command-check.ensures in
     let two = c.with_command-two.ensures _ _ one c.file_command-export.ensures in
-    let three = c.with_command-three.ensures _ _ two c.file_command-import.ensures in
+    let three = c.with_command-three.ensures _ _ two c.import_command.ensures in
     c.with_command.ensures _ _ three c.compact_command.ensures

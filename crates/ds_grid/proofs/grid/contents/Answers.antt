@@ -13,9 +13,9 @@ pushed_length (y ∷ xs) x = let k = pushed_length xs x in omega arith
 
 pub returns-in-Err-clause-fails : goal.returns-in-Err-clause-fails
 returns-in-Err-clause-fails c = elim c.match-fault.branch [
-  | in-NoMemory w ↦ subst (λ (e : GridEnd). FailsAt c.args.shape.now (map fields_of c.args.records.now) e) (sym w.result-is) tt
-  | in_default w ↦ subst (λ (e : GridEnd). FailsAt c.args.shape.now (map fields_of c.args.records.now) e) (sym w.result-is)
-      (first_fault c.args.shape.now (map fields_of c.args.records.now) c.loop-index.contents.items c.loop-index.index c.cell-cell.result c.text.result.now c.in-Err.fault c.loop-index.invariant.read c.loop-index.invariant.all
+  | in-NoMemory w ↦ subst (λ (e : GridEnd). FailsAt c.args.notation c.args.shape.now (map fields_of c.args.records.now) e) (sym w.result-is) tt
+  | in_default w ↦ subst (λ (e : GridEnd). FailsAt c.args.notation c.args.shape.now (map fields_of c.args.records.now) e) (sym w.result-is)
+      (first_fault c.args.notation c.args.shape.now (map fields_of c.args.records.now) c.loop-index.contents.items c.loop-index.index c.cell-cell.result c.text.result.now c.in-Err.fault c.loop-index.invariant.read c.loop-index.invariant.all
       c.cell-cell.ensures.back c.cell-cell.ensures.inside c.text.ensures c.in-Err.ensures w.in_default.not-NoMemory)
 ]
 
@@ -24,8 +24,8 @@ loop-index-preserved c =
     let items : c.push.new.self.items ≡ c.loop-index.contents.items ++ c.in-Ok.content ∷ [] = c.in_ok-push-in-Ok.ensures.items in
     let all : length c.loop-index.contents.items ≡ c.loop-index.index = c.loop-index.invariant.all in
     record {
-      read = subst (λ (xs : List Content). AreRead c.args.shape.now (map fields_of c.args.records.now) xs) (sym items)
-          (read_more c.args.shape.now (map fields_of c.args.records.now) c.loop-index.contents.items c.in-Ok.content c.loop-index.index c.cell-cell.result c.text.result.now c.loop-index.invariant.read all
+      read = subst (λ (xs : List Content). AreRead c.args.notation c.args.shape.now (map fields_of c.args.records.now) xs) (sym items)
+          (read_more c.args.notation c.args.shape.now (map fields_of c.args.records.now) c.loop-index.contents.items c.in-Ok.content c.loop-index.index c.cell-cell.result c.text.result.now c.loop-index.invariant.read all
           c.cell-cell.ensures.value c.text.ensures c.in-Ok.ensures);
       all = ap length items ∙ pushed_length c.loop-index.contents.items c.in-Ok.content ∙ ap (λ n. n + 1) all;
     }

@@ -1,0 +1,4 @@
+pub mod Tokens
+pub mod Notation
+pub mod Words
+pub mod Answers
