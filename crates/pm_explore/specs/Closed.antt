@@ -1,0 +1,52 @@
+-- Lists of positions that nothing leaves, and what holds at each point of a run.
+use Rattle.std.specs.Prelude.{ℕ, ◌≡◌, ◌<◌, List, [], ◌∷◌}
+use Rattle.pm_base.specs.Structures.{Structure, In}
+use Rattle.pm_base.specs.Runs.{IsNew}
+use Rattle.pm_explore.specs.Lists.{IsAt}
+use Rattle.pm_explore.specs.Positions.{Point, Passes, Shows}
+use Rattle.pm_explore.specs.declared.position.Position.{Position}
+use Rattle.pm_explore.specs.declared.setting.Move.{Move}
+use Rattle.pm_explore.specs.declared.setting.Setting.{Setting}
+
+module _ {K S T : Type 0} (s : Structure K S T) (setting : Setting K S) where
+  -- one of the positions shows the point
+  pub record IsShown (xs : List (Position S T)) (point : Point S T s.Hidden) : Type 0 where
+    pub position : Position S T
+    pub inside : In xs position
+    pub shows : Shows setting.window.items position point
+
+  -- where this happens at a point that x shows, it leads to a point that one of the positions shows
+  abbrev pub LeadsInto : List (Position S T) → Position S T → Move → Type 0
+  LeadsInto xs x happens = (old new : Point S T s.Hidden) (says : List T) → Shows setting.window.items x old → Passes s setting old happens says new → IsShown xs new
+
+  -- whatever happens at a point that x shows leads to a point that one of the positions shows
+  abbrev pub StaysIn : List (Position S T) → Position S T → Type 0
+  StaysIn xs x = (happens : Move) → LeadsInto xs x happens
+
+  -- the positions are closed: nothing that may happen leads out of them
+  abbrev pub Closed : List (Position S T) → Type 0
+  Closed xs = (x : Position S T) → In xs x → StaysIn xs x
+
+  -- the point at which a run begins: that of a new structure, where no call has begun and nothing was answered
+  pub record IsStart (point : Point S T s.Hidden) : Type 0 where
+    pub new : IsNew s setting.key point.world
+    pub begun : (p : ℕ) → point.begun p ≡ 0
+    pub told : (p : ℕ) → point.told p ≡ []
+
+  -- a run, from one point to another: what happens, one thing after another
+  pub data Runs (first : Point S T s.Hidden) : Point S T s.Hidden → Type 0 where
+    at_first : Runs first first
+    then : (point next : Point S T s.Hidden) (happens : Move) (says : List T) → Runs first point → Passes s setting point happens says next → Runs first next
+
+  -- the positions are all: they show the start, and nothing leads out of them
+  pub record AreAll (xs : List (Position S T)) : Type 0 where
+    pub start : (point : Point S T s.Hidden) → IsStart point → IsShown xs point
+    pub closed : Closed xs
+
+  -- each point of each run from the start is shown by one of the positions
+  abbrev pub ShowRuns : List (Position S T) → Type 0
+  ShowRuns xs = (first last : Point S T s.Hidden) → IsStart first → Runs first last → IsShown xs last
+
+  -- each point of each run from the start is shown by a position of which the judgment holds
+  abbrev pub HoldsAlways : (Position S T → Type 0) → Type 0
+  HoldsAlways judgment = (first last : Point S T s.Hidden) → IsStart first → Runs first last → (x : Position S T) × judgment x × Shows setting.window.items x last

@@ -1,0 +1,156 @@
+//! The positions that a search has come to.
+
+ghost use Rattle.std.specs.Prelude.{◌≡◌, ◌<◌, IfSome, length};
+ghost use Rattle.pm_explore.specs.Tables.{IsFound};
+
+use crate::cells::Cells;
+use crate::explored::Compared;
+use crate::position::Position;
+use crate::setting::Move;
+use std::alloc::{AllocError, Global};
+
+/// From which position, by its number, and by what a search first came to a position.
+#[derive(Clone, Copy, Debug, PartialEq, Eq)]
+pub struct Way {
+    /// The position before.
+    pub from: usize,
+    /// What happened there.
+    pub by: Move,
+}
+
+/// The positions that a search has come to, in the order in which it came to them, and an index of them.
+#[derive(Drop)]
+pub struct Table<D, T> {
+    /// The positions.
+    pub positions: Vec<Position<D, T>>,
+    /// How each but the first was come to.
+    pub ways: Vec<Way>,
+    // The hash of each position.
+    hashes: Vec<u64>,
+    // Numbers of positions by their hashes, one more than each, or 0.
+    slots: Vec<usize>,
+}
+
+// Mixes a number into a hash.
+fn mixed(hash: u64, number: u64) -> u64 {
+    (hash ^ number)
+        .wrapping_mul(0x9e37_79b9_7f4a_7c15)
+        .rotate_left(29)
+}
+
+// A hash of words and buffers.
+fn hash_cells(cells: &Cells) -> u64 {
+    let mut hash = 0;
+    for word in &cells.words {
+        hash = mixed(mixed(hash, word.cached), word.persisted);
+    }
+    for buffer in &cells.buffers {
+        hash = mixed(hash, 1);
+        for entry in buffer.iter() {
+            hash = mixed(mixed(hash, entry.place as u64), entry.value);
+        }
+    }
+    hash
+}
+
+impl<D: Compared + Copy, T: Compared + Copy> Table<D, T> {
+    /// A table of no position.
+    pub fn new(alloc: Global) -> Table<D, T> {
+        Table {
+            positions: Vec::new(alloc),
+            ways: Vec::new(alloc),
+            hashes: Vec::new(alloc),
+            slots: Vec::new(alloc),
+        }
+    }
+
+    // A hash of a position. `codes` says what each process does.
+    fn hash(position: &Position<D, T>, codes: &[u64]) -> u64 {
+        let mut hash = hash_cells(&position.cells);
+        for code in codes {
+            hash = mixed(hash, *code);
+        }
+        for begun in &position.begun {
+            hash = mixed(hash, *begun as u64);
+        }
+        mixed(hash, position.told.len() as u64)
+    }
+
+    // The number of a position with this hash, if it is there.
+    fn find_hashed(&self, position: &Position<D, T>, hash: u64) -> Option<usize>
+        ensures { IfSome result (λ i. IsFound self.now.positions.items position.now i) }
+    {
+        let slots = self.slots.len();
+        for probe in 0..slots {
+            let at = (hash as usize).wrapping_add(probe) % slots;
+            let number = self.slots[at];
+            if number == 0 {
+                return None;
+            }
+            if number - 1 < self.positions.len()
+                && number - 1 < self.hashes.len()
+                && self.hashes[number - 1] == hash
+                && self.positions[number - 1].is_like(position)
+            {
+                return Some(number - 1);
+            }
+        }
+        None
+    }
+
+    /// The number of a position, if it is there. `codes` says what each process does.
+    pub fn find(&self, position: &Position<D, T>, codes: &[u64]) -> Option<usize>
+        ensures { IfSome result (λ i. IsFound self.now.positions.items position.now i) }
+    {
+        self.find_hashed(position, Table::hash(position, codes))
+    }
+
+    // Notes a position's number in the index, where that has room.
+    fn note(&mut self, number: usize, hash: u64) {
+        let slots = self.slots.len();
+        for probe in 0..slots {
+            let at = (hash as usize).wrapping_add(probe) % slots;
+            if self.slots[at] == 0 {
+                self.slots[at] = number.saturating_add(1);
+                return;
+            }
+        }
+    }
+
+    // Makes the index larger, where it is half full.
+    fn grow(&mut self, alloc: Global) -> Result<(), AllocError> {
+        if self.positions.len() < self.slots.len() / 2 {
+            return Ok(());
+        }
+        let more = self.slots.len().saturating_mul(4).max(64);
+        self.slots = vec![in alloc; 0usize; more]?;
+        for number in 0..self.hashes.len() {
+            if number < self.hashes.len() {
+                let hash = self.hashes[number];
+                self.note(number, hash);
+            }
+        }
+        Ok(())
+    }
+
+    /// Adds a position, unless it is there: whether it was added. An error means that an allocation failed.
+    pub fn add(
+        &mut self,
+        alloc: Global,
+        position: Position<D, T>,
+        codes: &[u64],
+        way: Way,
+    ) -> Result<bool, AllocError> {
+        let hash = Table::hash(&position, codes);
+        if self.find_hashed(&position, hash).is_some() {
+            return Ok(false);
+        }
+        self.grow(alloc)?;
+        let number = self.positions.len();
+        self.note(number, hash);
+        self.positions.push(position)?;
+        self.ways.push(way)?;
+        self.hashes.push(hash)?;
+        Ok(true)
+    }
+}
