@@ -1,7 +1,8 @@
 -- Positions that nothing leads out of.
-use Rattle.std.proofs.Common.{ℕ, suc, zero, ◌≡◌, ◌≢◌, ◌<◌, ◌≤◌, ◌⊎◌, ◌++◌, List, [], ◌∷◌, refl, sym, ap, ◌∙◌, subst, arith, length, get_or, replicate, inl, inr, ⊎_elim, eq-eqb, ne_eqb, true, false, IsTrue, if◌then◌else◌}
+use Rattle.std.proofs.Common.{ℕ, suc, zero, ◌+◌, ◌≡◌, ◌≢◌, ◌<◌, ◌≤◌, ◌⊎◌, ◌++◌, List, [], ◌∷◌, refl, sym, ap, ◌∙◌, subst, arith, length, get_or, replicate, inl, inr, ⊎_elim, eq-eqb, ne_eqb, true, false, IsTrue, if◌then◌else◌}
 use Rattle.std.specs.Prelude.{◌↔◌, Option, Some, None, IfSome, is_some, ◌==◌}
-use Rattle.std.proofs.lemmas.List.{get_or-replicate, length-replicate}
+use Rattle.std.proofs.lemmas.List.{get_or-replicate, length-replicate, same_from_push}
+use Rattle.std.proofs.lemmas.Bool.{cases_lt}
 use mathlib.Core.Logic.{dite}
 use native.Mathlib.Decide.{ℕ_discrete}
 use Rattle.ds_words.specs.declared.access.BufferEntry.{BufferEntry}
@@ -10,7 +11,7 @@ use Rattle.ds_words.specs.Memory.{Memory, EvictsAt}
 use Rattle.pm_base.specs.Structures.{In, World, Structure}
 use Rattle.pm_explore.specs.Cells.{ShowsCells}
 use Rattle.pm_explore.specs.Changes.{Agrees, SameCells}
-use Rattle.pm_explore.specs.Closed.{IsShown, LeadsInto, StaysIn, Closed, IsStart, Runs, AreAll, ShowRuns}
+use Rattle.pm_explore.specs.Closed.{IsShown, LeadsInto, StaysIn, Closed, IsStart, Runs, at_first, goes_on, AreAll, ShowRuns, RunsBy, not_yet, one_more}
 use Rattle.pm_explore.specs.Lists.{IsAt, slot}
 use Rattle.pm_explore.specs.Positions.{Point, Passes, Shows}
 use Rattle.pm_explore.specs.Starts.{AreFirst}
@@ -39,22 +40,19 @@ shown_by s setting xs x i point is shows = record { position = is.found; inside 
 
 -- something was found
 pub some_found : (P : ℕ → Type 0) (o : Option ℕ) → IfSome o P → IsTrue (is_some o) → (i : ℕ) × P i
-some_found P None is yes = cc
-some_found P (Some i) is yes = (i, is)
+some_found P None is found = cc
+some_found P (Some i) is found = (i, is)
 
 -- where a number stands in a window
 pub slot_is : (window : List ℕ) (n : ℕ) → slot window n < length window → IsAt window (slot window n) n
 slot_is [] n low = absurd (omega (arith, low))
-slot_is (m ∷ ms) n low = dite (ℕ_discrete n m) (λ same. first m ms n same) (λ other. second m ms n other low)
-  where
-    first : (m : ℕ) (ms : List ℕ) (n : ℕ) → n ≡ m → IsAt (m ∷ ms) (slot (m ∷ ms) n) n
-    first m ms n same = rw (eq-eqb n m same) (record { low = omega arith; is = sym same })
-    second : (m : ℕ) (ms : List ℕ) (n : ℕ) → n ≢ m → slot (m ∷ ms) n < length {A = ℕ} (m ∷ ms) → IsAt (m ∷ ms) (slot (m ∷ ms) n) n
-    second m ms n other low =
+slot_is (m ∷ ms) n low = dite (ℕ_discrete n m)
+    (λ same. rw (eq-eqb n m same) (record { low = omega arith; is = sym same }))
+    (λ other.
       let l : suc (slot ms n) < suc (length ms) = rw (ne_eqb n m other) at low in
       let r = slot_is ms n (omega (arith, l)) in
       let k = r.low in
-      rw (ne_eqb n m other) (record { low = omega (arith, k); is = r.is })
+      rw (ne_eqb n m other) (record { low = omega (arith, k); is = r.is }))
 
 -- what stands in a list with one thing more
 pub at_pushed : {X : Type 0} (xs : List X) (y : X) (k : ℕ) (x : X) → IsAt (xs ++ y ∷ []) k x → IsAt xs k x ⊎ ((k ≡ length xs) × (x ≡ y))
@@ -91,5 +89,41 @@ module _ {K S T : Type 0} (s : Structure K S T) (setting : Setting K S) (xs : Li
             told = rw passes.3 shows.told;
           };
         })
-      (lt_or_le (slot setting.window.items n) (length setting.window.items))
+      (cases_lt (slot setting.window.items n) (length setting.window.items))
   all_lead inside begins steps stops evicts crash Crash old new says shows passes = crash old new says shows passes
+
+-- one number more
+pub more_below : (P : ℕ → Type 0) (i : ℕ) → ((k : ℕ) → k < i → P k) → P i → (k : ℕ) → k < i + 1 → P k
+more_below P i below here k low = dite (ℕ_discrete k i) (λ same. subst P (sym same) here) (λ other. below k (omega (arith, low, other)))
+
+-- where the positions are all, no run leaves them
+pub runs_stay : {K S T : Type 0} (s : Structure K S T) (setting : Setting K S) (xs : List (Position S T)) → AreAll s setting xs → ShowRuns s setting xs
+runs_stay s setting xs all first last start at_first = all.start first start
+runs_stay s setting xs all first last start (goes_on point next happens says run passes) =
+    let k = runs_stay s setting xs all first point start run in all.closed k.position k.inside happens point next says k.shows passes
+
+no_push : {X : Type 0} (xs : List X) (x : X) → [] ≡ xs ++ x ∷ [] → ⊥
+no_push [] x e = cc
+no_push (y ∷ ys) x e = cc
+
+-- a run by a schedule of nothing has not begun
+pub not_begun : {K S T : Type 0} (s : Structure K S T) (setting : Setting K S) (first last : Point S T s.Hidden) (ms : List Move) → RunsBy s setting first ms last → ms ≡ [] → last ≡ first
+not_begun s setting first last ms not_yet e = refl
+not_begun s setting first last ms (one_more schedule point next happens says run passes) e = absurd (no_push schedule happens (sym e))
+
+-- the last thing of a schedule
+pub record LastOf {K S T : Type 0} (s : Structure K S T) (setting : Setting K S) (first last : Point S T s.Hidden) (xs : List Move) (m : Move) : Type 0 where
+  pub point : Point S T s.Hidden
+  pub says : List T
+  pub run : RunsBy s setting first xs point
+  pub passes : Passes s setting point m says last
+
+pub last_of : {K S T : Type 0} (s : Structure K S T) (setting : Setting K S) (first last : Point S T s.Hidden) (ms xs : List Move) (m : Move) → RunsBy s setting first ms last → ms ≡ xs ++ m ∷ [] → LastOf s setting first last xs m
+last_of s setting first last ms xs m not_yet e = absurd (no_push xs m e)
+last_of s setting first last ms xs m (one_more schedule point next happens says run passes) e =
+    let k = same_from_push schedule xs happens m e in record {
+      point = point;
+      says = says;
+      run = subst (λ (z : List Move). RunsBy s setting first z point) k.0 run;
+      passes = subst (λ (z : Move). Passes s setting point z says next) k.1 passes;
+    }

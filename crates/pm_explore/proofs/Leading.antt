@@ -41,7 +41,7 @@ put_at f g xs p v says is q d at = dite (ℕ_discrete q p)
     (λ other. is q ∙ (put_else f p v q other ∙ says q d (at_other xs p q v d other at)))
 
 -- ... and where all of it becomes the same
-all_at : {X : Type 0} (n : ℕ) (v : X) (q : ℕ) (d : X) → IsAt (replicate n v) q d → d ≡ v
+pub all_at : {X : Type 0} (n : ℕ) (v : X) (q : ℕ) (d : X) → IsAt (replicate n v) q d → d ≡ v
 all_at n v q d at = let low : q < n = subst (λ (z : ℕ). q < z) (length-replicate n v) at.low in sym at.is ∙ get_or-replicate n q v d low
 
 module _ {K S T : Type 0} (s : Structure K S T) (setting : Setting K S) (x y : Position S T) where

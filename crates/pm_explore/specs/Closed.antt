@@ -1,9 +1,11 @@
 -- Lists of positions that nothing leaves, and what holds at each point of a run.
-use Rattle.std.specs.Prelude.{ℕ, ◌≡◌, ◌<◌, List, [], ◌∷◌}
+use Rattle.std.specs.Prelude.{ℕ, ◌≡◌, ◌<◌, List, [], ◌∷◌, ◌++◌}
 use Rattle.pm_base.specs.Structures.{Structure, In}
 use Rattle.pm_base.specs.Runs.{IsNew}
 use Rattle.pm_explore.specs.Lists.{IsAt}
 use Rattle.pm_explore.specs.Positions.{Point, Passes, Shows}
+use Rattle.pm_explore.specs.declared.happen.Came.{Came}
+use Rattle.pm_explore.specs.declared.happen.Came.TheVariants.{To, Stays, Outside, NoSeat}
 use Rattle.pm_explore.specs.declared.position.Position.{Position}
 use Rattle.pm_explore.specs.declared.setting.Move.{Move}
 use Rattle.pm_explore.specs.declared.setting.Setting.{Setting}
@@ -36,7 +38,7 @@ module _ {K S T : Type 0} (s : Structure K S T) (setting : Setting K S) where
   -- a run, from one point to another: what happens, one thing after another
   pub data Runs (first : Point S T s.Hidden) : Point S T s.Hidden → Type 0 where
     at_first : Runs first first
-    then : (point next : Point S T s.Hidden) (happens : Move) (says : List T) → Runs first point → Passes s setting point happens says next → Runs first next
+    goes_on : (point next : Point S T s.Hidden) (happens : Move) (says : List T) → Runs first point → Passes s setting point happens says next → Runs first next
 
   -- the positions are all: they show the start, and nothing leads out of them
   pub record AreAll (xs : List (Position S T)) : Type 0 where
@@ -50,3 +52,21 @@ module _ {K S T : Type 0} (s : Structure K S T) (setting : Setting K S) where
   -- each point of each run from the start is shown by a position of which the judgment holds
   abbrev pub HoldsAlways : (Position S T → Type 0) → Type 0
   HoldsAlways judgment = (first last : Point S T s.Hidden) → IsStart first → Runs first last → (x : Position S T) × judgment x × Shows setting.window.items x last
+
+-- the judgment holds of each of the positions
+abbrev pub AllHold : {S T : Type 0} → (Position S T → Type 0) → List (Position S T) → Type 0
+AllHold {S} {T} judgment xs = (x : Position S T) → In xs x → judgment x
+
+-- a run by a schedule, which lists what happens in turn
+pub data RunsBy {K S T : Type 0} (s : Structure K S T) (setting : Setting K S) (first : Point S T s.Hidden) : List Move → Point S T s.Hidden → Type 0 where
+  not_yet : RunsBy s setting first [] first
+  one_more : (schedule : List Move) (point next : Point S T s.Hidden) (happens : Move) (says : List T) → RunsBy s setting first schedule point → Passes s setting point happens says next → RunsBy s setting first (schedule ++ happens ∷ []) next
+
+-- each run by the schedule ends at a point that this position shows
+abbrev pub EndsAt : {K S T : Type 0} → Structure K S T → Setting K S → List Move → Position S T → Type 0
+EndsAt {K} {S} {T} s setting schedule x = (first last : Point S T s.Hidden) → IsStart s setting first → RunsBy s setting first schedule last → Shows setting.window.items x last
+
+-- what the schedule comes to, where nothing of it leads nowhere
+abbrev pub Replays : {K S T : Type 0} → Structure K S T → Setting K S → List Move → Came S T → Type 0
+Replays s setting schedule (To x) = EndsAt s setting schedule x
+Replays s setting schedule _ = Unit {0}

@@ -45,7 +45,8 @@ fn begins_lead<P: Explored>(
     ensures { IfOk result (λ b. IsTrue b → (i : ℕ) → i < length setting.now.calls.items → LeadsInto P.structure setting.now table.now.positions.items x.now (Begin i)) }
 {
     for i in 0..setting.calls.len() {
-        if !leads_into::<P>(setting, table, x, Move::Begin(i))? {
+        let leads = leads_into::<P>(setting, table, x, Move::Begin(i))?;
+        if !leads {
             return Ok(false);
         }
     }
@@ -62,7 +63,8 @@ fn steps_lead<P: Explored>(
     ensures { IfOk result (λ b. IsTrue b → (p : ℕ) → p < P.structure.processes setting.now.key → LeadsInto P.structure setting.now table.now.positions.items x.now (Step p)) }
 {
     for process in 0..P::processes(&setting.key) {
-        if !leads_into::<P>(setting, table, x, Move::Step(process))? {
+        let leads = leads_into::<P>(setting, table, x, Move::Step(process))?;
+        if !leads {
             return Ok(false);
         }
     }
@@ -79,7 +81,8 @@ fn stops_lead<P: Explored>(
     ensures { IfOk result (λ b. IsTrue b → (p : ℕ) → p < P.structure.processes setting.now.key → LeadsInto P.structure setting.now table.now.positions.items x.now (Stop p)) }
 {
     for process in 0..P::processes(&setting.key) {
-        if !leads_into::<P>(setting, table, x, Move::Stop(process))? {
+        let leads = leads_into::<P>(setting, table, x, Move::Stop(process))?;
+        if !leads {
             return Ok(false);
         }
     }
@@ -96,7 +99,8 @@ fn evicts_lead<P: Explored>(
     ensures { IfOk result (λ b. IsTrue b → (k : ℕ) (n : ℕ) → IsAt setting.now.window.items k n → LeadsInto P.structure setting.now table.now.positions.items x.now (Evict n)) }
 {
     for k in 0..setting.window.len() {
-        if !leads_into::<P>(setting, table, x, Move::Evict(setting.window[k]))? {
+        let leads = leads_into::<P>(setting, table, x, Move::Evict(setting.window[k]))?;
+        if !leads {
             return Ok(false);
         }
     }
@@ -113,11 +117,23 @@ fn stays_in<P: Explored>(
     ensures { IfOk result (λ b. IsTrue b → StaysIn P.structure setting.now table.now.positions.items x.now) }
 {
     let begins = begins_lead::<P>(setting, table, x)?;
+    if !begins {
+        return Ok(false);
+    }
     let steps = steps_lead::<P>(setting, table, x)?;
+    if !steps {
+        return Ok(false);
+    }
     let stops = stops_lead::<P>(setting, table, x)?;
+    if !stops {
+        return Ok(false);
+    }
     let evicts = evicts_lead::<P>(setting, table, x)?;
+    if !evicts {
+        return Ok(false);
+    }
     let crash = leads_into::<P>(setting, table, x, Move::Crash)?;
-    Ok(begins && steps && stops && evicts && crash)
+    Ok(crash)
 }
 
 /// Whether nothing that may happen leads out of the table. An error means that an allocation failed.
@@ -128,7 +144,8 @@ pub fn is_closed<P: Explored>(
     ensures { IfOk result (λ b. IsTrue b → Closed P.structure setting.now table.now.positions.items) }
 {
     for i in 0..table.positions.len() {
-        if !stays_in::<P>(setting, table, &table.positions[i])? {
+        let stays = stays_in::<P>(setting, table, &table.positions[i])?;
+        if !stays {
             return Ok(false);
         }
     }

@@ -160,8 +160,51 @@ fn is_whole<P: Explored>(
     ensures { IfOk result (λ b. IsTrue b → AreAll P.structure setting.now table.now.positions.items) }
 {
     let closed = is_closed::<P>(setting, table)?;
+    if !closed {
+        return Ok(false);
+    }
     let codes = codes::<P>(&setting.key, start)?;
-    Ok(closed && table.find(start, &codes).is_some())
+    Ok(table.find(start, &codes).is_some())
+}
+
+// What was found, with how the search ended: as one that has ended only if that is checked.
+fn ended<P: Explored>(
+    setting: &Setting<P::Key, P::Doing>,
+    mut found: Exploration<P::Doing, P::Response>,
+    start: &Position<P::Doing, P::Response>,
+    ending: Ending,
+) -> Result<Exploration<P::Doing, P::Response>, AllocError>
+    requires { Starts P.structure setting.now (To start.now) }
+    ensures { IfOk result (λ e. e.ending ≡ endings.Ended → AreAll P.structure setting.now e.table.positions.items) }
+{
+    found.ending = match ending {
+        Ending::Ended => {
+            let whole = is_whole::<P>(setting, &found.table, start)?;
+            if whole {
+                Ending::Ended
+            } else {
+                Ending::Open
+            }
+        }
+        Ending::Cut => Ending::Cut,
+        Ending::Outside(number) => Ending::Outside(number),
+        Ending::Open => Ending::Open,
+    };
+    Ok(found)
+}
+
+// What was found before anything.
+fn nothing<P: Explored>(
+    alloc: Global,
+    ending: Ending,
+) -> Exploration<P::Doing, P::Response>
+    ensures { result.ending ≡ ending }
+{
+    Exploration {
+        table: Table::new(alloc),
+        transitions: 0,
+        ending,
+    }
 }
 
 /// Goes through all positions, breadth first, but through no more than this many. An error means that an allocation failed.
@@ -172,19 +215,13 @@ pub fn explore<P: Explored>(
 ) -> Result<Exploration<P::Doing, P::Response>, AllocError>
     ensures { IfOk result (λ e. e.ending ≡ endings.Ended → AreAll P.structure setting.now e.table.positions.items) }
 {
-    let mut found = Exploration {
-        table: Table::new(alloc),
-        transitions: 0,
-        ending: Ending::Open,
-    };
     let start = match start_of::<P>(alloc, setting)? {
         Came::To(start) => start,
-        Came::Outside(number) => {
-            found.ending = Ending::Outside(number);
-            return Ok(found);
-        }
-        _ => return Ok(found),
+        Came::Outside(number) => return Ok(nothing::<P>(alloc, Ending::Outside(number))),
+        Came::Stays => return Ok(nothing::<P>(alloc, Ending::Open)),
+        Came::NoSeat => return Ok(nothing::<P>(alloc, Ending::Open)),
     };
+    let mut found = nothing::<P>(alloc, Ending::Open);
     let first = Way {
         from: 0,
         by: Move::Crash,
@@ -192,9 +229,5 @@ pub fn explore<P: Explored>(
     let codes = codes::<P>(&setting.key, &start)?;
     found.table.add(alloc, start.copy()?, &codes, first)?;
     let ending = go_through::<P>(alloc, setting, &mut found, limit)?;
-    found.ending = ending;
-    if ending == Ending::Ended && !is_whole::<P>(setting, &found.table, &start)? {
-        found.ending = Ending::Open;
-    }
-    Ok(found)
+    ended::<P>(setting, found, &start, ending)
 }
