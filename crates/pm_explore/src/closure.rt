@@ -11,7 +11,7 @@ use crate::happen::{Came, happen};
 use crate::position::Position;
 use crate::search::codes;
 use crate::setting::{Move, Setting};
-use crate::table::Table;
+use crate::table::{Table, find};
 use std::alloc::AllocError;
 
 // Whether it leads into the table that this happens.
@@ -27,7 +27,7 @@ fn leads_into<P: Explored>(
     match happen::<P>(setting, x, happens)? {
         Came::To(next) => {
             let codes = codes::<P>(&setting.key, &next)?;
-            Ok(table.find(&next, &codes).is_some())
+            Ok(find::<P>(table, &next, &codes).is_some())
         }
         Came::Stays => Ok(true),
         Came::Outside(_) => Ok(false),

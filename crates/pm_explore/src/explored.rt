@@ -5,13 +5,6 @@ ghost use Rattle.pm_explore.specs.Explored.{Rests, AsksFor, LandsAt};
 
 use ds_words::access::{Access, Class};
 
-/// Values that are compared.
-pub trait Compared {
-    /// Whether both are the same value. Where it says no of two that are the same, states are told apart that are one.
-    fn is_same(&self, other: &Self) -> bool
-        ensures { IsTrue result → self.now ≡ other.now };
-}
-
 /// Where a step leaves a process.
 #[derive(Clone, Copy)]
 pub struct Landed<D, T> {
@@ -29,11 +22,19 @@ pub trait Explored {
     /// What its layout is.
     type Key: Drop;
     /// What a process does.
-    type Doing: Compared + Copy;
+    type Doing: Copy;
     /// What a process is answered.
-    type Response: Compared + Copy;
+    type Response: Copy;
 
     ghost structure: { Structure Self.Key Self.Doing Self.Response };
+
+    /// Whether both are the same. Where it says no of two that are the same, states are told apart that are one.
+    fn same_doing(a: &Self::Doing, b: &Self::Doing) -> bool
+        ensures { IsTrue result → a.now ≡ b.now };
+
+    /// Whether both are the same, as [`Explored::same_doing`].
+    fn same_response(a: &Self::Response, b: &Self::Response) -> bool
+        ensures { IsTrue result → a.now ≡ b.now };
 
     /// How many words it has.
     fn words(key: &Self::Key) -> usize

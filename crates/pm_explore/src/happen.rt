@@ -8,7 +8,7 @@ ghost use Rattle.pm_explore.specs.declared.setting.Move.TheVariants.{Begin, Step
 
 use crate::cells::Seen;
 use crate::explored::Explored;
-use crate::position::Position;
+use crate::position::{self, Position};
 use crate::setting::{Move, Setting, Turn};
 use ds_words::access::{Access, Class};
 use std::alloc::AllocError;
@@ -90,7 +90,7 @@ fn steps<P: Explored>(
     match seen {
         Seen::Answer(word) => {
             let landed = P::got(&setting.key, process, now, word);
-            Ok(Came::To(next.landed(process, landed)?))
+            Ok(Came::To(position::landed::<P>(next, process, landed)?))
         }
         Seen::Never => Ok(Came::Stays),
         Seen::Outside(number) => Ok(Came::Outside(number)),

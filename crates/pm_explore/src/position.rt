@@ -4,7 +4,7 @@ ghost use Rattle.std.specs.Prelude.{◌≡◌, ◌<◌, ◌-◌, ◌^◌, IfOk, 
 ghost use Rattle.pm_explore.specs.Changes.{Agrees, HasTold, HasBegun, HasPerformed, HasLanded, HasStopped, HasEvicted, HasCrashed};
 
 use crate::cells::{Cells, Seen};
-use crate::explored::{Compared, Landed};
+use crate::explored::{Explored, Landed};
 use crate::setting::Turn;
 use ds_words::access::{Access, Class};
 use std::alloc::{AllocError, Global};
@@ -44,33 +44,96 @@ pub(crate) fn repeated<X: Copy>(alloc: Global, value: X, count: usize) -> Result
 }
 
 // Whether both lists have the same values in the same order.
-fn same_list<X: Compared + Copy>(a: &[X], b: &[X]) -> bool
+fn same_doings<P: Explored>(a: &[P::Doing], b: &[P::Doing]) -> bool
     ensures { IsTrue result → a.now ≡ b.now }
 {
     if a.len() != b.len() {
         return false;
     }
     for i in 0..a.len() {
-        if !a[i].is_same(&b[i]) {
+        if !P::same_doing(&a[i], &b[i]) {
             return false;
         }
     }
     true
 }
 
-impl Compared for usize {
-    fn is_same(&self, other: &usize) -> bool {
-        *self == *other
-    }
+// Whether both answers are the same.
+fn same_told<P: Explored>(a: &Told<P::Response>, b: &Told<P::Response>) -> bool
+    ensures { IsTrue result → a.now ≡ b.now }
+{
+    a.process == b.process && P::same_response(&a.response, &b.response)
 }
 
-impl<T: Compared + Copy> Compared for Told<T> {
-    fn is_same(&self, other: &Told<T>) -> bool {
-        self.process == other.process && self.response.is_same(&other.response)
+// Whether both lists have the same answers in the same order.
+fn same_tolds<P: Explored>(a: &[Told<P::Response>], b: &[Told<P::Response>]) -> bool
+    ensures { IsTrue result → a.now ≡ b.now }
+{
+    if a.len() != b.len() {
+        return false;
     }
+    for i in 0..a.len() {
+        if !same_told::<P>(&a[i], &b[i]) {
+            return false;
+        }
+    }
+    true
 }
 
-impl<D: Compared + Copy, T: Compared + Copy> Position<D, T> {
+// Whether both lists have the same numbers in the same order.
+fn same_numbers(a: &[usize], b: &[usize]) -> bool
+    ensures { IsTrue result → a.now ≡ b.now }
+{
+    a == b
+}
+
+/// Whether both positions are the same.
+pub fn is_like<P: Explored>(
+    a: &Position<P::Doing, P::Response>,
+    b: &Position<P::Doing, P::Response>,
+) -> bool
+    ensures { IsTrue result → Agrees a.now b.now }
+{
+    a.cells.is_like(&b.cells)
+        && same_doings::<P>(&a.doing, &b.doing)
+        && same_numbers(&a.begun, &b.begun)
+        && same_tolds::<P>(&a.told, &b.told)
+}
+
+// Keeps what a process was answered, unless it is there.
+fn tell<P: Explored>(
+    list: &mut Vec<Told<P::Response>>,
+    told: Told<P::Response>,
+) -> Result<(), AllocError>
+    ensures { IfOk result (λ _. HasTold told list.old.items list.new.items) }
+{
+    for i in 0..list.len() {
+        if same_told::<P>(&told, &list[i]) {
+            return Ok(());
+        }
+    }
+    list.push(told)?;
+    Ok(())
+}
+
+/// The position in which a process does what comes after its access, and was answered what it was. An error means that an
+/// allocation failed.
+pub fn landed<P: Explored>(
+    mut x: Position<P::Doing, P::Response>,
+    process: usize,
+    landed: Landed<P::Doing, P::Response>,
+) -> Result<Position<P::Doing, P::Response>, AllocError>
+    requires { process < length x.doing.items }
+    ensures { IfOk result (HasLanded process landed x) }
+{
+    x.doing[process] = landed.doing;
+    if let Some(response) = landed.says {
+        tell::<P>(&mut x.told, Told { process, response })?;
+    }
+    Ok(x)
+}
+
+impl<D: Copy, T: Copy> Position<D, T> {
     /// An equal position, in memory of its own. An error means that an allocation failed.
     pub fn copy(&self) -> Result<Position<D, T>, AllocError>
         ensures { IfOk result (Agrees self.now) }
@@ -82,30 +145,6 @@ impl<D: Compared + Copy, T: Compared + Copy> Position<D, T> {
             begun: Vec::from_slice(*alloc, &self.begun)?,
             told: Vec::from_slice(*alloc, &self.told)?,
         })
-    }
-
-    /// Whether both are the same.
-    pub fn is_like(&self, other: &Position<D, T>) -> bool
-        ensures { IsTrue result → Agrees self.now other.now }
-    {
-        self.cells.is_like(&other.cells)
-            && same_list(&self.doing, &other.doing)
-            && same_list(&self.begun, &other.begun)
-            && same_list(&self.told, &other.told)
-    }
-
-    // Keeps what a process was answered, unless it is there.
-    fn tell(&mut self, told: Told<T>) -> Result<(), AllocError>
-        ensures others { (self.new.cells ≡ self.old.cells) × (self.new.doing ≡ self.old.doing) × (self.new.begun ≡ self.old.begun) }
-        ensures told { IfOk result (λ _. HasTold told self.old.told.items self.new.told.items) }
-    {
-        for i in 0..self.told.len() {
-            if told.is_same(&self.told[i]) {
-                return Ok(());
-            }
-        }
-        self.told.push(told)?;
-        Ok(())
     }
 
     /// The position in which a call of a process has begun. An error means that an allocation failed.
@@ -143,23 +182,6 @@ impl<D: Compared + Copy, T: Compared + Copy> Position<D, T> {
         let mut next = self.copy()?;
         let seen = next.cells.perform(window, class, process, access)?;
         Ok((seen, next))
-    }
-
-    /// The position in which a process does what comes after its access, and was answered what it was. An error means that
-    /// an allocation failed.
-    pub fn landed(
-        mut self,
-        process: usize,
-        landed: Landed<D, T>,
-    ) -> Result<Position<D, T>, AllocError>
-        requires { process < length self.doing.items }
-        ensures { IfOk result (HasLanded process landed self) }
-    {
-        self.doing[process] = landed.doing;
-        if let Some(response) = landed.says {
-            self.tell(Told { process, response })?;
-        }
-        Ok(self)
     }
 
     /// The position in which a process has stopped. An error means that an allocation failed.

@@ -12,7 +12,7 @@ use crate::happen::{Came, happen};
 use crate::position::Position;
 use crate::setting::{Move, Setting};
 use crate::start::start_of;
-use crate::table::{Table, Way};
+use crate::table::{Table, Way, add, find};
 use ds_words::access::Access;
 use std::alloc::{AllocError, Global};
 
@@ -105,7 +105,7 @@ fn spread<P: Explored>(
         Came::To(next) => {
             found.transitions = found.transitions.saturating_add(1);
             let codes = codes::<P>(&setting.key, &next)?;
-            found.table.add(alloc, next, &codes, way)?;
+            add::<P>(alloc, &mut found.table, next, &codes, way)?;
             Ok(None)
         }
         Came::Stays => Ok(None),
@@ -164,7 +164,7 @@ fn is_whole<P: Explored>(
         return Ok(false);
     }
     let codes = codes::<P>(&setting.key, start)?;
-    Ok(table.find(start, &codes).is_some())
+    Ok(find::<P>(table, start, &codes).is_some())
 }
 
 // What was found, with how the search ended: as one that has ended only if that is checked.
@@ -227,7 +227,7 @@ pub fn explore<P: Explored>(
         by: Move::Crash,
     };
     let codes = codes::<P>(&setting.key, &start)?;
-    found.table.add(alloc, start.copy()?, &codes, first)?;
+    add::<P>(alloc, &mut found.table, start.copy()?, &codes, first)?;
     let ending = go_through::<P>(alloc, setting, &mut found, limit)?;
     ended::<P>(setting, found, &start, ending)
 }

@@ -4,8 +4,8 @@ ghost use Rattle.std.specs.Prelude.{◌≡◌, ◌<◌, IfSome, length};
 ghost use Rattle.pm_explore.specs.Tables.{IsFound};
 
 use crate::cells::Cells;
-use crate::explored::Compared;
-use crate::position::Position;
+use crate::explored::Explored;
+use crate::position::{Position, is_like};
 use crate::setting::Move;
 use std::alloc::{AllocError, Global};
 
@@ -53,7 +53,7 @@ fn hash_cells(cells: &Cells) -> u64 {
     hash
 }
 
-impl<D: Compared + Copy, T: Compared + Copy> Table<D, T> {
+impl<D: Copy, T: Copy> Table<D, T> {
     /// A table of no position.
     pub fn new(alloc: Global) -> Table<D, T> {
         Table {
@@ -74,35 +74,6 @@ impl<D: Compared + Copy, T: Compared + Copy> Table<D, T> {
             hash = mixed(hash, *begun as u64);
         }
         mixed(hash, position.told.len() as u64)
-    }
-
-    // The number of a position with this hash, if it is there.
-    fn find_hashed(&self, position: &Position<D, T>, hash: u64) -> Option<usize>
-        ensures { IfSome result (λ i. IsFound self.now.positions.items position.now i) }
-    {
-        let slots = self.slots.len();
-        for probe in 0..slots {
-            let at = (hash as usize).wrapping_add(probe) % slots;
-            let number = self.slots[at];
-            if number == 0 {
-                return None;
-            }
-            if number - 1 < self.positions.len()
-                && number - 1 < self.hashes.len()
-                && self.hashes[number - 1] == hash
-                && self.positions[number - 1].is_like(position)
-            {
-                return Some(number - 1);
-            }
-        }
-        None
-    }
-
-    /// The number of a position, if it is there. `codes` says what each process does.
-    pub fn find(&self, position: &Position<D, T>, codes: &[u64]) -> Option<usize>
-        ensures { IfSome result (λ i. IsFound self.now.positions.items position.now i) }
-    {
-        self.find_hashed(position, Table::hash(position, codes))
     }
 
     // Notes a position's number in the index, where that has room.
@@ -132,25 +103,62 @@ impl<D: Compared + Copy, T: Compared + Copy> Table<D, T> {
         }
         Ok(())
     }
+}
 
-    /// Adds a position, unless it is there: whether it was added. An error means that an allocation failed.
-    pub fn add(
-        &mut self,
-        alloc: Global,
-        position: Position<D, T>,
-        codes: &[u64],
-        way: Way,
-    ) -> Result<bool, AllocError> {
-        let hash = Table::hash(&position, codes);
-        if self.find_hashed(&position, hash).is_some() {
-            return Ok(false);
+// The number of a position with this hash, if it is there.
+fn find_hashed<P: Explored>(
+    table: &Table<P::Doing, P::Response>,
+    position: &Position<P::Doing, P::Response>,
+    hash: u64,
+) -> Option<usize>
+    ensures { IfSome result (λ i. IsFound table.now.positions.items position.now i) }
+{
+    let slots = table.slots.len();
+    for probe in 0..slots {
+        let at = (hash as usize).wrapping_add(probe) % slots;
+        let number = table.slots[at];
+        if number == 0 {
+            return None;
         }
-        self.grow(alloc)?;
-        let number = self.positions.len();
-        self.note(number, hash);
-        self.positions.push(position)?;
-        self.ways.push(way)?;
-        self.hashes.push(hash)?;
-        Ok(true)
+        if number - 1 < table.positions.len()
+            && number - 1 < table.hashes.len()
+            && table.hashes[number - 1] == hash
+            && is_like::<P>(&table.positions[number - 1], position)
+        {
+            return Some(number - 1);
+        }
     }
+    None
+}
+
+/// The number of a position, if it is there. `codes` says what each process does.
+pub fn find<P: Explored>(
+    table: &Table<P::Doing, P::Response>,
+    position: &Position<P::Doing, P::Response>,
+    codes: &[u64],
+) -> Option<usize>
+    ensures { IfSome result (λ i. IsFound table.now.positions.items position.now i) }
+{
+    find_hashed::<P>(table, position, Table::hash(position, codes))
+}
+
+/// Adds a position, unless it is there: whether it was added. An error means that an allocation failed.
+pub fn add<P: Explored>(
+    alloc: Global,
+    table: &mut Table<P::Doing, P::Response>,
+    position: Position<P::Doing, P::Response>,
+    codes: &[u64],
+    way: Way,
+) -> Result<bool, AllocError> {
+    let hash = Table::hash(&position, codes);
+    if find_hashed::<P>(table, &position, hash).is_some() {
+        return Ok(false);
+    }
+    table.grow(alloc)?;
+    let number = table.positions.len();
+    table.note(number, hash);
+    table.positions.push(position)?;
+    table.ways.push(way)?;
+    table.hashes.push(hash)?;
+    Ok(true)
 }

@@ -1,5 +1,5 @@
 use Rattle.std.proofs.Common.{sym, rules}
-use Rattle.pm_explore.proofs.table.Table.find_hashed.Goals as goal
+use Rattle.pm_explore.proofs.table.find_hashed.Goals as goal
 
 pub returns-then-is_like : goal.returns-then-is_like
 returns-then-is_like g c = record {

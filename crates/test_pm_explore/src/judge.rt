@@ -1,0 +1,1 @@
+//! What is so of a queue at each position.

@@ -1,0 +1,98 @@
+//! The queue, as it is gone through.
+
+ghost use Rattle.std.specs.Prelude.{◌≡◌, IsTrue};
+
+use crate::calls::{got, may_begin, want};
+use crate::flaws::Flaw;
+use ds_words::access::{Access, Class};
+use pm_explore::explored::{Explored, Landed};
+use pq::calls::{Doing, Response};
+
+/// The queue as pq has it, of two processes.
+pub struct RightQueue;
+
+/// A queue with a flaw, of two processes.
+pub struct FlawedQueue;
+
+/// Its number of processes.
+pub const PROCESSES: usize = 2;
+
+/// Its number of words.
+pub const WORDS: usize = 16392;
+
+// Whether both are the same.
+fn same_doing(a: &Doing, b: &Doing) -> bool
+    ensures { IsTrue result → a.now ≡ b.now }
+{
+    a == b
+}
+
+// Whether both are the same.
+fn same_response(a: &Response, b: &Response) -> bool
+    ensures { IsTrue result → a.now ≡ b.now }
+{
+    a == b
+}
+
+impl Explored for FlawedQueue {
+    type Key = Flaw;
+
+    type Doing = Doing;
+
+    type Response = Response;
+
+    ghost use Rattle.test_pm_explore.specs.Steps.{flawed_queue};
+
+    ghost structure = { flawed_queue };
+
+    fn same_doing(a: &Doing, b: &Doing) -> bool {
+        same_doing(a, b)
+    }
+
+    fn same_response(a: &Response, b: &Response) -> bool {
+        same_response(a, b)
+    }
+
+    fn words(key: &Flaw) -> usize {
+        let _key = key;
+        WORDS
+    }
+
+    fn processes(key: &Flaw) -> usize {
+        let _key = key;
+        PROCESSES
+    }
+
+    fn first_word(key: &Flaw, word: usize) -> u64 {
+        let (_key, _word) = (key, word);
+        0
+    }
+
+    fn first() -> Doing {
+        Doing::Idle(0)
+    }
+
+    fn class(key: &Flaw, word: usize) -> Class {
+        let (_key, _word) = (key, word);
+        Class::Owned
+    }
+
+    fn stopped() -> Doing {
+        Doing::Stopped
+    }
+
+    fn may_begin(key: &Flaw, process: usize, now: Doing, call: Doing) -> bool {
+        let (_key, _process) = (key, process);
+        may_begin(now, call)
+    }
+
+    fn want(key: &Flaw, process: usize, now: Doing) -> Option<Access<usize>> {
+        let (_key, _process) = (key, process);
+        want(now)
+    }
+
+    fn got(key: &Flaw, process: usize, now: Doing, word: u64) -> Landed<Doing, Response> {
+        let _process = process;
+        got(*key, now, word)
+    }
+}
