@@ -1,25 +1,18 @@
 -- Positions that nothing leads out of.
-use Rattle.std.proofs.Common.{ℕ, suc, zero, ◌+◌, ◌≡◌, ◌≢◌, ◌<◌, ◌≤◌, ◌⊎◌, ◌++◌, List, [], ◌∷◌, refl, sym, ap, ◌∙◌, subst, arith, length, get_or, replicate, inl, inr, ⊎_elim, eq-eqb, ne_eqb, true, false, IsTrue, if◌then◌else◌}
-use Rattle.std.specs.Prelude.{◌↔◌, Option, Some, None, IfSome, is_some, ◌==◌}
-use Rattle.std.proofs.lemmas.List.{get_or-replicate, length-replicate, same_from_push}
+use Rattle.std.proofs.Common.{ℕ, suc, zero, ◌+◌, ◌≡◌, ◌<◌, ◌≤◌, ◌⊎◌, ◌++◌, List, [], ◌∷◌, refl, sym, ap, ◌∙◌, subst, arith, length, inl, inr, ⊎_elim, eq-eqb, ne_eqb, IsTrue}
+use Rattle.std.specs.Prelude.{Option, Some, None, IfSome, is_some}
+use Rattle.std.proofs.lemmas.List.{same_from_push}
 use Rattle.std.proofs.lemmas.Bool.{cases_lt}
 use mathlib.Core.Logic.{dite}
 use native.Mathlib.Decide.{ℕ_discrete}
-use Rattle.ds_words.specs.declared.access.BufferEntry.{BufferEntry}
-use Rattle.ds_words.specs.declared.words.Word.{Word}
-use Rattle.ds_words.specs.Memory.{Memory, EvictsAt}
 use Rattle.pm_base.specs.Structures.{In, World, Structure}
-use Rattle.pm_explore.specs.Cells.{ShowsCells}
-use Rattle.pm_explore.specs.Changes.{Agrees, SameCells}
-use Rattle.pm_explore.specs.Closed.{IsShown, LeadsInto, StaysIn, Closed, IsStart, Runs, at_first, goes_on, AreAll, ShowRuns, RunsBy, not_yet, one_more}
+use Rattle.pm_explore.specs.Changes.{Agrees}
+use Rattle.pm_explore.specs.Closed.{IsShown, LeadsInto, StaysIn, at_first, goes_on, AreAll, ShowRuns, RunsBy, not_yet, one_more}
 use Rattle.pm_explore.specs.Lists.{IsAt, slot}
 use Rattle.pm_explore.specs.Positions.{Point, Passes, Shows}
-use Rattle.pm_explore.specs.Starts.{AreFirst}
 use Rattle.pm_explore.specs.Tables.{IsFound}
-use Rattle.pm_explore.specs.declared.cells.Cells.{Cells}
 use Rattle.pm_explore.specs.declared.position.Position.{Position}
 use Rattle.pm_explore.specs.declared.setting.Setting.{Setting}
-use Rattle.pm_explore.specs.declared.setting.Planned.{Planned}
 use Rattle.pm_explore.specs.declared.setting.Move.{Move}
 use Rattle.pm_explore.specs.declared.setting.Move.TheVariants.{Begin, Step, Stop, Evict, Crash}
 use Rattle.pm_explore.proofs.Leading.{like_cells}
@@ -49,10 +42,10 @@ slot_is [] n low = absurd (omega (arith, low))
 slot_is (m ∷ ms) n low = dite (ℕ_discrete n m)
     (λ same. rw (eq-eqb n m same) (record { low = omega arith; is = sym same }))
     (λ other.
-      let l : suc (slot ms n) < suc (length ms) = rw (ne_eqb n m other) at low in
-      let r = slot_is ms n (omega (arith, l)) in
-      let k = r.low in
-      rw (ne_eqb n m other) (record { low = omega (arith, k); is = r.is }))
+    let l : suc (slot ms n) < suc (length ms) = rw (ne_eqb n m other) at low in
+    let r = slot_is ms n (omega (arith, l)) in
+    let k = r.low in
+    rw (ne_eqb n m other) (record { low = omega (arith, k); is = r.is }))
 
 -- what stands in a list with one thing more
 pub at_pushed : {X : Type 0} (xs : List X) (y : X) (k : ℕ) (x : X) → IsAt (xs ++ y ∷ []) k x → IsAt xs k x ⊎ ((k ≡ length xs) × (x ≡ y))
@@ -79,16 +72,16 @@ module _ {K S T : Type 0} (s : Structure K S T) (setting : Setting K S) (xs : Li
   all_lead inside begins steps stops evicts crash (Evict n) old new says shows passes = ⊎_elim
       (λ (low : slot setting.window.items n < length setting.window.items). evicts (slot setting.window.items n) n (slot_is setting.window.items n low) old new says shows passes)
       (λ (out : length setting.window.items ≤ slot setting.window.items n).
-        let fits = shows.cells.fits in record {
-          position = x;
-          inside = inside;
-          shows = record {
-            cells = evicted_outside setting.window.items x.cells old.world.memory new.world.memory n (omega (arith, fits, out)) shows.cells passes.1.1;
-            doing = λ q d at. ap (λ (w : World S s.Hidden). w.situation q) passes.1.2 ∙ shows.doing q d at;
-            begun = rw passes.2 shows.begun;
-            told = rw passes.3 shows.told;
-          };
-        })
+      let fits = shows.cells.fits in record {
+        position = x;
+        inside = inside;
+        shows = record {
+          cells = evicted_outside setting.window.items x.cells old.world.memory new.world.memory n (omega (arith, fits, out)) shows.cells passes.1.1;
+          doing = λ q d at. ap (λ (w : World S s.Hidden). w.situation q) passes.1.2 ∙ shows.doing q d at;
+          begun = rw passes.2 shows.begun;
+          told = rw passes.3 shows.told;
+        };
+      })
       (cases_lt (slot setting.window.items n) (length setting.window.items))
   all_lead inside begins steps stops evicts crash Crash old new says shows passes = crash old new says shows passes
 

@@ -1,6 +1,6 @@
 -- Lists: what stands where, and when two are the same.
 use Rattle.std.specs.Prelude.{◌↔◌}
-use Rattle.std.proofs.Common.{ℕ, suc, zero, ◌≡◌, ◌≢◌, ◌⊎◌, ⊎_elim, ◌++◌, ◌<◌, ◌==◌, List, [], ◌∷◌, Bool, true, false, ◌&&◌, refl, sym, ap, ◌∙◌, subst, arith, length, get_or, set, inl, inr, eq-eqb, ne_eqb, if◌then◌else◌}
+use Rattle.std.proofs.Common.{ℕ, suc, zero, ◌≡◌, ◌≢◌, ◌⊎◌, ⊎_elim, ◌++◌, ◌<◌, List, [], ◌∷◌, Bool, true, false, ◌&&◌, refl, sym, ◌∙◌, subst, arith, length, get_or, set, inl, inr, eq-eqb, ne_eqb, if◌then◌else◌}
 use Rattle.std.proofs.Math.ListN.{length-set}
 use Rattle.std.proofs.lemmas.List.{get_or-set_same, get_or-set_other, get_or_default}
 use mathlib.Core.Logic.{dite}
@@ -48,7 +48,7 @@ slots_differ [] a b low e = omega arith
 slots_differ (m ∷ ms) a b low e = dite (ℕ_discrete a m)
     (λ am. dite (ℕ_discrete b m) (λ bm. am ∙ sym bm) (λ bn. absurd (first_or_not (slot ms a) (slot ms b) _ _ (eq-eqb a m am) (ne_eqb b m bn) e)))
     (λ an. dite (ℕ_discrete b m) (λ bm. absurd (first_or_not (slot ms b) (slot ms a) _ _ (eq-eqb b m bm) (ne_eqb a m an) (sym e)))
-      (λ bn. let k = later (slot ms a) (slot ms b) (length ms) _ _ (ne_eqb a m an) (ne_eqb b m bn) low e in slots_differ ms a b k.0 k.1))
+    (λ bn. let k = later (slot ms a) (slot ms b) (length ms) _ _ (ne_eqb a m an) (ne_eqb b m bn) low e in slots_differ ms a b k.0 k.1))
 
 -- what stands at a place stands in the list
 pub in_at : {X : Type 0} (xs : List X) (k : ℕ) (x : X) → k < length xs → x ≡ get_or xs k x → In xs x
@@ -60,6 +60,7 @@ in_at (y ∷ ys) (suc k) x low is = inr (in_at ys k x (omega (arith, low)) is)
 pub in_pushed : {X : Type 0} (xs : List X) (x y : X) → In (xs ++ x ∷ []) y ↔ (In xs y ⊎ (y ≡ x))
 in_pushed [] x y = (λ i. ⊎_elim (λ e. inr (sym e)) (λ none. absurd none) i, λ e. ⊎_elim (λ none. absurd none) (λ is. inl (sym is)) e)
 in_pushed (z ∷ zs) x y =
-    let r = in_pushed zs x y in
-    (λ i. ⊎_elim (λ e. inl (inl e)) (λ later. ⊎_elim (λ a. inl (inr a)) (λ b. inr b) (r.0 later)) i,
-     λ e. ⊎_elim (λ i. ⊎_elim (λ here. inl here) (λ later. inr (r.1 (inl later))) i) (λ is. inr (r.1 (inr is))) e)
+    let r = in_pushed zs x y in (
+      λ i. ⊎_elim (λ e. inl (inl e)) (λ later. ⊎_elim (λ a. inl (inr a)) (λ b. inr b) (r.0 later)) i,
+      λ e. ⊎_elim (λ i. ⊎_elim (λ here. inl here) (λ later. inr (r.1 (inl later))) i) (λ is. inr (r.1 (inr is))) e,
+    )

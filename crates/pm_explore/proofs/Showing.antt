@@ -1,5 +1,5 @@
 -- What changed words and buffers show.
-use Rattle.std.proofs.Common.{ℕ, suc, ◌≡◌, ◌≢◌, ◌<◌, ◌≤◌, List, [], ◌∷◌, refl, sym, ap, ◌∙◌, subst, arith, length, set, zero, inl, inr, ⊎_elim}
+use Rattle.std.proofs.Common.{ℕ, suc, ◌≡◌, ◌≢◌, ◌<◌, ◌≤◌, List, [], ◌∷◌, refl, sym, ap, ◌∙◌, subst, arith, length, set, zero, ⊎_elim}
 use Rattle.std.specs.Prelude.{bit_or, map}
 use Rattle.std.proofs.lemmas.List.{length-map}
 use Rattle.std.proofs.Math.ListN.{length-set}
@@ -22,13 +22,13 @@ pub changed_words : (window : List ℕ) (ws : List Word) (m m' : Memory ℕ) (n 
     → ((r : ℕ) → r ≢ n → Stays m m' r) → ShowsWords window (set ws (slot window n) w) m'
 changed_words window ws m m' n w fits shows a b else r x at = dite (ℕ_discrete r n)
     (λ same. let is : x ≡ w = at_changed ws (slot window n) w x (subst (λ (z : ℕ). IsAt (set ws (slot window n) w) (slot window z) x) same at) in
-      (ap m'.cached same ∙ (a ∙ ap (λ (z : Word). z.cached) (sym is)), ap m'.persisted same ∙ (b ∙ ap (λ (z : Word). z.persisted) (sym is))))
+    (ap m'.cached same ∙ (a ∙ ap (λ (z : Word). z.cached) (sym is)), ap m'.persisted same ∙ (b ∙ ap (λ (z : Word). z.persisted) (sym is))))
     (λ other.
-      let low : slot window r < length ws = subst (λ (z : ℕ). slot window r < z) (length-set ws (slot window n) w) at.low in
-      let apart : slot window r ≢ slot window n = λ e. other (slots_differ window r n (omega (arith, low, fits)) e) in
-      let k = shows r x (at_other ws (slot window n) (slot window r) w x apart at) in
-      let s = else r other in
-      (s.0 ∙ k.0, s.1 ∙ k.1))
+    let low : slot window r < length ws = subst (λ (z : ℕ). slot window r < z) (length-set ws (slot window n) w) at.low in
+    let apart : slot window r ≢ slot window n = λ e. other (slots_differ window r n (omega (arith, low, fits)) e) in
+    let k = shows r x (at_other ws (slot window n) (slot window r) w x apart at) in
+    let s = else r other in
+    (s.0 ∙ k.0, s.1 ∙ k.1))
 
 pub same_words : (window : List ℕ) (ws : List Word) (m m' : Memory ℕ) → ShowsWords window ws m → ((r : ℕ) → Stays m m' r) → ShowsWords window ws m'
 same_words window ws m m' shows same r x at = let k = shows r x at in let s = same r in (s.0 ∙ k.0, s.1 ∙ k.1)
@@ -103,8 +103,8 @@ pub evicted_outside : (window : List ℕ) (c : Cells) (m m' : Memory ℕ) (n : �
 evicted_outside window c m m' n out shows e = record {
   fits = shows.fits;
   words = λ r w at. let k = shows.words r w at in let low = at.low in
-    let other : r ≢ n = λ same. let back : slot window r ≡ slot window n = ap (slot window) same in omega (arith, out, low, back) in
-    (e.cached r ∙ k.0, e.elsewhere r other ∙ k.1);
+      let other : r ≢ n = λ same. let back : slot window r ≡ slot window n = ap (slot window) same in omega (arith, out, low, back) in
+      (e.cached r ∙ k.0, e.elsewhere r other ∙ k.1);
   buffers = same_buffers c.buffers.items m m' shows.buffers e.buffer;
 }
 
@@ -131,10 +131,10 @@ pub crashes : (window : List ℕ) (c c' : Cells) (m m' : Memory ℕ) → ShowsCe
 crashes window c c' m m' shows words buffers s = record {
   fits = subst (λ (z : List Word). length z ≤ length window) (sym words) (subst (λ (z : ℕ). z ≤ length window) (sym (length-map c.words.items crashed)) shows.fits);
   words = λ r w at.
-    let k = at_mapped crashed c.words.items (slot window r) w (subst (λ (z : List Word). IsAt z (slot window r) w) words at) in
-    let was = (shows.words r k.0 k.1).1 in
-    (s.cached r ∙ (was ∙ ap (λ (z : Word). z.cached) (sym k.2)), s.persisted r ∙ (was ∙ ap (λ (z : Word). z.persisted) (sym k.2)));
+      let k = at_mapped crashed c.words.items (slot window r) w (subst (λ (z : List Word). IsAt z (slot window r) w) words at) in
+      let was = (shows.words r k.0 k.1).1 in
+      (s.cached r ∙ (was ∙ ap (λ (z : Word). z.cached) (sym k.2)), s.persisted r ∙ (was ∙ ap (λ (z : Word). z.persisted) (sym k.2)));
   buffers = λ p b at.
-    let k = at_mapped (λ (b : List (BufferEntry ℕ)). let e : List (BufferEntry ℕ) = [] in e) c.buffers.items p b (subst (λ (z : List (List (BufferEntry ℕ))). IsAt z p b) buffers at) in
-    s.buffer p ∙ sym k.2;
+      let k = at_mapped (λ (b : List (BufferEntry ℕ)). let e : List (BufferEntry ℕ) = [] in e) c.buffers.items p b (subst (λ (z : List (List (BufferEntry ℕ))). IsAt z p b) buffers at) in
+      s.buffer p ∙ sym k.2;
 }

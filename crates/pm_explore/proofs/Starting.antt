@@ -1,11 +1,8 @@
 -- The position at which a search begins.
-use Rattle.std.proofs.Common.{ℕ, ◌≡◌, ◌<◌, List, [], refl, sym, ap, ◌∙◌, subst, arith, length, replicate, get_or}
-use Rattle.std.proofs.lemmas.List.{get_or-replicate, length-replicate}
-use Rattle.ds_words.specs.declared.access.BufferEntry.{BufferEntry}
-use Rattle.ds_words.specs.declared.words.Word.{Word}
-use Rattle.pm_base.specs.Structures.{In, World, Structure}
+use Rattle.std.proofs.Common.{◌≡◌, [], sym, ap, ◌∙◌, arith, replicate}
+use Rattle.pm_base.specs.Structures.{World, Structure}
 use Rattle.pm_explore.specs.Closed.{IsStart}
-use Rattle.pm_explore.specs.Lists.{IsAt, slot}
+use Rattle.pm_explore.specs.Lists.{slot}
 use Rattle.pm_explore.specs.Positions.{Point, Shows}
 use Rattle.pm_explore.specs.Starts.{AreFirst}
 use Rattle.pm_explore.specs.declared.position.Position.{Position}
@@ -20,9 +17,9 @@ starts {K} {S} {T} s setting x first buffers doing begun told point start =
       cells = record {
         fits = omega (arith, count);
         words = λ n w at.
-          let low = at.low in
-          let k = first.first (slot setting.window.items n) n w (slot_is setting.window.items n (omega (arith, low, count))) at in
-          (start.new.memory.cached n k.0 ∙ sym k.1, start.new.memory.persisted n k.0 ∙ sym k.2);
+            let low = at.low in
+            let k = first.first (slot setting.window.items n) n w (slot_is setting.window.items n (omega (arith, low, count))) at in
+            (start.new.memory.cached n k.0 ∙ sym k.1, start.new.memory.persisted n k.0 ∙ sym k.2);
         buffers = rw buffers (λ p b at. start.new.memory.buffer p ∙ sym (all_at (s.processes setting.key) [] p b at));
       };
       doing = rw doing (λ p d at. ap (λ (w : World S s.Hidden). w.situation p) start.new.is ∙ sym (all_at (s.processes setting.key) s.first p d at));

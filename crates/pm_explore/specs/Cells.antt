@@ -1,7 +1,7 @@
 -- The memory that cells show.
 use Rattle.std.specs.Prelude.{ℕ, ◌≡◌, ◌≤◌, List, length}
 use Rattle.ds_words.specs.declared.access.Access.{Access}
-use Rattle.ds_words.specs.declared.access.Access.TheVariants.{Nothing, Load, Store, Or, SwapIf, Flush, Back}
+use Rattle.ds_words.specs.declared.access.Access.TheVariants.{Flush}
 use Rattle.ds_words.specs.declared.access.BufferEntry.{BufferEntry}
 use Rattle.ds_words.specs.declared.access.Class.{Class}
 use Rattle.ds_words.specs.declared.words.Word.{Word}

@@ -1,5 +1,5 @@
 -- What a change makes of a position.
-use Rattle.std.specs.Prelude.{ℕ, suc, ◌≡◌, ◌⊎◌, ◌↔◌, List, [], ◌∷◌, Option, Some, None, length, replicate, slice_set, slice_index_or}
+use Rattle.std.specs.Prelude.{ℕ, suc, ◌≡◌, ◌⊎◌, ◌↔◌, List, Option, Some, None, length, replicate, slice_set, slice_index_or}
 use Rattle.ds_words.specs.declared.access.Access.{Access}
 use Rattle.ds_words.specs.declared.access.Class.{Class}
 use Rattle.ds_words.specs.Memory.{Memory, EvictsAt, StopsAt, Crashes}
@@ -23,7 +23,7 @@ pub record SameCells (c c' : Cells) : Type 0 where
   pub words : c'.words.items ≡ c.words.items
   pub buffers : c'.buffers.items ≡ c.buffers.items
 
--- what was told before was told, and this, and nothing else
+-- what was answered before, and this, and nothing else
 abbrev pub HasTold : {T : Type 0} → Told T → List (Told T) → List (Told T) → Type 0
 HasTold {T} new before after = (y : Told T) → In after y ↔ (In before y ⊎ (y ≡ new))
 

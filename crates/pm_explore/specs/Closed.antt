@@ -1,11 +1,10 @@
 -- Lists of positions that nothing leaves, and what holds at each point of a run.
-use Rattle.std.specs.Prelude.{ℕ, ◌≡◌, ◌<◌, List, [], ◌∷◌, ◌++◌}
+use Rattle.std.specs.Prelude.{ℕ, ◌≡◌, List, [], ◌∷◌, ◌++◌}
 use Rattle.pm_base.specs.Structures.{Structure, In}
 use Rattle.pm_base.specs.Runs.{IsNew}
-use Rattle.pm_explore.specs.Lists.{IsAt}
 use Rattle.pm_explore.specs.Positions.{Point, Passes, Shows}
 use Rattle.pm_explore.specs.declared.happen.Came.{Came}
-use Rattle.pm_explore.specs.declared.happen.Came.TheVariants.{To, Stays, Outside, NoSeat}
+use Rattle.pm_explore.specs.declared.happen.Came.TheVariants.{To}
 use Rattle.pm_explore.specs.declared.position.Position.{Position}
 use Rattle.pm_explore.specs.declared.setting.Move.{Move}
 use Rattle.pm_explore.specs.declared.setting.Setting.{Setting}

@@ -1,6 +1,5 @@
 -- The points of a run, and the positions that show them.
-use Rattle.std.specs.Prelude.{ℕ, suc, ◌≡◌, ◌↔◌, ◌++◌, List, [], ◌∷◌, IsTrue}
-use Rattle.ds_words.specs.Memory.{Memory}
+use Rattle.std.specs.Prelude.{ℕ, ◌≡◌, ◌↔◌, ◌++◌, List, IsTrue}
 use Rattle.pm_base.specs.Structures.{In, put, World, Structure}
 use Rattle.pm_base.specs.Runs.{Moves}
 use Rattle.pm_base.specs.declared.history.Event.TheVariants as event
@@ -8,7 +7,6 @@ use Rattle.pm_explore.specs.Lists.{IsAt}
 use Rattle.pm_explore.specs.Cells.{ShowsCells}
 use Rattle.pm_explore.specs.Changes.{begun_by}
 use Rattle.pm_explore.specs.declared.position.Position.{Position}
-use Rattle.pm_explore.specs.declared.position.Told.{Told}
 use Rattle.pm_explore.specs.declared.happen.Came.{Came}
 use Rattle.pm_explore.specs.declared.happen.Came.TheVariants.{To, Stays, Outside, NoSeat}
 use Rattle.pm_explore.specs.declared.setting.Setting.{Setting}
@@ -24,7 +22,7 @@ pub record Point (S T H : Type 0) : Type 0 where
   pub begun : ℕ → ℕ
   pub told : ℕ → List T
 
--- the call's turn has come, where the process has begun so many of its own calls
+-- the call's turn has come, where the process has begun this number of its own calls
 abbrev pub IsTurn : Turn → ℕ → Type 0
 IsTurn (Own number) begun = begun ≡ number
 IsTurn Any begun = Unit {0}

@@ -6,7 +6,7 @@ use Rattle.pm_explore.specs.Closed.{IsStart}
 use Rattle.pm_explore.specs.Lists.{IsAt}
 use Rattle.pm_explore.specs.Positions.{Point, Shows}
 use Rattle.pm_explore.specs.declared.happen.Came.{Came}
-use Rattle.pm_explore.specs.declared.happen.Came.TheVariants.{To, Stays, Outside, NoSeat}
+use Rattle.pm_explore.specs.declared.happen.Came.TheVariants.{To}
 use Rattle.pm_explore.specs.declared.setting.Setting.{Setting}
 
 -- the words are those of the window, as they are at first

@@ -28,7 +28,7 @@ pub trait Explored {
 
     ghost structure: { Structure Self.Key Self.Doing Self.Response };
 
-    /// Whether both are the same. Where it says no of two that are the same, states are told apart that are one.
+    /// Whether both are the same. Where it says no of two that are the same, one position is counted as two.
     fn same_doing(a: &Self::Doing, b: &Self::Doing) -> bool
         ensures { IsTrue result → a.now ≡ b.now };
 

@@ -32,7 +32,7 @@ pub struct Position<D, T> {
     pub told: Vec<Told<T>>,
 }
 
-// A list of one value, so many times.
+// A list of one value, as many times as this.
 pub(crate) fn repeated<X: Copy>(alloc: Global, value: X, count: usize) -> Result<Vec<X>, AllocError>
     ensures { IfOk result (λ v. v.items ≡ replicate count value) }
 {

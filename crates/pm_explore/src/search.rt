@@ -51,11 +51,13 @@ fn code_of(access: Option<Access<usize>>) -> u64 {
         Some(Access::Store(number, _)) => (number as u64).wrapping_mul(8).wrapping_add(4),
         Some(Access::Or(number, _)) => (number as u64).wrapping_mul(8).wrapping_add(5),
         Some(Access::Flush(number)) => (number as u64).wrapping_mul(8).wrapping_add(6),
-        Some(Access::SwapIf {
-            place,
-            expected: _,
-            value: _,
-        }) => (place as u64).wrapping_mul(8).wrapping_add(7),
+        Some(
+            Access::SwapIf {
+                place,
+                expected: _,
+                value: _,
+            },
+        ) => (place as u64).wrapping_mul(8).wrapping_add(7),
     }
 }
 
@@ -180,11 +182,7 @@ fn ended<P: Explored>(
     found.ending = match ending {
         Ending::Ended => {
             let whole = is_whole::<P>(setting, &found.table, start)?;
-            if whole {
-                Ending::Ended
-            } else {
-                Ending::Open
-            }
+            if whole { Ending::Ended } else { Ending::Open }
         }
         Ending::Cut => Ending::Cut,
         Ending::Outside(number) => Ending::Outside(number),
@@ -194,10 +192,7 @@ fn ended<P: Explored>(
 }
 
 // What was found before anything.
-fn nothing<P: Explored>(
-    alloc: Global,
-    ending: Ending,
-) -> Exploration<P::Doing, P::Response>
+fn nothing<P: Explored>(alloc: Global, ending: Ending) -> Exploration<P::Doing, P::Response>
     ensures { result.ending ≡ ending }
 {
     Exploration {

@@ -47,7 +47,7 @@ fn first_words<P: Explored>(
     Ok(Some(list))
 }
 
-// So many empty buffers.
+// Empty buffers, as many as this.
 fn empty_buffers(
     alloc: Global,
     count: usize,

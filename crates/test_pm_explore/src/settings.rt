@@ -40,7 +40,7 @@ fn push_words(window: &mut Vec<usize>, node: usize) -> Result<(), AllocError> {
 }
 
 /// Calls of two processes on a queue, with all that may happen beside.
-pub fn setting<K>(
+pub fn setting<K: Drop>(
     alloc: Global,
     key: K,
     first: &[Call],

@@ -1,4 +1,4 @@
-use Rattle.std.proofs.Common.{◌≡◌, ◌∙◌, sym, rules, refl, true}
+use Rattle.std.proofs.Common.{◌∙◌, sym, rules}
 use Rattle.pm_explore.proofs.Lists.{pointwise_same}
 use Rattle.pm_explore.proofs.cells.same_buffers.Goals as goal
 

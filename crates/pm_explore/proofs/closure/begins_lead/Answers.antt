@@ -1,4 +1,4 @@
-use Rattle.std.proofs.Common.{◌<◌, ℕ, arith}
+use Rattle.std.proofs.Common.{arith}
 use Rattle.pm_explore.specs.Closed.{LeadsInto}
 use Rattle.pm_explore.specs.declared.setting.Move.TheVariants.{Begin}
 use Rattle.pm_explore.proofs.Closing.{more_below}

@@ -1,5 +1,4 @@
-use Rattle.std.proofs.Common.{◌<◌, ◌≡◌, ◌∙◌, sym, ap, ℕ, arith, subst, get_or}
-use Rattle.std.proofs.lemmas.List.{get_or_default}
+use Rattle.std.proofs.Common.{sym, ℕ, arith, subst}
 use Rattle.pm_explore.specs.Closed.{LeadsInto}
 use Rattle.pm_explore.specs.Lists.{IsAt}
 use Rattle.pm_explore.specs.declared.setting.Move.TheVariants.{Evict}

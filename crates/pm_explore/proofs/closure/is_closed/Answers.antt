@@ -1,7 +1,6 @@
-use Rattle.std.proofs.Common.{◌<◌, ◌≡◌, ◌∙◌, sym, ap, ℕ, arith, subst, get_or, rules}
+use Rattle.std.proofs.Common.{sym, arith, subst, rules}
 use Rattle.pm_explore.specs.Closed.{StaysIn}
 use Rattle.pm_explore.specs.Lists.{IsAt}
-use Rattle.pm_explore.specs.declared.position.Position.{Position}
 use Rattle.pm_explore.proofs.Closing.{more_below, at_in}
 use Rattle.pm_explore.proofs.Lists.{at_one, in_at}
 use Rattle.pm_explore.proofs.closure.is_closed.Goals as goal

@@ -1,4 +1,3 @@
-use Rattle.std.proofs.Common.{sym, ◌∙◌, rules}
 use Rattle.pm_explore.specs.Tables.{IsFound}
 use Rattle.pm_explore.proofs.Closing.{shown_by, some_found}
 use Rattle.pm_explore.proofs.closure.leads_into.Goals as goal

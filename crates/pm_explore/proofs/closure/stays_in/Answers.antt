@@ -1,4 +1,3 @@
-use Rattle.std.proofs.Common.{rules}
 use Rattle.pm_explore.proofs.Closing.{all_lead}
 use Rattle.pm_explore.proofs.closure.stays_in.Goals as goal
 

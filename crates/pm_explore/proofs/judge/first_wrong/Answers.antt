@@ -1,4 +1,4 @@
-use Rattle.std.proofs.Common.{◌<◌, ◌≡◌, sym, ℕ, arith, subst}
+use Rattle.std.proofs.Common.{sym, arith, subst}
 use Rattle.pm_explore.specs.Lists.{IsAt}
 use Rattle.pm_explore.proofs.Closing.{more_below, at_in}
 use Rattle.pm_explore.proofs.Lists.{at_one}

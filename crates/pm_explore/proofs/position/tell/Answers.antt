@@ -1,6 +1,5 @@
-use Rattle.std.proofs.Common.{◌≡◌, sym, ◌∙◌, subst, inl, inr, ⊎_elim, rules, ◌<◌, length, arith}
+use Rattle.std.proofs.Common.{sym, ◌∙◌, subst, inl, ⊎_elim, rules}
 use Rattle.pm_base.specs.Structures.{In}
-use Rattle.pm_explore.specs.declared.position.Told.{Told}
 use Rattle.pm_explore.proofs.Lists.{in_at, in_pushed}
 use Rattle.pm_explore.proofs.position.tell.Goals as goal
 

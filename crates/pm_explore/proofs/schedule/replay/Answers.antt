@@ -1,6 +1,6 @@
-use Rattle.std.proofs.Common.{ℕ, ◌+◌, ◌≡◌, ◌++◌, ◌∷◌, [], sym, ap, ◌∙◌, subst, arith, take, get_or, refl, List, ◌≤◌}
+use Rattle.std.proofs.Common.{ℕ, ◌+◌, [], sym, subst, arith, take, get_or, refl, List}
 use Rattle.std.proofs.lemmas.List.{take_more, take_all}
-use Rattle.pm_explore.specs.Closed.{EndsAt, RunsBy}
+use Rattle.pm_explore.specs.Closed.{RunsBy}
 use Rattle.pm_explore.specs.declared.setting.Move.{Move}
 use Rattle.pm_explore.specs.declared.setting.Move.TheVariants.{Begin}
 use Rattle.pm_explore.specs.Positions.{Point, Shows}

@@ -1,4 +1,3 @@
-use Rattle.std.proofs.Common.{rules, refl}
 use Rattle.pm_explore.proofs.Starting.{starts}
 use Rattle.pm_explore.proofs.start.start_of.Goals as goal
 

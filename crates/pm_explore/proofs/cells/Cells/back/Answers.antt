@@ -1,6 +1,4 @@
-use Rattle.std.proofs.Common.{ℕ, List, sym, ◌∙◌, subst}
-use Rattle.ds_words.specs.declared.words.Word.{Word}
-use Rattle.pm_explore.specs.Lists.{IsAt, slot}
+use Rattle.std.proofs.Common.{◌∙◌}
 use Rattle.pm_explore.proofs.Showing.{written}
 use Rattle.pm_explore.proofs.cells.Cells.back.Goals as goal
 

@@ -1,6 +1,4 @@
-use Rattle.std.proofs.Common.{◌∙◌, ap, [], List, sym}
-use Rattle.std.specs.Prelude.{map}
-use Rattle.ds_words.specs.Words.{crashed}
+use Rattle.std.proofs.Common.{◌∙◌}
 use Rattle.pm_explore.proofs.Showing.{crashes}
 use Rattle.pm_explore.proofs.cells.Cells.crash.Goals as goal
 

@@ -1,6 +1,3 @@
-use Rattle.std.proofs.Common.{ℕ, List, sym, ◌∙◌, subst}
-use Rattle.ds_words.specs.declared.words.Word.{Word}
-use Rattle.pm_explore.specs.Lists.{IsAt, slot}
 use Rattle.pm_explore.proofs.Showing.{stored}
 use Rattle.pm_explore.proofs.cells.Cells.store.Goals as goal
 

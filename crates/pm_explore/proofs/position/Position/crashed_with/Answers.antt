@@ -1,6 +1,5 @@
-use Rattle.std.proofs.Common.{ap, set, replicate, length, ◌∙◌, refl, rules}
+use Rattle.std.proofs.Common.{rules}
 use Rattle.pm_explore.specs.Changes.{SameCells}
-use Rattle.pm_explore.specs.declared.cells.Cells.{Cells}
 use Rattle.pm_explore.proofs.Leading.{like_cells}
 use Rattle.pm_explore.proofs.position.Position.crashed_with.Goals as goal
 
