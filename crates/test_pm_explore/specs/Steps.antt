@@ -1,5 +1,5 @@
 -- The steps of a process of a queue, right or flawed.
-use Rattle.std.specs.Prelude.{ℕ, ◌*◌, ◌≡◌, ◌<◌, List, [], ◌∷◌}
+use Rattle.std.specs.Prelude.{ℕ, ◌*◌, ◌≡◌, ◌<◌, List}
 use Rattle.ds_words.specs.declared.access.Access.{Access}
 use Rattle.ds_words.specs.declared.access.Class.TheVariants.{Owned}
 use Rattle.pm_base.specs.Structures.{Structure}
@@ -9,7 +9,7 @@ use Rattle.pq.specs.Calls.{enqueue_access, enqueue_next, dequeue_access, dequeue
 use Rattle.pq.specs.Places.{nodes}
 use Rattle.pq.specs.Queue.{enqueue_doing, enqueue_says, dequeue_doing, dequeue_says, recover_doing, recover_says}
 use Rattle.pq.specs.declared.calls.Doing.{Doing}
-use Rattle.pq.specs.declared.calls.Doing.TheVariants.{Idle, Enqueueing, Dequeueing, Recovering, Stopped, Torn}
+use Rattle.pq.specs.declared.calls.Doing.TheVariants.{Idle, Enqueueing, Dequeueing, Recovering, Stopped}
 use Rattle.pq.specs.declared.calls.Response.{Response}
 use Rattle.pq.specs.declared.enqueue.Enqueue.{Enqueue}
 use Rattle.pq.specs.declared.enqueue.EnqueueStage.{EnqueueStage}
@@ -22,7 +22,7 @@ use Rattle.pq.specs.declared.recover.RecoverStage.{RecoverStage}
 use Rattle.pq.specs.declared.recover.RecoverStage.TheVariants as recover
 use Rattle.pq.specs.declared.recover.Found.TheVariants as found
 use Rattle.test_pm_explore.specs.declared.flaws.Flaw.{Flaw}
-use Rattle.test_pm_explore.specs.declared.flaws.Flaw.TheVariants.{Nothing, LinkNotFlushed, TailBeforeLink, HeadBeforeResult, EvidenceBeforeWalk, Forgets}
+use Rattle.test_pm_explore.specs.declared.flaws.Flaw.TheVariants.{LinkNotFlushed, TailBeforeLink, HeadBeforeResult, EvidenceBeforeWalk, Forgets}
 
 -- the stage to which a flaw turns one of an enqueue
 abbrev pub flawed_enqueue : Flaw → EnqueueStage → EnqueueStage

@@ -158,11 +158,7 @@ pub fn is_right(window: &[usize], x: &Position<Doing, Response>) -> bool
 impl<P: Explored<Doing = Doing, Response = Response>> Judge<P> for QueueJudge {
     ghost meaning = { λ judge setting x. IsRight setting.window.items x };
 
-    fn is_right(
-        &self,
-        setting: &Setting<P::Key, Doing>,
-        x: &Position<Doing, Response>,
-    ) -> bool {
+    fn is_right(&self, setting: &Setting<P::Key, Doing>, x: &Position<Doing, Response>) -> bool {
         is_right(&setting.window, x)
     }
 }

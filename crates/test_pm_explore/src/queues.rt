@@ -178,7 +178,7 @@ impl Explored for RightQueue {
 
     type Response = Response;
 
-    ghost use Rattle.test_pm_explore.specs.Right.{two_processes};
+    ghost use Rattle.test_pm_explore.specs.TwoProcesses.{two_processes};
 
     ghost structure = { two_processes };
 

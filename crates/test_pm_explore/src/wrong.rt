@@ -22,7 +22,7 @@ fn caught(
 ) -> Result<Option<(usize, Option<Move>, bool)>, AllocError> {
     let mut setting = setting(alloc, flaw, first, second)?;
     setting.stops = false;
-    setting.evicts = flaw == Flaw::EvidenceBeforeWalk;
+    setting.evicts = flaw == Flaw::EvidenceBeforeWalk || flaw == Flaw::HeadBeforeResult;
     let found = explore::<FlawedQueue>(alloc, &setting, 40000)?;
     let wrong = first_wrong::<FlawedQueue, QueueJudge>(&QueueJudge, &setting, &found.table);
     let Some(number) = wrong else {
@@ -37,21 +37,47 @@ fn caught(
     Ok(Some((way.len(), way.last().copied(), leads)))
 }
 
+// Two processes enqueue.
+const ENQUEUES: ([Call; 1], [Call; 1]) = ([Call::Enqueue(7)], [Call::Enqueue(8)]);
+
 #[test]
-fn each_flaw(rt: HostRuntime) -> Result<(), Fail> {
-    let alloc = rt.alloc();
+fn a_link_that_is_not_flushed(rt: HostRuntime) -> Result<(), Fail> {
+    let found = caught(rt.alloc(), Flaw::LinkNotFlushed, &ENQUEUES.0, &ENQUEUES.1)?;
+    assert_eq!(rt; found, Some((14, Some(Move::Step(0)), true)));
+    Ok(())
+}
+
+#[test]
+fn a_tail_before_the_link(rt: HostRuntime) -> Result<(), Fail> {
+    let found = caught(rt.alloc(), Flaw::TailBeforeLink, &ENQUEUES.0, &ENQUEUES.1)?;
+    assert_eq!(rt; found, Some((11, Some(Move::Step(0)), true)));
+    Ok(())
+}
+
+#[test]
+fn a_head_before_the_result(rt: HostRuntime) -> Result<(), Fail> {
     let seven = [Call::Enqueue(7)];
-    let eight = [Call::Enqueue(8)];
     let take = [Call::Dequeue];
-    let link = caught(alloc, Flaw::LinkNotFlushed, &seven, &eight)?;
-    println!(rt; "{:?}", link)?;
-    let tail = caught(alloc, Flaw::TailBeforeLink, &seven, &eight)?;
-    println!(rt; "{:?}", tail)?;
-    let head = caught(alloc, Flaw::HeadBeforeResult, &seven, &take)?;
-    println!(rt; "{:?}", head)?;
-    let evidence = caught(alloc, Flaw::EvidenceBeforeWalk, &seven, &eight)?;
-    println!(rt; "{:?}", evidence)?;
-    let forgets = caught(alloc, Flaw::Forgets, &seven, &eight)?;
-    println!(rt; "{:?}", forgets)?;
+    let found = caught(rt.alloc(), Flaw::HeadBeforeResult, &seven, &take)?;
+    assert_eq!(rt; found, Some((31, Some(Move::Step(1)), true)));
+    Ok(())
+}
+
+#[test]
+fn evidence_before_the_walk(rt: HostRuntime) -> Result<(), Fail> {
+    let found = caught(
+        rt.alloc(),
+        Flaw::EvidenceBeforeWalk,
+        &ENQUEUES.0,
+        &ENQUEUES.1,
+    )?;
+    assert_eq!(rt; found, Some((38, Some(Move::Step(0)), true)));
+    Ok(())
+}
+
+#[test]
+fn a_recovery_that_forgets(rt: HostRuntime) -> Result<(), Fail> {
+    let found = caught(rt.alloc(), Flaw::Forgets, &ENQUEUES.0, &ENQUEUES.1)?;
+    assert_eq!(rt; found, Some((17, Some(Move::Step(0)), true)));
     Ok(())
 }

@@ -1,4 +1,4 @@
-use Rattle.std.proofs.Common.{◌<◌, ◌≡◌, ◌≢◌, ◌%◌, ◌/◌, ◌⊎◌, ℕ, arith}
+use Rattle.std.proofs.Common.{◌≡◌, ◌≢◌, ◌%◌, ◌/◌, ◌⊎◌, ℕ, arith}
 use Rattle.ds_words.specs.declared.words.Word.{Word}
 use Rattle.pm_explore.proofs.Closing.{more_below}
 use Rattle.test_pm_explore.specs.Judged.{IsWord, IsTaken}

@@ -1,10 +1,10 @@
-use Rattle.std.proofs.Common.{◌<◌, ◌≡◌, ℕ, arith, sym, ap, subst}
+use Rattle.std.proofs.Common.{arith, sym, subst}
 use Rattle.pm_explore.specs.Lists.{IsAt}
 use Rattle.pm_explore.specs.declared.position.Told.{Told}
 use Rattle.pm_explore.proofs.Closing.{at_in, more_below}
 use Rattle.pm_explore.proofs.Lists.{at_one}
 use Rattle.pq.specs.declared.calls.Response.{Response}
-use Rattle.test_pm_explore.specs.Judged.{IsRightAnswer, AreTakenInOrder}
+use Rattle.test_pm_explore.specs.Judged.{IsRightAnswer}
 use Rattle.test_pm_explore.proofs.judge.is_right.Goals as goal
 
 pub loop-i-preserved : goal.loop-i-preserved

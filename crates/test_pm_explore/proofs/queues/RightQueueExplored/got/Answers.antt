@@ -1,4 +1,4 @@
-use Rattle.test_pm_explore.proofs.Right.{steps_are}
+use Rattle.test_pm_explore.proofs.SameSteps.{steps_are}
 use Rattle.test_pm_explore.proofs.queues.RightQueueExplored.got.Goals as goal
 
 pub returns : goal.returns

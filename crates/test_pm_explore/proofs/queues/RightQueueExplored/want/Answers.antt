@@ -1,4 +1,4 @@
-use Rattle.test_pm_explore.proofs.Right.{wants_are}
+use Rattle.test_pm_explore.proofs.SameSteps.{wants_are}
 use Rattle.test_pm_explore.proofs.queues.RightQueueExplored.want.Goals as goal
 
 pub returns : goal.returns

@@ -1,9 +1,9 @@
 -- The steps of the queue are those of the one without a flaw.
-use Rattle.std.proofs.Common.{ℕ, ◌+◌, ◌*◌, ◌≡◌, ◌<◌, ◌≤◌, ◌⊎◌, List, refl, sym, ap, ◌∙◌, subst, arith, inl, inr, ⊎_elim}
+use Rattle.std.proofs.Common.{ℕ, ◌≡◌, ◌<◌, List, refl, sym, ◌∙◌, subst, arith, ⊎_elim}
 use Rattle.std.specs.Prelude.{Option, Some, None, MatchOption}
 use Rattle.ds_words.specs.declared.access.Access.{Access}
 use Rattle.pm_base.specs.Structures.{BeginsOf, StepsOf}
-use Rattle.pq.specs.Calls.{EnqueueGoes, EnqueueStageFits, EnqueueFits, DequeueGoes, DequeueFits, RecoverGoes, RecoverFits}
+use Rattle.pq.specs.Calls.{EnqueueGoes, DequeueGoes, RecoverGoes}
 use Rattle.pq.specs.Places.{Belongs}
 use Rattle.pq.specs.Queue.{queue, enqueues, dequeues, recoveries, enqueue_doing, dequeue_doing, recover_doing, MayEnqueue, MayDequeue, MayRecover}
 use Rattle.pq.specs.declared.calls.Doing.{Doing}
@@ -19,7 +19,7 @@ use Rattle.pq.specs.declared.recover.Recover.{Recover}
 use Rattle.pq.specs.declared.recover.RecoverStage.{RecoverStage}
 use Rattle.pq.specs.declared.recover.RecoverStage.TheVariants as recover
 use Rattle.pm_explore.specs.Explored.{Rests, AsksFor}
-use Rattle.test_pm_explore.specs.Right.{two_processes}
+use Rattle.test_pm_explore.specs.TwoProcesses.{two_processes}
 use Rattle.test_pm_explore.specs.Steps.{StepIs, MayBegin, NoStep, StepAsks}
 use Rattle.test_pm_explore.specs.declared.flaws.Flaw.TheVariants.{Nothing}
 
@@ -100,21 +100,21 @@ enqueue_steps n p now access answer after says m =
     let c : Enqueue = m.call in
     let f = m.fits in
     subst (λ (z : Doing). StepIs Nothing z access answer after says) (sym (m.at ∙ enqueue_is c c.stage m.goes))
-      ((low_process c.process n f.1 f.0, low_operation c.process n c.operation f.1 f.0 f.2, f.3), m.goes, m.asks, m.lands, m.tells)
+    ((low_process c.process n f.1 f.0, low_operation c.process n c.operation f.1 f.0 f.2, f.3), m.goes, m.asks, m.lands, m.tells)
 
 dequeue_steps : (n p : ℕ) (now : Doing) (access : Access ℕ) (answer : ℕ) (after : Doing) (says : List Response) → StepsOf dequeues n p now access answer after says → StepIs Nothing now access answer after says
 dequeue_steps n p now access answer after says m =
     let c : Dequeue = m.call in
     let f = m.fits in
     subst (λ (z : Doing). StepIs Nothing z access answer after says) (sym (m.at ∙ dequeue_is c c.stage m.goes))
-      ((low_process c.process n f.1 f.0, low_operation c.process n c.operation f.1 f.0 f.2, f.3), m.goes, m.asks, m.lands, m.tells)
+    ((low_process c.process n f.1 f.0, low_operation c.process n c.operation f.1 f.0 f.2, f.3), m.goes, m.asks, m.lands, m.tells)
 
 recover_steps : (n p : ℕ) (now : Doing) (access : Access ℕ) (answer : ℕ) (after : Doing) (says : List Response) → StepsOf recoveries n p now access answer after says → StepIs Nothing now access answer after says
 recover_steps n p now access answer after says m =
     let c : Recover = m.call in
     let f = m.fits in
     subst (λ (z : Doing). StepIs Nothing z access answer after says) (sym (m.at ∙ recover_is c c.stage m.goes))
-      ((low_process c.process n f.1 f.0, f.2, f.3), m.goes, m.asks, m.lands, m.tells)
+    ((low_process c.process n f.1 f.0, f.2, f.3), m.goes, m.asks, m.lands, m.tells)
 
 -- each step of the queue is one of the queue without a flaw
 pub steps_are : (n p : ℕ) (now : Doing) (access : Access ℕ) (answer : ℕ) (after : Doing) (says : List Response) → queue.steps n p now access answer after says → StepIs Nothing now access answer after says
@@ -151,8 +151,8 @@ pub begins_are : (n p : ℕ) (now after : Doing) → queue.begins n p now after 
 begins_are n p now after b = ⊎_elim
     (λ (e : BeginsOf enqueues n p now after). subst (MayBegin now) (sym e.lands) (may_enqueue n now e.call e.may e.goes))
     (λ more. ⊎_elim
-      (λ (d : BeginsOf dequeues n p now after). subst (MayBegin now) (sym d.lands) (may_dequeue n now d.call d.may d.goes))
-      (λ (r : BeginsOf recoveries n p now after). subst (MayBegin now) (sym r.lands) (may_recover n now r.call r.may r.goes)) more) b
+    (λ (d : BeginsOf dequeues n p now after). subst (MayBegin now) (sym d.lands) (may_dequeue n now d.call d.may d.goes))
+    (λ (r : BeginsOf recoveries n p now after). subst (MayBegin now) (sym r.lands) (may_recover n now r.call r.may r.goes)) more) b
 
 -- the next access is that of the queue without a flaw
 pub wants_are : (k p : ℕ) (now : Doing) (o : Option (Access ℕ)) → MatchOption o (NoStep now) (StepAsks now) → MatchOption o (Rests two_processes k p now) (AsksFor two_processes k p now)
