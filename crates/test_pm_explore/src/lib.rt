@@ -5,9 +5,13 @@
 pub mod calls;
 pub mod flaws;
 pub mod judge;
+pub mod marks;
 pub mod queues;
+pub mod registers;
 #[cfg(test)]
 mod right;
 pub mod settings;
+#[cfg(test)]
+mod small;
 #[cfg(test)]
 mod wrong;
