@@ -1,0 +1,5 @@
+pub mod Lists
+pub mod Showing
+pub mod Leading
+pub mod Closing
+pub mod Starting

@@ -1,0 +1,3 @@
+pub mod SameSteps
+pub mod MarkSteps
+pub mod RegisterMoves
