@@ -55,8 +55,8 @@ abbrev pub crash_text : Bool → List ℕ
 crash_text true = codes "crashed\n"
 crash_text false = []
 
--- what distinguishes what an order came to: what its calls were answered, whether it ends with a crash, what was told
--- after it, and what is wrong
+-- what distinguishes what an order came to: what its calls were answered, whether it ends with a crash, what was
+-- reported after it, and what is wrong
 abbrev pub key_text : Finding → List ℕ
 key_text found = ((joined (texts_of found.answers.items) ++ crash_text found.crashed) ++ found.tail.items) ++ wrong_texts found.flaws.items
 

@@ -1,4 +1,4 @@
--- What is wrong with what an order came to, by what was told.
+-- What is wrong with what an order came to, by what was answered and reported.
 use Rattle.std.specs.Prelude.{ℕ, zero, suc, ◌≡◌, ◌==◌, ◌&&◌, Bool, true, false, List, [], ◌∷◌, ◌++◌, Option, Some, None, Result, Ok, Err, All, drop, length, map, slice_get, if◌then◌else◌, not, nat_eq}
 use Rattle.std.specs.List.{starts_with, ends_with}
 use Rattle.std.specs.Global.{Vec}
@@ -26,20 +26,20 @@ use Rattle.ds_explore.specs.declared.judge.Asked.{Asked}
 use Rattle.ds_explore.specs.declared.judge.Judge.{Judge}
 use Rattle.ds_explore.specs.declared.outcomes.Finding.{Finding}
 
--- ---- what was told
+-- ---- what was reported
 
 -- the reply to a call of this kind that came to this
 abbrev pub replied : {E : Type 0} → Kind E → Result E Refusal → Reply
 replied kind (Ok end) = replies.Answered (kind.answer end)
 replied kind (Err why) = replies.Refused why
 
--- the text is what the recoveries told, one after the other: that of process 0 first
+-- the text is what the recoveries reported, one after the other: that of process 0 first
 pub data AreRecoveries : List (Result RecoveryEnd Refusal) → List ℕ → Type 0 where
   no_recovery : AreRecoveries [] []
   one_recovery_more : (told : List (Result RecoveryEnd Refusal)) (text : List ℕ) (w : WorldValue) (came : Result RecoveryEnd Refusal)
       → AreRecoveries told text → AreRecoveries (told ++ came ∷ []) (text ++ reply_text w (length told) (replied recoveries came))
 
--- the text is what was told after an order: by the recoveries, the settle and the report
+-- the text is what was reported after an order: by the recoveries, the settle and the report
 pub record TellsEnding (ending : OutcomeEnding) (text : List ℕ) : Type 0 where
   pub told : List ℕ
   pub recovered : AreRecoveries ending.told.items told
@@ -108,7 +108,7 @@ abbrev pub same_bool : Bool → Bool → Bool
 same_bool true b = b
 same_bool false b = not b
 
--- two recoveries told the same
+-- two recoveries reported the same
 abbrev pub same_end : RecoveryEnd → RecoveryEnd → Bool
 same_end Nothing Nothing = true
 same_end (Last a) (Last b) = ((a.number == b.number) && (a.cell == b.cell)) && same_bool a.counts b.counts
@@ -137,12 +137,12 @@ is_contradicted done (Some (answers.Edit (edit_ends.Done number))) = not done
 is_contradicted done (Some (answers.Edit (edit_ends.Overtaken number by))) = done
 is_contradicted done _ = false
 
--- the edit that was asked for is told otherwise than it was answered
+-- the edit that was asked for is reported otherwise than it was answered
 abbrev pub is_told_otherwise : Option Asked → Option (Result RecoveryEnd Refusal) → Option Answer → Bool
 is_told_otherwise (Some asked) told answer = is_contradicted (is_done asked told) answer
 is_told_otherwise None told answer = false
 
--- what is wrong with what a process was answered and told, if something is
+-- what is wrong with what a process was answered, and with its report, if something is
 abbrev pub process_flaw : Judge → OutcomeEnding → ℕ → Option Flaw
 process_flaw judge ending p =
     if is_refused (told_at ending p) then Some (flaw.Refused p)
@@ -198,7 +198,7 @@ pub record IsJudged (judge : Judge) (ending : OutcomeEnding) (flaws : List Flaw)
 abbrev pub texts_of : List (Vec ℕ) → List (List ℕ)
 texts_of texts = map (λ text. text.items) texts
 
--- what was found is what an order was told, as the judge finds it
+-- what was found is what was answered and reported of an order, as the judge finds it
 pub record IsFound (judge : Judge) (found : Finding) : Type 0 where
   pub ending : OutcomeEnding
   pub judged : IsJudged judge ending found.flaws.items

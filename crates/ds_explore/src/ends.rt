@@ -108,7 +108,7 @@ fn recover(alloc: Global, world: &mut World) -> Result<Recovered, AllocError>
     Ok(Recovered { told, text })
 }
 
-/// Every process recovers, after a crash or not; then process 0 settles, and reports: what that came to, behind these
+/// Every process recovers, after a crash or not; then process 0 settles, and reports: what that came to, after these
 /// answers, and its text. An error means that an allocation failed.
 pub(crate) fn end(
     alloc: Global,

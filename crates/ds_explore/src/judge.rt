@@ -124,7 +124,7 @@ fn is_contradicted(done: bool, answer: Option<Answer>) -> bool
     }
 }
 
-// Whether two recoveries told the same.
+// Whether two recoveries reported the same.
 fn same_end(one: RecoveryEnd, other: RecoveryEnd) -> bool
     ensures { result ≡ same_end one other }
 {
@@ -178,7 +178,7 @@ fn is_undone(
     }
 }
 
-// Whether an edit that was asked for is told otherwise than it was answered.
+// Whether an edit that was asked for is reported otherwise than it was answered.
 fn is_told_otherwise(
     asked: Option<&Asked>,
     told: Option<Result<RecoveryEnd, Refusal>>,

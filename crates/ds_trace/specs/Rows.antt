@@ -119,7 +119,7 @@ pub record Tells (places : List Place) (new : WorldValue) (what : Happening) (re
 abbrev pub IsRowOf : List Place → WorldValue → Event → Reply → WorldValue → TraceRow → Type 0
 IsRowOf places old event reply new row = Tells places new (what_of old event) reply (text_by event) row
 
--- why there is no row behind these: there is no room for one more; or memory ran out
+-- why there is no row after these: there is no room for one more; or memory ran out
 abbrev pub IsFull : List TraceRow → NoTrace → Type 0
 IsFull before TooManyEvents = EVENT_LIMIT ≤ length before
 IsFull before NoMemory = Unit {0}

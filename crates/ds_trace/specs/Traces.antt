@@ -84,7 +84,7 @@ pub record CarriesLine (places : List Place) (first : Begun) (old : WorldValue) 
 abbrev pub PassesLine : List Place → Begun → WorldValue → List ℕ → Begun → WorldValue → List TraceRow → List TraceRow → Type 0
 PassesLine places first old line now new before rows = SkipsLine first old line now new before rows ⊎ CarriesLine places first old line now new before rows
 
--- why no further line is carried out behind these rows: by its fault, or for want of room
+-- why no further line is carried out after these rows: by its fault, or for want of room
 abbrev pub StopsLine : Begun → WorldValue → List ℕ → List TraceRow → Hindrance → Type 0
 StopsLine first old line before (hindrances.Fault kind) = order_of first old line ≡ Err kind
 StopsLine first old line before (hindrances.NoTrace why) = (order : Order) × (order_of first old line ≡ Ok (Some order)) × Hinders old order before why

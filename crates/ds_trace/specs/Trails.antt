@@ -44,7 +44,7 @@ pub record TakesTurn (places : List Place) (l : Left) (old : WorldValue) (next :
   pub remains : Remains next (told (doing_of l) event reply new)
   pub within : IfSome next (IsWithin new)
 
--- the command, played from this world on behind n events, wants an event for which a recording has no room
+-- the command, played from this world on after n events, wants an event for which a recording has no room
 pub record Overflows (doing : Doing) (old : WorldValue) (n : ℕ) : Type 0 where
   pub events : List Event
   pub replies : List Reply
@@ -55,12 +55,12 @@ pub record Overflows (doing : Doing) (old : WorldValue) (n : ℕ) : Type 0 where
   pub wants : asks last world ≡ Some event
   pub full : EVENT_LIMIT ≤ n + length events
 
--- why a command is not played to its end behind these rows: for want of room, or of memory
+-- why a command is not played to its end after these rows: for want of room, or of memory
 abbrev pub BreaksOff : Doing → WorldValue → List TraceRow → NoTrace → Type 0
 BreaksOff doing old before TooManyEvents = Overflows doing old (length before)
 BreaksOff doing old before NoMemory = Unit {0}
 
--- why an order is not carried out behind these rows
+-- why an order is not carried out after these rows
 abbrev pub Hinders : WorldValue → Order → List TraceRow → NoTrace → Type 0
 Hinders old (Make first columns rows processes edition) before why = why ≡ NoMemory
 Hinders old (Does deed) before why = BreaksOff (plan old deed) old before why
