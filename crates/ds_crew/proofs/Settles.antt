@@ -22,11 +22,13 @@ use Rattle.ds_core.specs.StepEvents.{StepsBy, edits, works, reports, recoveries,
 use Rattle.ds_core.specs.Takes.{Fits}
 use Rattle.ds_core.specs.declared.event.Event.TheVariants.{Step}
 use Rattle.ds_core.specs.declared.reply.Reply.{Reply}
+use Rattle.ds_core.specs.declared.reply.Reply.TheVariants.{Answered, NotEnabled}
+use Rattle.ds_state.specs.declared.answer.Answer.{Answer}
 use Rattle.ds_core.proofs.Counts.{adds}
-use Rattle.ds_crew.specs.LockedCalls.{IsKindOf, call_in, came_reply, step_reply}
-use Rattle.ds_crew.specs.Kept.{HasShow, HasSettled, HasStepped, StepsIn, settled_reply, report_of}
-use Rattle.ds_crew.specs.declared.came.Came.{Came}
+use Rattle.ds_crew.specs.LockedCalls.{IsKindOf, call_in, step_reply}
+use Rattle.ds_crew.specs.Kept.{HasMade, HasShow, HasSettled, HasStepped, StepsIn, stepped, no_room, settled_reply, report_of}
 use Rattle.ds_crew.specs.declared.steps.Call.{Call}
+use Rattle.ds_crew.specs.declared.steps.Call.TheVariants.{Show}
 
 -- a good world's step that is answered Settled, and the values of the world behind it
 pub settled_by : (process : ℕ) (old new : WorldValue) (reply : Reply) → IsGood old → Fits old (Step process) reply new → reply ≡ settled_reply → HasSettled process (report_of new.reports process)
@@ -104,6 +106,7 @@ reported_by process old new reply good fits is =
 
 -- ---- ends
 
--- what was asked of a good world, by the last reply to the call
-pub ends_by : {E : Type 0} (kind : Kind E) (call : Call) (p q : ℕ) (reply : Reply) (came : Came E) → q ≡ p → reply ≡ came_reply kind came → HasStepped call q reply → HasStepped call p (came_reply kind came)
-ends_by kind call p q reply came same is stepped = subst (λ (n : ℕ). HasStepped call n (came_reply kind came)) same (subst (λ (r : Reply). HasStepped call q r) is stepped)
+-- a step of the pass's process that is answered was made
+pub answered_by : (p q : ℕ) (reply : Reply) (answer : Answer) → q ≡ p → reply ≡ Answered answer → HasMade Show q reply → HasStepped Show p (Answered answer)
+answered_by p q reply answer same is (stepped h) = subst (λ (n : ℕ). HasStepped Show n (Answered answer)) same (subst (λ (r : Reply). HasStepped Show q r) is h)
+answered_by p q reply answer same is (no_room show none) = absurd (let bad : NotEnabled ≡ Answered answer = sym none ∙ is in cc)

@@ -1,20 +1,27 @@
 -- What is kept of reports, under the lock and by passes.
-use Rattle.std.specs.Prelude.{ℕ, ◌≡◌, ◌<◌, List, [], length, slice_index_or, Some}
+use Rattle.std.specs.Prelude.{ℕ, ◌≡◌, ◌<◌, ◌-◌, ◌⊎◌, List, [], length, slice_index_or, Option, Some, None, nat_lt, if◌then◌else◌}
+use Rattle.ds_formula.specs.declared.cells.Cell.{Cell}
 use Rattle.ds_eval.specs.declared.value.Value.{Value}
 use Rattle.ds_layout.specs.declared.layout.Layout.{Layout}
 use Rattle.ds_layout.specs.Places.{cells_of}
 use Rattle.ds_state.specs.Reports.{PlainReports}
 use Rattle.ds_state.specs.Value.{WorldValue, IsGood, world_of}
+use Rattle.ds_state.specs.declared.answer.Answer.{Answer}
 use Rattle.ds_state.specs.declared.answer.Answer.TheVariants as answers
+use Rattle.ds_state.specs.declared.work.WorkEnd.{WorkEnd}
+use Rattle.ds_state.specs.declared.work.WorkEnd.TheVariants.{NoMemory}
+use Rattle.ds_calls.specs.Marked.{marked_from}
 use Rattle.ds_state.specs.declared.show.ShowEnd.TheVariants.{Settled}
 use Rattle.ds_core.specs.Takes.{Fits}
 use Rattle.ds_core.specs.declared.event.Event.{Event}
-use Rattle.ds_core.specs.declared.event.Event.TheVariants.{Step, BeginEdit, BeginShow, BeginRecover}
+use Rattle.ds_core.specs.declared.event.Event.TheVariants.{Step, Stop, BeginEdit, BeginWork, BeginShow, BeginRecover}
 use Rattle.ds_core.specs.declared.reply.Reply.{Reply}
-use Rattle.ds_core.specs.declared.reply.Reply.TheVariants.{Answered, Begun, Entered, NotEnabled}
+use Rattle.ds_core.specs.declared.reply.Reply.TheVariants.{Answered, Begun, Entered, NotEnabled, Refused}
 use Rattle.ds_crew.specs.LockedCalls.{call_in}
 use Rattle.ds_crew.specs.declared.steps.Call.{Call}
-use Rattle.ds_crew.specs.declared.steps.Call.TheVariants.{Edit, Show, Recovery}
+use Rattle.ds_crew.specs.declared.steps.Call.TheVariants.{Edit, Work, Show, Recovery}
+use Rattle.ds_crew.specs.declared.ended.Worked.{Worked}
+use Rattle.ds_crew.specs.declared.ended.Worked.TheVariants as worked
 
 -- the reply to a step by which a show is settled
 abbrev pub settled_reply : Reply
@@ -79,10 +86,36 @@ pub record HasBegun (begin : Event) : Type 0 where
   pub entry : IsEntry first
   pub happened : Happened begin first
 
--- the process's call that this event begins ended with this reply: at once, or by a step
+-- the process's call that this event begins ended with this reply: at once; or it began, and a step answered it
 pub data HasEnded (call : Call) (process : ℕ) (begin : Event) (reply : Reply) : Type 0 where
   at_once : Happened begin reply → HasEnded call process begin reply
-  by_step : HasBegun begin → HasMade call process reply → HasEnded call process begin reply
+  by_step : (answer : Answer) → reply ≡ Answered answer → HasBegun begin → HasStepped call process reply → HasEnded call process begin reply
+
+-- the process's work that has begun ended so: a step answered it; or there was no memory for its task, and the process
+-- was stopped
+abbrev pub EndsWork : ℕ → WorkEnd → Type 0
+EndsWork process end = HasStepped Work process (Answered (answers.Work end)) ⊎ ((end ≡ NoMemory) × ((reply : Reply) × Happened (Stop process) reply))
+
+-- the process's work on the cell ended so: it began, and ended; or it was refused, or not enabled
+abbrev pub HasWorked : ℕ → Cell → Worked → Type 0
+HasWorked process cell (worked.Ended end) = HasBegun (BeginWork process cell) × EndsWork process end
+HasWorked process cell (worked.Refused why) = Happened (BeginWork process cell) (Refused why)
+HasWorked process cell worked.NotEnabled = Happened (BeginWork process cell) NotEnabled
+
+-- in a good world this was the first cell that was marked, from this one on, if one was
+pub record HasMarked (from : ℕ) (marked : Option ℕ) : Type 0 where
+  pub world : WorldValue
+  pub good : IsGood world
+  pub is : marked ≡ marked_from (world_of world) (cells_of world.sheet.layout - from) from
+
+-- a number that is below a limit
+abbrev pub within : ℕ → Option ℕ → Option ℕ
+within limit None = None
+within limit (Some n) = if nat_lt n limit then Some n else None
+
+-- the same, of a sheet with this number of cells
+abbrev pub HasFound : ℕ → ℕ → Option ℕ → Type 0
+HasFound cells from found = (marked : Option ℕ) × HasMarked from marked × (found ≡ within cells marked)
 
 -- the process's edit, report or recovery that this event begins ended with this reply
 abbrev pub HasUsed : ℕ → Event → Reply → Type 0

@@ -11,6 +11,9 @@ use Rattle.ds_core.specs.Ends.{Kind, IsCallOf}
 use Rattle.ds_core.specs.Replies.{reply_of}
 use Rattle.ds_crew.specs.declared.came.Came.{Came}
 use Rattle.ds_crew.specs.declared.came.Came.TheVariants as came
+use Rattle.ds_state.specs.declared.work.WorkEnd.{WorkEnd}
+use Rattle.ds_crew.specs.declared.ended.Worked.{Worked}
+use Rattle.ds_crew.specs.declared.ended.Worked.TheVariants as worked
 use Rattle.ds_crew.specs.declared.steps.Call.{Call}
 use Rattle.ds_crew.specs.declared.steps.Call.TheVariants.{Edit, Work, Show, Recovery}
 
@@ -38,6 +41,17 @@ abbrev pub came_reply : {E : Type 0} → Kind E → Came E → Reply
 came_reply kind (came.Ended end) = Answered (kind.answer end)
 came_reply kind (came.Refused why) = Refused why
 came_reply kind came.NotEnabled = NotEnabled
+
+-- the call has not begun
+abbrev pub HasNotBegun : {E : Type 0} → Came E → Type 0
+HasNotBegun (came.Ended end) = ⊥
+HasNotBegun came = Unit {0}
+
+-- how work ended that came to this
+abbrev pub worked_of : Came WorkEnd → Worked
+worked_of (came.Ended end) = worked.Ended end
+worked_of (came.Refused why) = worked.Refused why
+worked_of came.NotEnabled = worked.NotEnabled
 
 -- the event is no step: it begins a call, offers an entry, or is of no process's call
 abbrev pub IsNoStep : Event → Type 0

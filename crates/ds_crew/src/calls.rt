@@ -4,10 +4,11 @@ ghost use Rattle.std.specs.Prelude.{◌≡◌, ◌<◌, ◌≤◌, ◌+◌, IfSo
 ghost use Rattle.ds_layout.specs.Places.{cells_of};
 ghost use Rattle.ds_core.specs.Counts.{IsReplyTo, done_of};
 ghost use Rattle.ds_core.specs.declared.event.Event.TheVariants.{BeginRecover};
+ghost use Rattle.ds_core.specs.declared.reply.Reply.TheVariants.{Answered};
 ghost use Rattle.ds_core.specs.Ends.{edits, reports, recoveries};
-ghost use Rattle.ds_crew.specs.LockedCalls.{CountsNothing, IsKindOf, IsNoStep, came_reply, step_reply};
+ghost use Rattle.ds_crew.specs.LockedCalls.{CountsNothing, HasNotBegun, IsKindOf, IsNoStep, came_reply, step_reply, worked_of};
 ghost use Rattle.ds_crew.specs.Ends.{AfterShow, AfterStep, BeginsCall, HasReceipt, HasReceiptOf, IsBegin, IsShowBegin, after_edit, after_recovery, edit_reply, recovery_reply, show_reply};
-ghost use Rattle.ds_crew.specs.Kept.{Happened, HasBegun, HasEnded, HasMade, HasStepped, IsEntry};
+ghost use Rattle.ds_crew.specs.Kept.{EndsWork, Happened, HasBegun, HasEnded, HasFound, HasMade, HasStepped, HasWorked, IsEntry};
 ghost use Rattle.ds_crew.specs.declared.steps.Call.TheVariants.{Edit, Recovery, Show};
 
 use crate::came::Came;
@@ -48,6 +49,7 @@ impl<L: Ledger, M: Ledger> LockedSheet<L, M> {
         requires { BeginsCall begin.now }
         ensures begun { IfNone result (HasBegun begin.now) }
         ensures at_once { IfSome result (λ came. Happened begin.now (came_reply E.kind came)) }
+        ensures not_begun { IfSome result HasNotBegun }
     {
         match self.happen(rt, alloc, begin) {
             Reply::Refused(why) => Some(Came::Refused(why)),
@@ -118,7 +120,8 @@ impl<L: Ledger, M: Ledger> LockedSheet<L, M> {
     /// The first cell that is marked, from this one on, by its number; none where the sheet has none.
     /// No event.
     pub fn next_marked<R: Wait>(&self, rt: &R, from: usize) -> Option<usize>
-        ensures { IfSome result (λ cell. (from ≤ cell) × (cell < cells_of self.now.layout)) }
+        ensures cell { IfSome result (λ cell. (from ≤ cell) × (cell < cells_of self.now.layout)) }
+        ensures found { HasFound (cells_of self.now.layout) from result }
     {
         let cell = self.kept.lock(rt).next_marked(from)?;
         if cell < self.layout.cells() {
@@ -178,7 +181,9 @@ fn recovered_by(came: Came<RecoveryEnd>) -> Recovered
 }
 
 // How work ended, by what it came to.
-fn worked_by(came: Came<WorkEnd>) -> Worked {
+fn worked_by(came: Came<WorkEnd>) -> Worked
+    ensures { result ≡ worked_of came }
+{
     match came {
         Came::Ended(end) => Worked::Ended(end),
         Came::Refused(why) => Worked::Refused(why),
@@ -187,23 +192,17 @@ fn worked_by(came: Came<WorkEnd>) -> Worked {
 }
 
 impl<L: Ledger, M: Ledger> LockedSheet<L, M> {
-    // The steps of an edit, until it ends, or none of it is enabled.
-    fn finish_edit<R: Wait>(&self, rt: &R, alloc: Global, pass: &mut Pass<L, M>) -> Came<EditEnd>
-        ensures happened { HasStepped Edit pass.old.process (came_reply edits result) }
-        ensures pass { pass.new ≡ record pass.old { dones = pass.old.dones + done_of (came_reply edits result) } }
+    // The steps of an edit that has begun, until it is answered.
+    fn finish_edit<R: Wait>(&self, rt: &R, alloc: Global, pass: &mut Pass<L, M>) -> EditEnd
+        ensures happened { HasStepped Edit pass.old.process (Answered (edits.answer result)) }
+        ensures pass { pass.new ≡ record pass.old { dones = pass.old.dones + done_of (Answered (edits.answer result)) } }
     {
-        let mut came = Came::NotEnabled;
         for _ in rt.forever() {
-            match self.step_edit(rt, alloc, pass) {
-                Some(Turn::GoesOn) => {}
-                Some(Turn::Answers(end)) => {
-                    came = Came::Ended(end);
-                    break;
-                }
-                None => break,
+            if let Some(Turn::Answers(end)) = self.step_edit(rt, alloc, pass) {
+                return end;
             }
         }
-        came
+        unreachable!()
     }
 
     // An edit, from the event that begins it to what it comes to.
@@ -220,7 +219,7 @@ impl<L: Ledger, M: Ledger> LockedSheet<L, M> {
     {
         match self.begin(rt, alloc, begin) {
             Some(came) => came,
-            None => self.finish_edit(rt, alloc, pass),
+            None => Came::Ended(self.finish_edit(rt, alloc, pass)),
         }
     }
 
@@ -248,24 +247,18 @@ impl<L: Ledger, M: Ledger> LockedSheet<L, M> {
         edited_by(begin, came)
     }
 
-    // The steps of a show, until it ends, or none of it is enabled.
-    fn finish_show<R: Wait>(&self, rt: &R, alloc: Global, pass: &mut Pass<L, M>) -> Came<ShowEnd>
-        ensures happened { HasMade Show pass.old.process (came_reply reports result) }
+    // The steps of a show that has begun, until it is answered.
+    fn finish_show<R: Wait>(&self, rt: &R, alloc: Global, pass: &mut Pass<L, M>) -> ShowEnd
+        ensures happened { HasStepped Show pass.old.process (Answered (reports.answer result)) }
         ensures process { pass.new.process ≡ pass.old.process }
-        ensures pass { AfterStep (cells_of self.now.layout) pass.old (came_reply reports result) pass.new }
+        ensures pass { AfterStep (cells_of self.now.layout) pass.old (Answered (reports.answer result)) pass.new }
     {
-        let mut came = Came::NotEnabled;
         for _ in rt.forever() {
-            match self.step_show(rt, alloc, pass) {
-                Some(Turn::GoesOn) => {}
-                Some(Turn::Answers(end)) => {
-                    came = Came::Ended(end);
-                    break;
-                }
-                None => break,
+            if let Some(Turn::Answers(end)) = self.step_show(rt, alloc, pass) {
+                return end;
             }
         }
-        came
+        unreachable!()
     }
 
     // A show, from the event that begins it to what it comes to.
@@ -283,7 +276,7 @@ impl<L: Ledger, M: Ledger> LockedSheet<L, M> {
     {
         match self.begin(rt, alloc, begin) {
             Some(came) => came,
-            None => self.finish_show(rt, alloc, pass),
+            None => Came::Ended(self.finish_show(rt, alloc, pass)),
         }
     }
 
@@ -302,8 +295,8 @@ impl<L: Ledger, M: Ledger> LockedSheet<L, M> {
 }
 
 impl<L: Ledger, M: Ledger> LockedSheet<L, M> {
-    // Work that waits: its task is copied under the lock, evaluated outside of it, and offered. What the
-    // work came to, where it did. An offer of a task that nobody waits for any more changes nothing.
+    // Work that waits: its task is copied under the lock, evaluated outside of it, and offered. An offer of a task
+    // that nobody waits for any more changes nothing. How the work ended, where its task could not be copied.
     fn evaluate<G: Gate, R: Wait>(
         &self,
         rt: &R,
@@ -311,13 +304,15 @@ impl<L: Ledger, M: Ledger> LockedSheet<L, M> {
         process: usize,
         cell: Cell,
         gate: &G,
-    ) -> Option<Came<WorkEnd>> {
+    ) -> Option<WorkEnd>
+        ensures { IfSome result (EndsWork process) }
+    {
         let task = match self.task(rt, alloc, process) {
             Ok(task) => task,
-            Err(TaskFault::NoTask) => return Some(Came::NotEnabled),
+            Err(TaskFault::NoTask) => return None,
             Err(TaskFault::NoMemory) => {
                 let _stopped = self.happen(rt, alloc, &Event::Stop(process));
-                return Some(Came::Ended(WorkEnd::NoMemory));
+                return Some(WorkEnd::NoMemory);
             }
         };
         gate.before(process, cell);
@@ -327,7 +322,7 @@ impl<L: Ledger, M: Ledger> LockedSheet<L, M> {
         None
     }
 
-    // A step of work, or the evaluation that it waits for. What the work came to, where it did.
+    // A step of work, or the evaluation that it waits for. How the work ended, where it did.
     fn go_on<G: Gate, R: Wait>(
         &self,
         rt: &R,
@@ -335,15 +330,17 @@ impl<L: Ledger, M: Ledger> LockedSheet<L, M> {
         process: usize,
         cell: Cell,
         gate: &G,
-    ) -> Option<Came<WorkEnd>> {
+    ) -> Option<WorkEnd>
+        ensures { IfSome result (EndsWork process) }
+    {
         match self.step(rt, alloc, process, Call::Work) {
             Some(Turn::GoesOn) => None,
-            Some(Turn::Answers(end)) => Some(Came::Ended(end)),
+            Some(Turn::Answers(end)) => Some(end),
             None => self.evaluate(rt, alloc, process, cell, gate),
         }
     }
 
-    // The steps of a work, with the offer that it waits for, until it ends, or none of it is enabled.
+    // The steps of a work that has begun, with the offer that it waits for, until it ends.
     fn finish_work<G: Gate, R: Wait>(
         &self,
         rt: &R,
@@ -351,15 +348,15 @@ impl<L: Ledger, M: Ledger> LockedSheet<L, M> {
         process: usize,
         cell: Cell,
         gate: &G,
-    ) -> Came<WorkEnd> {
-        let mut came = Came::NotEnabled;
+    ) -> WorkEnd
+        ensures { EndsWork process result }
+    {
         for _ in rt.forever() {
             if let Some(end) = self.go_on(rt, alloc, process, cell, gate) {
-                came = end;
-                break;
+                return end;
             }
         }
-        came
+        unreachable!()
     }
 
     // A whole work by a process, with a gate.
@@ -370,20 +367,21 @@ impl<L: Ledger, M: Ledger> LockedSheet<L, M> {
         process: usize,
         cell: Cell,
         gate: &G,
-    ) -> Worked {
-        worked_by(
-            match self.begin(rt, alloc, &Event::BeginWork(process, cell)) {
-                Some(came) => came,
-                None => self.finish_work(rt, alloc, process, cell, gate),
-            },
-        )
+    ) -> Worked
+        ensures { HasWorked process cell result }
+    {
+        match self.begin(rt, alloc, &Event::BeginWork(process, cell)) {
+            Some(came) => worked_by(came),
+            None => Worked::Ended(self.finish_work(rt, alloc, process, cell, gate)),
+        }
     }
 
     /// Recalculates a cell: a whole work by the pass's process. The evaluation is made while the lock
     /// is free, so that works on other cells go on meanwhile. Work counts nothing: the pass stays. Where the
     /// process migrates the sheet, it is refused as `Busy`.
     pub fn work<R: Wait>(&self, rt: &R, alloc: Global, pass: &mut Pass<L, M>, cell: Cell) -> Worked
-        ensures { pass.new ≡ pass.old }
+        ensures pass { pass.new ≡ pass.old }
+        ensures worked { HasWorked pass.old.process cell result }
     {
         self.work_as(rt, alloc, pass.process, cell, &Open)
     }
@@ -401,26 +399,20 @@ impl<L: Ledger, M: Ledger> LockedSheet<L, M> {
     {
         match self.begin(rt, alloc, begin) {
             Some(came) => came,
-            None => self.finish_recovery(rt, alloc, process),
+            None => Came::Ended(self.finish_recovery(rt, alloc, process)),
         }
     }
 
-    // The steps of a recovery, until it ends, or none of it is enabled.
-    fn finish_recovery<R: Wait>(&self, rt: &R, alloc: Global, process: usize) -> Came<RecoveryEnd>
-        ensures { HasStepped Recovery process (came_reply recoveries result) }
+    // The steps of a recovery that has begun, until it is answered.
+    fn finish_recovery<R: Wait>(&self, rt: &R, alloc: Global, process: usize) -> RecoveryEnd
+        ensures { HasStepped Recovery process (Answered (recoveries.answer result)) }
     {
-        let mut came = Came::NotEnabled;
         for _ in rt.forever() {
-            match self.step(rt, alloc, process, Call::Recovery) {
-                Some(Turn::GoesOn) => {}
-                Some(Turn::Answers(end)) => {
-                    came = Came::Ended(end);
-                    break;
-                }
-                None => break,
+            if let Some(Turn::Answers(end)) = self.step(rt, alloc, process, Call::Recovery) {
+                return end;
             }
         }
-        came
+        unreachable!()
     }
 
     /// Recovers the pass's process, stopped or idle. The pass remembers the recovery, with its end, and

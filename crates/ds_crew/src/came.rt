@@ -14,7 +14,7 @@ pub(crate) enum Came<E> {
     Ended(E),
     /// It has not begun, for this cause.
     Refused(Refusal),
-    /// Its beginning, or a step of it, is not enabled.
+    /// It has not begun: the sheet has no such process or cell.
     NotEnabled,
 }
 

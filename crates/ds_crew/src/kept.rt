@@ -8,7 +8,7 @@ ghost use Rattle.ds_core.specs.Takes.{Fits};
 ghost use Rattle.ds_core.specs.Counts.{done_of, settled_of, IsReplyTo};
 ghost use Rattle.ds_core.specs.Ends.{edits, reports};
 ghost use Rattle.ds_crew.specs.LockedCalls.{CountsNothing, IsKindOf, IsNoStep, step_reply};
-ghost use Rattle.ds_crew.specs.Kept.{Happened, HasMade, HasSettled, HasStepped, StepsIn, settled_reply, last_after, report_of};
+ghost use Rattle.ds_crew.specs.Kept.{Happened, HasMade, HasMarked, HasSettled, HasStepped, StepsIn, settled_reply, last_after, report_of};
 ghost use Rattle.ds_crew.specs.declared.steps.Call.TheVariants.{Edit, Show};
 
 use crate::steps::{Call, step};
@@ -165,7 +165,9 @@ impl<L: Ledger, M: Ledger> Kept<L, M> {
     pub(crate) fn next_marked(&self, from: usize) -> Option<usize>
         ensures value { result ≡ marked_from (world_of self.now.world) (cells_of self.now.world.sheet.layout - from) from }
         ensures above { IfSome result (λ cell. from ≤ cell) }
+        ensures marked { HasMarked from result }
     {
+        self.world.is_always_good();
         if from > cells(&self.world) {
             return None;
         }

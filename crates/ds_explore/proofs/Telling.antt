@@ -1,8 +1,12 @@
 -- Scripts that are answered, and the outcomes that are written.
-use Rattle.std.proofs.Common.{ℕ, suc, ◌+◌, ◌||◌, add-one, ◌≡◌, ◌≤◌, Bool, true, false, List, [], ◌++◌, Option, Some, length, take, refl, sym, subst, ap, ◌∙◌, inl, inr}
-use Rattle.std.proofs.lemmas.List.{take_all}
+use Rattle.std.proofs.Common.{ℕ, suc, ◌+◌, ◌||◌, add-one, ◌≡◌, ◌≤◌, ◌<◌, get_or, Bool, true, false, List, [], ◌++◌, Option, Some, length, take, refl, sym, subst, ap, ◌∙◌, ◌∷◌, append_assoc, inl, inr}
+use Rattle.std.proofs.lemmas.List.{append-nil, map-append, take_all, take_more}
+use Rattle.std.specs.Global.{Vec}
 use Rattle.std.proofs.KnownBytes.{Consumes-all}
-use Rattle.std.specs.Prelude.{◌-◌, ◌^◌}
+use Rattle.std.specs.Prelude.{◌-◌, ◌^◌, All, nat_eq}
+use Rattle.std.specs.List.{ends_with}
+use Rattle.std.specs.Str.{bytes_eq}
+use Rattle.std.proofs.lemmas.Slice.Eq.{bytes_eq-Decides}
 use Rattle.std.specs.Io.KnownBytes.{Consumes}
 use Rattle.ds_script_io.specs.Input.{EndsWith}
 use Rattle.ds_script_io.specs.declared.input.InputEnd.{InputEnd}
@@ -15,8 +19,11 @@ use Rattle.ds_script_stops.specs.Reaching.{FallsShort}
 use Rattle.ds_formula.specs.declared.cells.Shape.{Shape}
 use Rattle.ds_explore.specs.declared.lines.FoundLine.{FoundLine}
 use Rattle.ds_explore.specs.declared.flaw.Flaw.{Flaw}
+use Rattle.ds_explore.specs.declared.judge.Judge.{Judge}
+use Rattle.ds_explore.specs.declared.outcomes.Finding.{Finding}
+use Rattle.ds_explore.specs.Judging.{IsFound, IsPart, texts_of}
 use Rattle.ds_explore.specs.Lines.{IsLines, no_line, one_line_more, line_text, GoesOn}
-use Rattle.ds_explore.specs.Explored.{IsWrong, right, one_flaw_more, wrong_text, IsBlock, IsOutcome, AreOutcomes, one_outcome_more, orders_joined, figures_text, endless_text, WritesAll, Explores, end_of, end_short}
+use Rattle.ds_explore.specs.Explored.{wrong_text, wrong_texts, joined, key_text, IsBlock, IsOutcome, AreOutcomes, one_outcome, one_outcome_more, orders_joined, figures_text, endless_text, WritesAll, Explores, end_of, end_short}
 
 -- a reader over a script that has ended gave all of it
 gave_all : (limit : ℕ) (script : List ℕ) (after : Option (List ℕ)) (ended failed : Bool) (bytes : List ℕ) (end : InputEnd)
@@ -59,47 +66,102 @@ pub lines_more : (shape : Shape) (text bytes new : List ℕ) (line : FoundLine) 
 lines_more shape text bytes new line lines is e =
     subst (λ (t : List ℕ). IsLines shape t) (sym (e ∙ ap (λ (t : List ℕ). text ++ t) is)) (one_line_more text line lines)
 
--- nothing is wrong where there is no text
-pub wrong_none : (text : List ℕ) → text ≡ [] → IsWrong false text
-wrong_none text is = subst (λ (t : List ℕ). IsWrong false t) (sym is) right
+-- one flaw more, after the lines of those before
+pub wrong_push : (flaws : List Flaw) (f : Flaw) → wrong_texts (flaws ++ f ∷ []) ≡ wrong_texts flaws ++ wrong_text f
+wrong_push [] f = append-nil (wrong_text f)
+wrong_push (g ∷ flaws) f = ap (λ (t : List ℕ). wrong_text g ++ t) (wrong_push flaws f) ∙ sym (append_assoc (wrong_text g) (wrong_texts flaws) (wrong_text f))
 
--- one flaw more, after the text of those before
-pub wrong_more : (flawed : Bool) (text line new : List ℕ) (flaw : Flaw) → IsWrong flawed text → line ≡ wrong_text flaw → new ≡ text ++ line → IsWrong true new
-wrong_more flawed text line new flaw wrongs is e =
-    subst (λ (t : List ℕ). IsWrong true t) (sym (e ∙ ap (λ (t : List ℕ). text ++ t) is)) (one_flaw_more flawed text flaw wrongs)
+pub wrong_more : (flaws : List Flaw) (f : Flaw) (text line new : List ℕ) → text ≡ wrong_texts flaws → line ≡ wrong_text f → new ≡ text ++ line → new ≡ wrong_texts (flaws ++ f ∷ [])
+wrong_more flaws f text line new are is e = e ∙ ap (λ (t : List ℕ). t ++ line) are ∙ ap (λ (t : List ℕ). wrong_texts flaws ++ t) is ∙ sym (wrong_push flaws f)
+
+-- the same, by the place of the flaw
+pub wrong_at : (flaws : List Flaw) (i : ℕ) (d : Flaw) (text line new : List ℕ) → i < length flaws → text ≡ wrong_texts (take i flaws) → line ≡ wrong_text (get_or flaws i d) → new ≡ text ++ line → new ≡ wrong_texts (take (i + 1) flaws)
+wrong_at flaws i d text line new low are is e =
+    wrong_more (take i flaws) (get_or flaws i d) text line new are is e ∙ ap (λ (fs : List Flaw). wrong_texts fs) (sym (take_more flaws i d low))
+
+-- one text more, after those before
+pub joined_push : (texts : List (List ℕ)) (text : List ℕ) → joined (texts ++ text ∷ []) ≡ joined texts ++ text
+joined_push [] text = append-nil text
+joined_push (t ∷ texts) text = ap (λ (r : List ℕ). t ++ r) (joined_push texts text) ∙ sym (append_assoc t (joined texts) text)
+
+-- the same, by the place of the text
+pub joined_at : (texts : List (Vec ℕ)) (i : ℕ) (t : Vec ℕ) (text new : List ℕ) → i < length texts → t ≡ get_or texts i t → text ≡ joined (texts_of (take i texts)) → new ≡ text ++ t.items → new ≡ joined (texts_of (take (i + 1) texts))
+joined_at texts i t text new low at is e =
+    e ∙ ap (λ (b : List ℕ). b ++ t.items) is ∙ sym (joined_push (texts_of (take i texts)) t.items)
+    ∙ ap (λ (ts : List (List ℕ)). joined ts) (sym (map-append (λ (v : Vec ℕ). v.items) (take i texts) (t ∷ [])))
+    ∙ ap (λ (vs : List (Vec ℕ)). joined (texts_of vs)) (ap (λ (u : Vec ℕ). take i texts ++ u ∷ []) at ∙ sym (take_more texts i t low))
 
 -- ---- outcomes
 
 -- the outcome with this number, by the text of its script
-pub outcome_of : (shape : Shape) (script longer given : List ℕ) (at orders : ℕ) (flawed : Bool) (text : List ℕ) → GoesOn shape script longer → given ≡ longer → IsBlock (at + 1) orders given flawed text
-    → IsOutcome script (suc at) orders flawed text
-outcome_of shape script longer given at orders flawed text goes is block = record {
+pub outcome_of : (shape : Shape) (script longer given : List ℕ) (judge : Judge) (found : Finding) (at orders : ℕ) (flawed : Bool) (key text : List ℕ)
+    → IsFound judge found → key ≡ key_text found → GoesOn shape script longer → given ≡ longer → IsBlock (at + 1) orders given found flawed text
+    → IsOutcome script judge (suc at) orders flawed key text
+outcome_of shape script longer given judge found at orders flawed key text judged key_is goes is block = record {
+  found = found;
+  judged = judged;
+  key_is = key_is;
   shape = shape;
   longer = longer;
   goes_on = goes;
-  block = subst (λ (n : ℕ). IsBlock n orders longer flawed text) (add-one at) (subst (λ (s : List ℕ). IsBlock (at + 1) orders s flawed text) is block);
+  block = subst (λ (n : ℕ). IsBlock n orders longer found flawed text) (add-one at) (subst (λ (s : List ℕ). IsBlock (at + 1) orders s found flawed text) is block);
 }
 
+-- the first outcome
+pub outcomes_first : (script : List ℕ) (judge : Judge) (orders : ℕ) (flawed : Bool) (key : Vec ℕ) (keys : List (Vec ℕ)) (text : List ℕ) → keys ≡ key ∷ [] → IsOutcome script judge 1 orders flawed key.items text
+    → AreOutcomes script judge 1 orders flawed (texts_of keys) text
+outcomes_first script judge orders flawed key keys text is outcome =
+    subst (λ (ks : List (Vec ℕ)). AreOutcomes script judge 1 orders flawed (texts_of ks) text) (sym is) (one_outcome orders flawed key.items text outcome)
+
+-- the texts of one more
+pub texts_push : (texts more : List (Vec ℕ)) (text : Vec ℕ) → more ≡ texts ++ text ∷ [] → texts_of texts ++ text.items ∷ [] ≡ texts_of more
+texts_push texts more text is = sym (ap (λ (ts : List (Vec ℕ)). texts_of ts) is ∙ map-append (λ (v : Vec ℕ). v.items) texts (text ∷ []))
+
 -- one outcome more after the others
-pub outcomes_more : (script : List ℕ) (count orders more sum : ℕ) (wrong flawed : Bool) (out text new : List ℕ) → AreOutcomes script (suc count) orders wrong out → IsOutcome script (suc (count + 1)) more flawed text
-    → sum ≡ orders_joined orders more → new ≡ out ++ text → AreOutcomes script (suc (count + 1)) sum (wrong || flawed) new
-outcomes_more script count orders more sum wrong flawed out text new before outcome is e =
-    let numbered = subst (λ (n : ℕ). IsOutcome script (suc n) more flawed text) (add-one count) outcome in
-    subst (λ (t : List ℕ). AreOutcomes script (suc (count + 1)) sum (wrong || flawed) t) (sym e)
-    (subst (λ (n : ℕ). AreOutcomes script (suc (count + 1)) n (wrong || flawed) (out ++ text)) (sym is)
-    (subst (λ (n : ℕ). AreOutcomes script (suc n) (orders_joined orders more) (wrong || flawed) (out ++ text)) (sym (add-one count)) (one_outcome_more (suc count) orders more wrong flawed out text before numbered)))
+pub outcomes_more : (script : List ℕ) (judge : Judge) (count orders more sum : ℕ) (wrong flawed : Bool) (keys : List (List ℕ)) (key out text new : List ℕ) → AreOutcomes script judge (suc count) orders wrong keys out
+    → IsOutcome script judge (suc (count + 1)) more flawed key text → All (λ other. other ≡ key → ⊥) keys
+    → sum ≡ orders_joined orders more → new ≡ out ++ text → AreOutcomes script judge (suc (count + 1)) sum (wrong || flawed) (keys ++ key ∷ []) new
+outcomes_more script judge count orders more sum wrong flawed keys key out text new before outcome fresh is e =
+    let numbered = subst (λ (n : ℕ). IsOutcome script judge (suc n) more flawed key text) (add-one count) outcome in
+    subst (λ (t : List ℕ). AreOutcomes script judge (suc (count + 1)) sum (wrong || flawed) (keys ++ key ∷ []) t) (sym e)
+    (subst (λ (n : ℕ). AreOutcomes script judge (suc (count + 1)) n (wrong || flawed) (keys ++ key ∷ []) (out ++ text)) (sym is)
+    (subst (λ (n : ℕ). AreOutcomes script judge (suc n) (orders_joined orders more) (wrong || flawed) (keys ++ key ∷ []) (out ++ text)) (sym (add-one count))
+    (one_outcome_more (suc count) orders more wrong flawed keys key out text before numbered fresh)))
 
 -- all that is written, by its head and its outcomes
-pub written_of : (script head text out : List ℕ) (states orders more : ℕ) (endless flawed : Bool) → head ≡ figures_text states orders ++ endless_text endless → AreOutcomes script (suc more) orders flawed text
-    → out ≡ head ++ text → WritesAll script (endless || flawed) out
-written_of script head text out states orders more endless flawed is outcomes e = record {
+pub written_of : (script : List ℕ) (judge : Judge) (keys : List (List ℕ)) (head text out : List ℕ) (states orders more : ℕ) (endless flawed : Bool) → head ≡ figures_text states orders ++ endless_text endless
+    → AreOutcomes script judge (suc more) orders flawed keys text → out ≡ head ++ text → WritesAll script (endless || flawed) out
+written_of script judge keys head text out states orders more endless flawed is outcomes e = record {
   states = states;
   orders = orders;
   endless = endless;
   flawed = flawed;
   more = more;
+  judge = judge;
+  keys = keys;
   text = text;
   outcomes = outcomes;
   is_wrong = refl;
   is = e ∙ ap (λ (h : List ℕ). h ++ text) is;
 }
+
+-- ---- parts of texts
+
+-- a part that was looked for
+pub part_of : (text part items : List ℕ) → part ≡ items → IsPart text part → IsPart text items
+part_of text part items is h = subst (λ (p : List ℕ). IsPart text p) is h
+
+-- a text was found to end so
+pub ends_so : (text tail items : List ℕ) (found : Bool) → tail ≡ items → found ≡ ends_with nat_eq text tail → found ≡ true → ends_with nat_eq text items ≡ true
+ends_so text tail items found is e found_so = sym (ap (λ (t : List ℕ). ends_with nat_eq text t) is) ∙ sym e ∙ found_so
+
+-- a text was found to be another one
+pub differs : (read items key : List ℕ) → read ≡ items → false ≡ bytes_eq read key → items ≡ key → ⊥
+differs read items key is unlike same =
+    let bad : false ≡ true = unlike ∙ (bytes_eq-Decides read key).1 (is ∙ same) in
+    cc
+
+-- the keys are other ones than this
+pub fresh_as : (keys now : List (Vec ℕ)) (key read : List ℕ) → now ≡ keys → read ≡ key → All (λ other. other ≡ read → ⊥) (texts_of now) → All (λ other. other ≡ key → ⊥) (texts_of keys)
+fresh_as keys now key read is same h =
+    subst (λ (ks : List (Vec ℕ)). All (λ other. other ≡ key → ⊥) (texts_of ks)) is (subst (λ (k : List ℕ). All (λ other. other ≡ k → ⊥) (texts_of now)) same h)

@@ -1,5 +1,5 @@
 -- What an exploration writes.
-use Rattle.std.specs.Prelude.{ℕ, suc, ◌+◌, ◌≡◌, ◌<◌, ◌-◌, ◌^◌, ◌||◌, min, Bool, true, false, List, [], ◌++◌, length, codes}
+use Rattle.std.specs.Prelude.{ℕ, suc, ◌+◌, ◌≡◌, ◌<◌, ◌-◌, ◌^◌, ◌||◌, ◌⊎◌, min, All, Bool, true, false, List, [], ◌∷◌, ◌++◌, length, codes}
 use Rattle.std.specs.Fmt.{decimal}
 use Rattle.ds_formula.specs.Limits.{INPUT_MOST}
 use Rattle.ds_formula.specs.declared.cells.Shape.{Shape}
@@ -12,6 +12,9 @@ use Rattle.ds_explore.specs.declared.flaw.Flaw.{Flaw}
 use Rattle.ds_explore.specs.declared.flaw.Flaw.TheVariants as flaw
 use Rattle.ds_explore.specs.declared.explore.ExploreEnd.{ExploreEnd}
 use Rattle.ds_explore.specs.declared.explore.ExploreEnd.TheVariants as ends
+use Rattle.ds_explore.specs.declared.judge.Judge.{Judge}
+use Rattle.ds_explore.specs.declared.outcomes.Finding.{Finding}
+use Rattle.ds_explore.specs.Judging.{Answers, IsFound, texts_of}
 use Rattle.ds_explore.specs.Lines.{GoesOn}
 
 -- ---- an outcome
@@ -32,10 +35,37 @@ flaw_text flaw.AnsweredOtherwise = codes "the script is answered otherwise than 
 abbrev pub wrong_text : Flaw → List ℕ
 wrong_text f = codes "wrong: " ++ (flaw_text f ++ codes "\n")
 
--- the text is lines for what is wrong; whether there is one
-pub data IsWrong : Bool → List ℕ → Type 0 where
-  right : IsWrong false []
-  one_flaw_more : (flawed : Bool) (text : List ℕ) (f : Flaw) → IsWrong flawed text → IsWrong true (text ++ wrong_text f)
+-- the lines for what is wrong
+abbrev pub wrong_texts : List Flaw → List ℕ
+wrong_texts [] = []
+wrong_texts (f ∷ flaws) = wrong_text f ++ wrong_texts flaws
+
+-- whether something is wrong
+abbrev pub is_wrong : List Flaw → Bool
+is_wrong [] = false
+is_wrong (f ∷ flaws) = true
+
+-- texts, one after the other
+abbrev pub joined : List (List ℕ) → List ℕ
+joined [] = []
+joined (text ∷ texts) = text ++ joined texts
+
+-- what is said of a crash
+abbrev pub crash_text : Bool → List ℕ
+crash_text true = codes "crashed\n"
+crash_text false = []
+
+-- what distinguishes what an order came to: what its calls were answered, whether it ends with a crash, what was
+-- reported after it, and what is wrong
+abbrev pub key_text : Finding → List ℕ
+key_text found = ((joined (texts_of found.answers.items) ++ crash_text found.crashed) ++ found.tail.items) ++ wrong_texts found.flaws.items
+
+-- what is wrong with an outcome: what the judge finds, where the script that is written is answered as the order was;
+-- else also that it is not
+abbrev pub AreFlaws : Finding → List ℕ → List Flaw → Type 0
+AreFlaws found answers flaws =
+    ((flaws ≡ found.flaws.items) × Answers answers (texts_of found.answers.items) found.tail.items)
+    ⊎ (flaws ≡ found.flaws.items ++ flaw.AnsweredOtherwise ∷ [])
 
 -- the line at the head of an outcome: its number, and how many orders lead to it
 abbrev pub heading_text : ℕ → ℕ → List ℕ
@@ -46,31 +76,36 @@ abbrev pub outcome_text : ℕ → ℕ → List ℕ → List ℕ → List ℕ →
 outcome_text number orders wrong script answers = heading_text number orders ++ (wrong ++ (script ++ (codes "answers\n" ++ (answers ++ codes "\n"))))
 
 -- an outcome with this number and these orders, of a script that ends: its text, and whether something is wrong with it
-pub record IsBlock (number orders : ℕ) (script : List ℕ) (flawed : Bool) (text : List ℕ) : Type 0 where
-  pub wrong : List ℕ
-  pub wrongs : IsWrong flawed wrong
+pub record IsBlock (number orders : ℕ) (script : List ℕ) (found : Finding) (flawed : Bool) (text : List ℕ) : Type 0 where
   pub answers : List ℕ
   pub finishes : Finishes true script answers
-  pub is : text ≡ outcome_text number orders wrong script answers
+  pub flaws : List Flaw
+  pub are : AreFlaws found answers flaws
+  pub flawed_is : flawed ≡ is_wrong flaws
+  pub is : text ≡ outcome_text number orders (wrong_texts flaws) script answers
 
--- the outcome with this number, to which n orders lead: a script that goes on after the one that was given, and
--- ends; what is written is that script, and what it is answered
-pub record IsOutcome (script : List ℕ) (number orders : ℕ) (flawed : Bool) (text : List ℕ) : Type 0 where
+-- the outcome with this number, to which n orders lead: what one of them came to, by the judge; and a script that goes on
+-- after the one that was given, and ends. What is written is what is wrong, that script, and what it is answered
+pub record IsOutcome (script : List ℕ) (judge : Judge) (number orders : ℕ) (flawed : Bool) (key text : List ℕ) : Type 0 where
+  pub found : Finding
+  pub judged : IsFound judge found
+  pub key_is : key ≡ key_text found
   pub shape : Shape
   pub longer : List ℕ
   pub goes_on : GoesOn shape script longer
-  pub block : IsBlock number orders longer flawed text
+  pub block : IsBlock number orders longer found flawed text
 
 -- the orders of all, one outcome more; they are not counted beyond 2^128 - 1
 abbrev pub orders_joined : ℕ → ℕ → ℕ
 orders_joined orders more = min (orders + more) (2 ^ 128 - 1)
 
--- n outcomes, one after the other, from number 1; how many orders lead to them, and whether something is wrong
--- with one
-pub data AreOutcomes (script : List ℕ) : ℕ → ℕ → Bool → List ℕ → Type 0 where
-  one_outcome : (orders : ℕ) (flawed : Bool) (text : List ℕ) → IsOutcome script 1 orders flawed text → AreOutcomes script 1 orders flawed text
-  one_outcome_more : (count orders more : ℕ) (wrong flawed : Bool) (out text : List ℕ) → AreOutcomes script count orders wrong out → IsOutcome script (suc count) more flawed text
-      → AreOutcomes script (suc count) (orders_joined orders more) (wrong || flawed) (out ++ text)
+-- n outcomes, one after the other, from number 1; how many orders lead to them, whether something is wrong with one, and
+-- what distinguishes each from the others
+pub data AreOutcomes (script : List ℕ) (judge : Judge) : ℕ → ℕ → Bool → List (List ℕ) → List ℕ → Type 0 where
+  one_outcome : (orders : ℕ) (flawed : Bool) (key text : List ℕ) → IsOutcome script judge 1 orders flawed key text → AreOutcomes script judge 1 orders flawed (key ∷ []) text
+  one_outcome_more : (count orders more : ℕ) (wrong flawed : Bool) (keys : List (List ℕ)) (key out text : List ℕ) → AreOutcomes script judge count orders wrong keys out
+      → IsOutcome script judge (suc count) more flawed key text → All (λ other. other ≡ key → ⊥) keys
+      → AreOutcomes script judge (suc count) (orders_joined orders more) (wrong || flawed) (keys ++ key ∷ []) (out ++ text)
 
 -- ---- all that is written
 
@@ -83,16 +118,18 @@ abbrev pub endless_text : Bool → List ℕ
 endless_text true = codes "wrong: an order comes to a state again\n\n"
 endless_text false = codes "\n"
 
--- the figures, and at least one outcome after them; whether something is wrong. There are as many orders as lead to
--- the outcomes
+-- the figures, and at least one outcome after them, no two the same; whether something is wrong. There are as many orders
+-- as lead to the outcomes
 pub record WritesAll (script : List ℕ) (wrong : Bool) (out : List ℕ) : Type 0 where
   pub states : ℕ
   pub orders : ℕ
   pub endless : Bool
   pub flawed : Bool
   pub more : ℕ
+  pub judge : Judge
+  pub keys : List (List ℕ)
   pub text : List ℕ
-  pub outcomes : AreOutcomes script (suc more) orders flawed text
+  pub outcomes : AreOutcomes script judge (suc more) orders flawed keys text
   pub is_wrong : wrong ≡ (endless || flawed)
   pub is : out ≡ (figures_text states orders ++ endless_text endless) ++ text
 

@@ -1,12 +1,13 @@
 //! All orders of the steps of calls, and what they come to.
 
-ghost use Rattle.std.specs.Prelude.{◌≡◌, ◌≢◌, ◌++◌, ◌∷◌, ◌||◌, ◌<◌, ◌^◌, ◌-◌, ◌⊎◌, Bool, true, ℕ, suc, List, [], IfOk, IfErr, length, string_bytes};
+ghost use Rattle.std.specs.Prelude.{◌≡◌, ◌≢◌, ◌++◌, ◌∷◌, ◌||◌, ◌<◌, ◌^◌, ◌-◌, ◌⊎◌, Bool, true, ℕ, suc, List, [], All, IfOk, IfErr, IsTrue, length};
 ghost use Rattle.std.specs.Io.KnownBytes.{Appends};
 ghost use Rattle.ds_script_io.specs.Streams.{writer_of, is_flushed, write_failed};
-ghost use Rattle.ds_explore.specs.Explored.{wrong_text, IsWrong, IsBlock, IsOutcome, AreOutcomes, WritesAll, Explores, heading_text, figures_text, endless_text, end_of, end_short};
+ghost use Rattle.ds_explore.specs.Explored.{AreFlaws, IsBlock, IsOutcome, AreOutcomes, WritesAll, Explores, heading_text, figures_text, endless_text, end_of, end_short, is_wrong};
+ghost use Rattle.ds_explore.specs.Judging.{texts_of};
 
 use crate::answers::{answers_to, continued};
-use crate::flaw::Flaw;
+use crate::flaw::{Flaw, wrong_lines};
 use crate::graph::{Way, path};
 use crate::options::{Options, Watcher};
 use crate::orders::{Orders, count_orders};
@@ -37,7 +38,7 @@ pub enum ExploreEnd {
     TooLong,
     /// The writer failed.
     WriteFailed,
-    /// An allocation failed, or a script that was found would be too long. Nothing is written.
+    /// An allocation failed, a script that was found would be too long, or two outcomes are the same. Nothing is written.
     NoMemory,
 }
 
@@ -78,6 +79,16 @@ struct Found {
 #[derive(Drop)]
 struct Block {
     text: Vec<u8>,
+    flawed: bool,
+}
+
+// The text of an outcome, what distinguishes it from the others, how many orders lead to it, at most 2^128 - 1, and
+// whether something is wrong with it.
+#[derive(Drop)]
+struct OutcomeBlock {
+    key: Vec<u8>,
+    text: Vec<u8>,
+    orders: u128,
     flawed: bool,
 }
 
@@ -127,27 +138,6 @@ fn find<T: Watcher>(alloc: Global, start: &Start, watcher: &mut T) -> Result<Fou
     })
 }
 
-// The line for what is wrong.
-fn wrong_line(alloc: Global, flaw: Flaw) -> Result<Vec<u8>, AllocError>
-    ensures { IfOk result (λ line. line.items ≡ wrong_text flaw) }
-{
-    Ok(format!(in alloc; "wrong: {flaw}\n")?.into_bytes())
-}
-
-// The lines for what is wrong.
-fn wrong_lines(alloc: Global, flaws: &[Flaw]) -> Result<Block, AllocError>
-    ensures { IfOk result (λ block. IsWrong block.flawed block.text.items) }
-{
-    let mut text = Vec::new(alloc);
-    let mut flawed = false;
-    for flaw in flaws {
-        let line = wrong_line(alloc, *flaw)?;
-        text.extend_from_slice(&line)?;
-        flawed = true;
-    }
-    Ok(Block { text, flawed })
-}
-
 // The line at the head of an outcome.
 fn heading(alloc: Global, number: u128, orders: u128) -> Result<Vec<u8>, AllocError>
     ensures { IfOk result (λ text. text.items ≡ heading_text number orders) }
@@ -155,13 +145,23 @@ fn heading(alloc: Global, number: u128, orders: u128) -> Result<Vec<u8>, AllocEr
     Ok(format!(in alloc; "outcome {number}: orders {orders}\n")?.into_bytes())
 }
 
-// The flaws of an outcome, and that its script is answered otherwise, where it is.
-fn all_flaws(outcome: &Finding, answers: &[u8]) -> Result<Vec<Flaw>, AllocError> {
+// What is wrong with an outcome whose script has these answers.
+fn all_flaws(outcome: &Finding, answers: &[u8]) -> Result<Vec<Flaw>, AllocError>
+    ensures { IfOk result (λ flaws. AreFlaws outcome.now answers.now flaws.items) }
+{
     let mut flaws = outcome.flaws.clone()?;
-    if !outcome.is_in(answers) {
-        flaws.push(Flaw::AnsweredOtherwise)?;
+    if outcome.is_in(answers) {
+        return Ok(flaws);
     }
+    flaws.push(Flaw::AnsweredOtherwise)?;
     Ok(flaws)
+}
+
+// Whether there is a flaw.
+fn is_wrong(flaws: &[Flaw]) -> bool
+    ensures { result ≡ is_wrong flaws.now }
+{
+    !flaws.is_empty()
 }
 
 // The text of an outcome with this number, of this script.
@@ -172,66 +172,87 @@ fn script_block(
     outcome: &Finding,
     script: &[u8],
 ) -> Result<Block, AllocError>
-    ensures { IfOk result (λ block. IsBlock number orders script.now block.flawed block.text.items) }
+    ensures { IfOk result (λ block. IsBlock number orders script.now outcome.now block.flawed block.text.items) }
 {
     let answers = answers_to(alloc, script)?;
     let flaws = all_flaws(outcome, &answers)?;
     let wrong = wrong_lines(alloc, &flaws)?;
     let mut text = heading(alloc, number, orders)?;
-    text.extend_from_slice(&wrong.text)?;
+    text.extend_from_slice(&wrong)?;
     text.extend_from_slice(script)?;
     text.extend_from_slice(b"answers\n")?;
     text.extend_from_slice(&answers)?;
     text.push(b'\n')?;
     Ok(Block {
         text,
-        flawed: wrong.flawed,
+        flawed: is_wrong(&flaws),
     })
 }
 
-// The outcome with this number, from 0.
+// The outcome with this number, from 0: what a shortest order comes to, which is carried out again.
 fn outcome_block(
     alloc: Global,
     script: &[u8],
     start: &Start,
     found: &Found,
-    outcome: &Finding,
+    crashed: bool,
     at: usize,
-) -> Result<Written, AllocError>
-    ensures { IfOk result (λ made. IsOutcome script.now (suc at) made.orders made.flawed made.text.items) }
+) -> Result<OutcomeBlock, AllocError>
+    ensures { IfOk result (λ made. IsOutcome script.now start.now.judge (suc at) made.orders made.flawed made.key.items made.text.items) }
 {
     let orders = found.orders_of(at).count;
     let path = found.path(alloc, at)?;
-    let lines = lines_of(alloc, start, &path, outcome.crashed)?;
+    let lines = lines_of(alloc, start, &path, crashed)?;
     let longer = continued(alloc, script, start.shape(), &lines)?;
+    let outcome = start.found_by(alloc, &path, crashed)?;
+    let key = outcome.key(alloc)?;
     let number = at as u128 + 1;
-    let block = script_block(alloc, number, orders, outcome, &longer)?;
-    Ok(Written {
+    let block = script_block(alloc, number, orders, &outcome, &longer)?;
+    Ok(OutcomeBlock {
+        key,
         text: block.text,
         orders,
         flawed: block.flawed,
     })
 }
 
-// All outcomes.
+// Whether an outcome is none of those before, by what distinguishes them.
+fn is_new(keys: &[Vec<u8>], key: &[u8]) -> bool
+    ensures { IsTrue result → All (λ other. other ≡ key.now → ⊥) (texts_of keys.now) }
+{
+    for other in keys {
+        if other.as_slice() == key {
+            return false;
+        }
+    }
+    true
+}
+
+// All outcomes. An error is also that two of them are the same.
 fn all_outcomes(
     alloc: Global,
     script: &[u8],
     start: &Start,
     found: &Found,
 ) -> Result<Written, AllocError>
-    ensures { IfOk result (λ made. (more : ℕ) × AreOutcomes script.now (suc more) made.orders made.flawed made.text.items) }
+    ensures { IfOk result (λ made. (more : ℕ) × ((keys : List (List ℕ)) × AreOutcomes script.now start.now.judge (suc more) made.orders made.flawed keys made.text.items)) }
 {
     let outcomes = &found.search.outcomes;
-    let first = outcome_block(alloc, script, start, found, &outcomes.first, 0)?;
+    let first = outcome_block(alloc, script, start, found, outcomes.first.crashed, 0)?;
+    let mut keys = vec![in alloc; first.key]?;
     let mut text = first.text;
     let mut orders = first.orders;
     let mut flawed = first.flawed;
     for i in 0..outcomes.rest.len() {
-        let made = outcome_block(alloc, script, start, found, &outcomes.rest[i], i + 1)?;
+        let crashed = outcomes.rest[i].crashed;
+        let made = outcome_block(alloc, script, start, found, crashed, i + 1)?;
+        if !is_new(&keys, &made.key) {
+            return Err(AllocError);
+        }
         text.extend_from_slice(&made.text)?;
         orders = orders.saturating_add(made.orders);
         flawed |= made.flawed;
+        keys.push(made.key)?;
     }
     Ok(Written {
         text,

@@ -1,5 +1,10 @@
 //! What is wrong with an outcome.
 
+ghost use Rattle.std.specs.Prelude.{◌≡◌, ◌++◌, IfOk, OnOk};
+ghost use Rattle.ds_explore.specs.Explored.{wrong_text, wrong_texts};
+ghost use Rattle.ds_explore.specs.Judging.{listed};
+
+use std::alloc::{AllocError, Global};
 use std::fmt;
 
 /// What is wrong with an outcome: what no sheet answers that does what `HOW-IT-WORKS` says.
@@ -61,4 +66,36 @@ impl fmt::Display for Flaw {
             ),
         }
     }
+}
+
+// Appends a flaw to the others, if there is one.
+pub(crate) fn add(flaws: &mut Vec<Flaw>, flaw: Option<Flaw>) -> Result<(), AllocError>
+    ensures { OnOk result (flaws.new.items ≡ flaws.old.items ++ listed flaw) }
+{
+    match flaw {
+        Some(flaw) => {
+            flaws.push(flaw)?;
+            Ok(())
+        }
+        None => Ok(()),
+    }
+}
+
+// The line for what is wrong.
+fn wrong_line(alloc: Global, flaw: Flaw) -> Result<Vec<u8>, AllocError>
+    ensures { IfOk result (λ line. line.items ≡ wrong_text flaw) }
+{
+    Ok(format!(in alloc; "wrong: {flaw}\n")?.into_bytes())
+}
+
+/// The lines for what is wrong. An error means that an allocation failed.
+pub(crate) fn wrong_lines(alloc: Global, flaws: &[Flaw]) -> Result<Vec<u8>, AllocError>
+    ensures { IfOk result (λ text. text.items ≡ wrong_texts flaws.now) }
+{
+    let mut text = Vec::new(alloc);
+    for flaw in flaws {
+        let line = wrong_line(alloc, *flaw)?;
+        text.extend_from_slice(&line)?;
+    }
+    Ok(text)
 }

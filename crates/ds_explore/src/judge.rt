@@ -1,14 +1,17 @@
 //! Whether an outcome is one that may be.
 
+ghost use Rattle.std.specs.Prelude.{◌≡◌, ◌++◌, All, List, IfOk, IfSome, OnOk, length, option_copied};
+ghost use Rattle.ds_explore.specs.Judging.{Adds, IsJudged, IsOfText, IsOfValue, answer_at, edit_at, flaws_below, is_contradicted, is_done, is_overtaken_by_none, is_refused, is_told_done, is_told_otherwise, is_told_twice, is_undone, process_flaw, report_flaws, same_bool, same_end, settle_flaw, told_at};
+ghost use Rattle.ds_explore.specs.declared.flaw.Flaw.{Flaw};
+
 use crate::ends::{OutcomeEnding, values};
-use crate::flaw::Flaw;
+use crate::flaw::{Flaw, add};
 use ds_calls::settle::SettleEnd;
 use ds_core::event::Event;
 use ds_core::take::take;
 use ds_eval::scratch::scratch;
 use ds_eval::sheet::Sheet;
 use ds_eval::value::Value;
-use ds_explore_state::position::Position;
 use ds_formula::content::Content;
 use ds_formula::reading::read_content;
 use ds_state::answer::{Answer, EditEnd};
@@ -77,28 +80,43 @@ fn all_asked(alloc: Global, world: &World) -> Result<Vec<Option<Asked>>, AllocEr
 }
 
 // Whether a recovery has reported that this edit of its process is done: of another edit, or of none, that it is not.
-fn is_told_done(asked: &Asked, told: LastEdit) -> bool {
+fn is_told_done(asked: &Asked, told: LastEdit) -> bool
+    ensures { result ≡ is_told_done asked.now told }
+{
     told.number == asked.number && told.cell == asked.cell && told.counts
 }
 
-// What the recovery of a process reported.
-fn told_of(ending: &OutcomeEnding, process: usize) -> Option<LastEdit> {
-    match ending.told.get(process) {
-        Some(Ok(RecoveryEnd::Last(told))) => Some(*told),
-        _ => None,
+// What the recovery of a process came to after the order.
+fn told_at(ending: &OutcomeEnding, process: usize) -> Option<Result<RecoveryEnd, Refusal>>
+    ensures { result ≡ told_at ending.now process }
+{
+    ending.told.get(process).copied()
+}
+
+// What the call of a process was answered.
+fn answer_at(ending: &OutcomeEnding, process: usize) -> Option<Answer>
+    ensures { result ≡ answer_at ending.now process }
+{
+    match ending.answers.get(process) {
+        Some(answer) => *answer,
+        None => None,
     }
 }
 
-// Whether the edit of a process is done, by what its recovery has reported after the order.
-fn is_done(asked: &Asked, ending: &OutcomeEnding, process: usize) -> bool {
-    match told_of(ending, process) {
-        Some(told) => is_told_done(asked, told),
-        None => false,
+// Whether an edit is done, by what the recovery of its process came to.
+fn is_done(asked: &Asked, told: Option<Result<RecoveryEnd, Refusal>>) -> bool
+    ensures { result ≡ is_done asked.now told }
+{
+    match told {
+        Some(Ok(RecoveryEnd::Last(told))) => is_told_done(asked, told),
+        _ => false,
     }
 }
 
-// What is wrong with the answer to an edit.
-fn edit_flaw(done: bool, answer: Option<Answer>) -> bool {
+// Whether the answer to an edit says otherwise than this, whether it is done.
+fn is_contradicted(done: bool, answer: Option<Answer>) -> bool
+    ensures { result ≡ is_contradicted done answer }
+{
     match answer {
         Some(Answer::Edit(EditEnd::Done(_))) => !done,
         Some(Answer::Edit(EditEnd::Overtaken(_, _))) => done,
@@ -106,12 +124,81 @@ fn edit_flaw(done: bool, answer: Option<Answer>) -> bool {
     }
 }
 
-// What is wrong with the answer to a recovery.
-fn recovery_flaw(answer: Option<Answer>, again: Option<&Result<RecoveryEnd, Refusal>>) -> bool {
+// Whether two recoveries reported the same.
+fn same_end(one: RecoveryEnd, other: RecoveryEnd) -> bool
+    ensures { result ≡ same_end one other }
+{
+    match (one, other) {
+        (RecoveryEnd::Nothing, RecoveryEnd::Nothing) => true,
+        (RecoveryEnd::Last(a), RecoveryEnd::Last(b)) => {
+            a.number == b.number && a.cell == b.cell && same_bool(a.counts, b.counts)
+        }
+        _ => false,
+    }
+}
+
+fn same_bool(one: bool, other: bool) -> bool
+    ensures { result ≡ same_bool one other }
+{
+    if one { other } else { !other }
+}
+
+// Whether a call was a recovery, and the next one tells otherwise.
+fn is_told_twice(answer: Option<Answer>, again: Option<Result<RecoveryEnd, Refusal>>) -> bool
+    ensures { result ≡ is_told_twice answer again }
+{
     match (answer, again) {
-        (Some(Answer::Recovery(end)), Some(Ok(again))) => end != *again,
+        (Some(Answer::Recovery(end)), Some(Ok(again))) => !same_end(end, again),
         (Some(Answer::Recovery(_)), _) => true,
         _ => false,
+    }
+}
+
+// Whether a recovery is refused.
+fn is_refused(told: Option<Result<RecoveryEnd, Refusal>>) -> bool
+    ensures { result ≡ is_refused told }
+{
+    match told {
+        Some(Err(_)) => true,
+        _ => false,
+    }
+}
+
+// Whether this is the edit that was asked of its process, and it is not done.
+fn is_undone(
+    asked: Option<&Asked>,
+    number: usize,
+    told: Option<Result<RecoveryEnd, Refusal>>,
+) -> bool
+    ensures { result ≡ is_undone (option_copied asked.entry) number told }
+{
+    match asked {
+        Some(asked) => asked.number == number && !is_done(asked, told),
+        None => false,
+    }
+}
+
+// Whether an edit that was asked for is reported otherwise than it was answered.
+fn is_told_otherwise(
+    asked: Option<&Asked>,
+    told: Option<Result<RecoveryEnd, Refusal>>,
+    answer: Option<Answer>,
+) -> bool
+    ensures { result ≡ is_told_otherwise (option_copied asked.entry) told answer }
+{
+    match asked {
+        Some(asked) => is_contradicted(is_done(asked, told), answer),
+        None => false,
+    }
+}
+
+// What is wrong with how a settle ended.
+fn settle_flaw(left: SettleEnd) -> Option<Flaw>
+    ensures { result ≡ settle_flaw left }
+{
+    match left {
+        SettleEnd::Left(0) => None,
+        _ => Some(Flaw::NotClean),
     }
 }
 
@@ -129,49 +216,62 @@ impl Judge {
     }
 
     // The edit of a process that is asked for.
-    fn edit(&self, process: usize) -> Option<&Asked> {
+    fn edit(&self, process: usize) -> Option<&Asked>
+        ensures { option_copied result ≡ edit_at self.now process }
+    {
         match self.asked.get(process) {
             Some(Some(asked)) => Some(asked),
             _ => None,
         }
     }
 
-    // Whether another edit, by which one was overtaken, is not done. A crash may have taken that one back.
-    fn is_none(&self, ending: &OutcomeEnding, process: usize, number: usize) -> bool {
-        match self.edit(process) {
-            Some(asked) if asked.number == number => !is_done(asked, ending, process),
+    // Whether a call was overtaken by an edit that is not done. A crash may have taken that one back.
+    fn is_overtaken_by_none(&self, ending: &OutcomeEnding, answer: Option<Answer>) -> bool
+        ensures { result ≡ is_overtaken_by_none self.now ending.now answer }
+    {
+        match answer {
+            Some(Answer::Edit(EditEnd::Overtaken(_, by))) => {
+                !ending.crashed
+                    && is_undone(
+                        self.edit(by.process),
+                        by.number,
+                        told_at(ending, by.process),
+                    )
+            }
             _ => false,
         }
     }
 
-    // What is wrong with the answers and the reports that a process got.
-    fn process_flaw(
-        &self,
-        position: &Position,
-        ending: &OutcomeEnding,
-        process: usize,
-    ) -> Option<Flaw> {
-        let answer = match position.seats.get(process) {
-            Some(seat) => seat.answer,
-            None => None,
-        };
-        if let Some(Err(_)) = ending.told.get(process) {
+    // What is wrong with the answer and the report that a process got.
+    fn process_flaw(&self, ending: &OutcomeEnding, process: usize) -> Option<Flaw>
+        ensures { result ≡ process_flaw self.now ending.now process }
+    {
+        let told = told_at(ending, process);
+        let answer = answer_at(ending, process);
+        if is_refused(told) {
             return Some(Flaw::Refused(process));
         }
-        if recovery_flaw(answer, ending.told.get(process)) {
+        if is_told_twice(answer, told) {
             return Some(Flaw::ToldTwice(process));
         }
-        if let Some(Answer::Edit(EditEnd::Overtaken(_, by))) = answer {
-            if !ending.crashed && self.is_none(ending, by.process, by.number) {
-                return Some(Flaw::OvertakenByNone(process));
-            }
+        if self.is_overtaken_by_none(ending, answer) {
+            return Some(Flaw::OvertakenByNone(process));
         }
-        match self.edit(process) {
-            Some(asked) if edit_flaw(is_done(asked, ending, process), answer) => {
-                Some(Flaw::ToldOtherwise(process))
-            }
-            _ => None,
+        if is_told_otherwise(self.edit(process), told, answer) {
+            return Some(Flaw::ToldOtherwise(process));
         }
+        None
+    }
+
+    // What is wrong with the answers and the reports that processes got.
+    fn process_flaws(&self, alloc: Global, ending: &OutcomeEnding) -> Result<Vec<Flaw>, AllocError>
+        ensures { IfOk result (λ flaws. flaws.items ≡ flaws_below (process_flaw self.now ending.now) (length ending.now.answers.items)) }
+    {
+        let mut flaws = Vec::new(alloc);
+        for process in 0..ending.answers.len() {
+            add(&mut flaws, self.process_flaw(ending, process))?;
+        }
+        Ok(flaws)
     }
 
     // How many edits of a cell are done, and whether one of them has this text.
@@ -180,7 +280,7 @@ impl Judge {
         let mut is_among = false;
         for (process, asked) in self.asked.iter().enumerate() {
             if let Some(asked) = asked {
-                if asked.cell == cell && is_done(asked, ending, process) {
+                if asked.cell == cell && is_done(asked, told_at(ending, process)) {
                     count = count.saturating_add(1);
                     is_among = is_among || asked.text.as_slice() == text;
                 }
@@ -204,44 +304,46 @@ impl Judge {
         }
     }
 
-    // What is wrong with a text.
+    // What is wrong with the text of a cell.
+    fn text_flaw(&self, ending: &OutcomeEnding, texts: &[Vec<u8>], cell: usize) -> Option<Flaw>
+        ensures { IfSome result IsOfText }
+    {
+        match texts.get(cell) {
+            Some(text) if !self.may_hold(ending, cell, text) => Some(Flaw::TextOfNone(cell)),
+            _ => None,
+        }
+    }
+
+    // What is wrong with the texts.
     fn text_flaws(
         &self,
         ending: &OutcomeEnding,
         texts: &[Vec<u8>],
         flaws: &mut Vec<Flaw>,
-    ) -> Result<(), AllocError> {
-        for (cell, text) in texts.iter().enumerate() {
-            if !self.may_hold(ending, cell, text) {
-                flaws.push(Flaw::TextOfNone(cell))?;
-            }
+    ) -> Result<(), AllocError>
+        ensures { OnOk result (Adds IsOfText flaws.old.items flaws.new.items) }
+    {
+        for cell in 0..texts.len() {
+            add(flaws, self.text_flaw(ending, texts, cell))?;
         }
         Ok(())
     }
 
-    /// What is wrong with an order that left the calls so, after which this was answered.
+    /// What is wrong with an order that left the calls so, and this world, after which this was answered. An error means
+    /// that an allocation failed.
     pub(crate) fn flaws(
         &self,
         alloc: Global,
-        position: &Position,
+        world: &World,
         ending: &OutcomeEnding,
-    ) -> Result<Vec<Flaw>, AllocError> {
-        let mut flaws = Vec::new(alloc);
-        for process in 0..position.seats.len() {
-            if let Some(flaw) = self.process_flaw(position, ending, process) {
-                flaws.push(flaw)?;
-            }
-        }
-        let texts = texts(alloc, &position.world)?;
+    ) -> Result<Vec<Flaw>, AllocError>
+        ensures { IfOk result (λ flaws. IsJudged self.now ending.now flaws.items) }
+    {
+        let mut flaws = self.process_flaws(alloc, ending)?;
+        let texts = texts(alloc, world)?;
         self.text_flaws(ending, &texts, &mut flaws)?;
-        if ending.left != SettleEnd::Left(0) {
-            flaws.push(Flaw::NotClean)?;
-        }
-        if ending.reported != Ok(ShowEnd::Settled) {
-            flaws.push(Flaw::NotSettled)?;
-            return Ok(flaws);
-        }
-        value_flaws(alloc, &position.world, &texts, &mut flaws)?;
+        add(&mut flaws, settle_flaw(ending.left))?;
+        all_report_flaws(alloc, world, &texts, ending.reported, &mut flaws)?;
         Ok(flaws)
     }
 }
@@ -270,19 +372,46 @@ fn evaluated(alloc: Global, world: &World, texts: &[Vec<u8>]) -> Result<Vec<Valu
     scratch(alloc, &sheet)
 }
 
+// What is wrong with the value of a cell that is reported.
+fn value_flaw(expected: &[Value], reported: &[Value], cell: usize) -> Option<Flaw>
+    ensures { IfSome result IsOfValue }
+{
+    if reported.get(cell) == expected.get(cell) {
+        None
+    } else {
+        Some(Flaw::ValueOfNone(cell))
+    }
+}
+
 // What is wrong with the values that are reported.
 fn value_flaws(
     alloc: Global,
     world: &World,
     texts: &[Vec<u8>],
     flaws: &mut Vec<Flaw>,
-) -> Result<(), AllocError> {
+) -> Result<(), AllocError>
+    ensures { OnOk result (Adds IsOfValue flaws.old.items flaws.new.items) }
+{
     let expected = evaluated(alloc, world, texts)?;
     let reported = values(world);
-    for (cell, value) in expected.iter().enumerate() {
-        if reported.get(cell) != Some(value) {
-            flaws.push(Flaw::ValueOfNone(cell))?;
-        }
+    for cell in 0..expected.len() {
+        add(flaws, value_flaw(&expected, reported, cell))?;
     }
     Ok(())
+}
+
+// What is wrong with a report that ended so.
+fn all_report_flaws(
+    alloc: Global,
+    world: &World,
+    texts: &[Vec<u8>],
+    reported: Result<ShowEnd, Refusal>,
+    flaws: &mut Vec<Flaw>,
+) -> Result<(), AllocError>
+    ensures { OnOk result ((values : List Flaw) × All IsOfValue values × (flaws.new.items ≡ flaws.old.items ++ report_flaws reported values)) }
+{
+    match reported {
+        Ok(ShowEnd::Settled) => value_flaws(alloc, world, texts, flaws),
+        _ => add(flaws, Some(Flaw::NotSettled)),
+    }
 }

@@ -1,6 +1,10 @@
 //! What orders come to.
 
-use crate::flaw::Flaw;
+ghost use Rattle.std.specs.Prelude.{◌≡◌, ◌++◌, All, IfOk, IsTrue};
+ghost use Rattle.ds_explore.specs.Explored.{crash_text, joined, key_text};
+ghost use Rattle.ds_explore.specs.Judging.{Answers, IsPart, texts_of};
+
+use crate::flaw::{Flaw, wrong_lines};
 use std::alloc::{AllocError, Global};
 use std::collections::HashMap;
 
@@ -18,38 +22,65 @@ pub(crate) struct Finding {
 }
 
 // Whether the text has this part.
-fn contains(text: &[u8], part: &[u8]) -> bool {
-    if part.is_empty() {
-        return true;
+fn contains(text: &[u8], part: &[u8]) -> bool
+    ensures { IsTrue result → IsPart text.now part.now }
+{
+    for at in 0..text.len() {
+        if text[at..].starts_with(part) {
+            return true;
+        }
     }
-    text.windows(part.len()).any(|window| window == part)
+    text.starts_with(part)
+}
+
+// Whether the text has each of these parts.
+fn contains_all(text: &[u8], parts: &[Vec<u8>]) -> bool
+    ensures { IsTrue result → All (IsPart text.now) (texts_of parts.now) }
+{
+    for part in parts {
+        if !contains(text, part) {
+            return false;
+        }
+    }
+    true
+}
+
+// Texts, one after the other.
+fn joined(alloc: Global, texts: &[Vec<u8>]) -> Result<Vec<u8>, AllocError>
+    ensures { IfOk result (λ text. text.items ≡ joined (texts_of texts.now)) }
+{
+    let mut text = Vec::new(alloc);
+    for more in texts {
+        text.extend_from_slice(more)?;
+    }
+    Ok(text)
+}
+
+// What is said of a crash.
+fn crash_text(crashed: bool) -> &'static str
+    ensures { result.now ≡ crash_text crashed }
+{
+    if crashed { "crashed\n" } else { "" }
 }
 
 impl Finding {
     /// Whether a script that has these answers came to this: its calls are answered so, and after the order this is
     /// reported, and nothing else.
-    pub(crate) fn is_in(&self, answers: &[u8]) -> bool {
-        for answer in &self.answers {
-            if !contains(answers, answer) {
-                return false;
-            }
-        }
-        answers.ends_with(&self.tail)
+    pub(crate) fn is_in(&self, answers: &[u8]) -> bool
+        ensures { IsTrue result → Answers answers.now (texts_of self.now.answers.items) self.now.tail.items }
+    {
+        contains_all(answers, &self.answers) && answers.ends_with(&self.tail)
     }
 
-    // What distinguishes it from all others.
-    fn key(&self, alloc: Global) -> Result<Vec<u8>, AllocError> {
-        let mut key = Vec::new(alloc);
-        for answer in &self.answers {
-            key.extend_from_slice(answer)?;
-        }
-        if self.crashed {
-            key.extend_from_slice(b"crashed\n")?;
-        }
+    /// What distinguishes it from all others. An error means that an allocation failed.
+    pub(crate) fn key(&self, alloc: Global) -> Result<Vec<u8>, AllocError>
+        ensures { IfOk result (λ key. key.items ≡ key_text self.now) }
+    {
+        let wrong = wrong_lines(alloc, &self.flaws)?;
+        let mut key = joined(alloc, &self.answers)?;
+        key.extend_from_slice(crash_text(self.crashed).as_bytes())?;
         key.extend_from_slice(&self.tail)?;
-        for flaw in &self.flaws {
-            key.extend_from_slice(format!(in alloc; "{flaw}\n")?.as_bytes())?;
-        }
+        key.extend_from_slice(&wrong)?;
         Ok(key)
     }
 }

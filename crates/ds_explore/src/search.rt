@@ -1,9 +1,10 @@
 //! Goes through all orders.
 
-ghost use Rattle.std.specs.Prelude.{◌≡◌, ◌-◌, ◌^◌, true, IfErr};
+ghost use Rattle.std.specs.Prelude.{◌≡◌, ◌-◌, ◌^◌, true, IfErr, IfOk};
 ghost use Rattle.ds_script_stops.specs.Reaching.{FallsShort};
+ghost use Rattle.ds_explore.specs.Judging.{IsFound};
 
-use crate::ends::end;
+use crate::ends::{Said, end, what_was_said};
 use crate::graph::{Edge, Node};
 use crate::judge::Judge;
 use crate::options::{Options, Watcher};
@@ -25,7 +26,7 @@ pub(crate) struct Start {
     options: Options,
     first: Position,
     touched: Touched,
-    judge: Judge,
+    pub(crate) judge: Judge,
     /// What may happen, by its number.
     pub(crate) moves: Vec<Move>,
 }
@@ -276,15 +277,37 @@ impl Start {
         alloc: Global,
         position: &mut Position,
         crashed: bool,
-    ) -> Result<Finding, AllocError> {
-        let ending = end(alloc, &mut position.world, crashed)?;
-        let flaws = self.judge.flaws(alloc, position, &ending)?;
+    ) -> Result<Finding, AllocError>
+        ensures { IfOk result (IsFound self.now.judge) }
+    {
+        let Said { answers, texts } = what_was_said(alloc, position)?;
+        let (ending, tail) = end(alloc, &mut position.world, answers, crashed)?;
+        let flaws = self.judge.flaws(alloc, &position.world, &ending)?;
         Ok(Finding {
-            answers: position.answers(alloc)?,
-            tail: ending.text,
+            answers: texts,
+            tail,
             flaws,
             crashed,
         })
+    }
+
+    /// What an order of these events comes to, with a crash after it or not. An error means that an allocation failed.
+    pub(crate) fn found_by(
+        &self,
+        alloc: Global,
+        path: &[u32],
+        crashed: bool,
+    ) -> Result<Finding, AllocError>
+        ensures { IfOk result (IsFound self.now.judge) }
+    {
+        let mut position = self.position(alloc)?;
+        for by in path {
+            self.happen(alloc, &mut position, *by)?;
+        }
+        if crashed {
+            let _crashed = take(alloc, &mut position.world, &Event::Crash);
+        }
+        self.outcome(alloc, &mut position, crashed)
     }
 }
 

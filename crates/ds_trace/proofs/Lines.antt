@@ -1,5 +1,5 @@
 -- A script, line by line.
-use Rattle.std.proofs.Common.{ℕ, suc, ◌+◌, ◌≡◌, ◌∙◌, inl, inr, Bool, List, [], ◌∷◌, ◌++◌, map, Ok, Err, refl, sym, ap, subst}
+use Rattle.std.proofs.Common.{ℕ, suc, ◌+◌, ◌≡◌, ◌∙◌, inl, inr, Bool, List, [], ◌∷◌, ◌++◌, length, map, Ok, Err, refl, sym, ap, subst}
 use Rattle.std.specs.Prelude.{Option, Some, None, Result}
 use Rattle.ds_layout.specs.declared.place.Edition.TheVariants.{Second}
 use Rattle.ds_layout.specs.declared.place.Place.{Place}
@@ -21,9 +21,10 @@ use Rattle.ds_trace.specs.declared.record.Hindrance.{Hindrance}
 use Rattle.ds_trace.specs.declared.record.Hindrance.TheVariants as hindrances
 use Rattle.ds_trace.specs.declared.turn.NoTrace.TheVariants.{TooManyEvents, NoMemory}
 use Rattle.ds_trace.specs.declared.record.Untraced.TheVariants as untraced
-use Rattle.ds_trace.specs.Trails.{AreRows, ObeysBy}
-use Rattle.ds_trace.specs.Traces.{IsRecord, IsUntraced, PassesLine, StopsLine, why_not}
-use Rattle.ds_trace.proofs.Trails.{rows_on}
+use Rattle.ds_script.specs.Doing.{plan}
+use Rattle.ds_trace.specs.Trails.{AreRows, Hinders, ObeysBy, Overflows}
+use Rattle.ds_trace.specs.Traces.{IsRecord, IsTooLong, IsUntraced, PassesLine, StopsLine, why_not}
+use Rattle.ds_trace.proofs.Trails.{row_count, rows_on}
 
 -- the lines led here, and these are the rows of their run
 pub record Led (places : List Place) (whole : Bool) (script : List ℕ) (lines : ℕ) (first : Begun) (w : WorldValue) (rows : List TraceRow) (rest : List ℕ) : Type 0 where
@@ -128,8 +129,26 @@ module _ (places : List Place) (whole : Bool) (script : List ℕ) (lines : ℕ) 
       carries_still places whole script lines led.progress led.out rest line behind e.order now new rows rows' led.carried next (asked line (Ok (Some e.order)) e.asks) e.begun_is led.are
       (subst (λ (v : WorldValue). ObeysBy places v e.order new rows rows') (sym led.world_is) e.obeys) some
 
+  -- a line whose order is not carried out for want of room
+  no_room : (line behind : List ℕ) → next_of whole rest ≡ ALine line behind → (order : Order) → order_of first w line ≡ Ok (Some order) → Hinders w order rows TooManyEvents → IsTooLong whole script
+  no_room line behind next (Make begun columns rows' processes edition) asks h = absurd (let bad : TooManyEvents ≡ NoMemory = h in cc)
+  no_room line behind next (Does deed) asks h = record {
+    lines = lines;
+    progress = led.progress;
+    out = led.out;
+    rest = rest;
+    line = line;
+    behind = behind;
+    deed = deed;
+    carried = led.carried;
+    next = next;
+    asks = asked line (Ok (Some (Does deed))) asks;
+    overflows = subst (λ (n : ℕ). Overflows (plan led.progress.world deed) led.progress.world n) (row_count places led.progress.events led.progress.replies rows led.progress.start led.progress.world led.are)
+        (subst (λ (v : WorldValue). Overflows (plan v deed) v (length rows)) (sym led.world_is) h);
+  }
+
   -- a line that stops the script
-  pub line_stops : (line behind : List ℕ) → next_of whole rest ≡ ALine line behind → (stop : Hindrance) → StopsLine first w line stop → IsUntraced whole script (why_not (lines + 1) stop)
+  pub line_stops : (line behind : List ℕ) → next_of whole rest ≡ ALine line behind → (stop : Hindrance) → StopsLine first w line rows stop → IsUntraced whole script (why_not (lines + 1) stop)
   line_stops line behind next (hindrances.Fault kind) h = (
     led.out,
     record {
@@ -141,7 +160,7 @@ module _ (places : List Place) (whole : Bool) (script : List ℕ) (lines : ℕ) 
       fault = subst (λ (f : AtFront). FaultAt led.progress f kind) (sym next) (asked line (Err kind) h);
     },
   )
-  line_stops line behind next (hindrances.NoTrace TooManyEvents) h = tt
+  line_stops line behind next (hindrances.NoTrace TooManyEvents) h = no_room line behind next h.0 h.1 h.2
   line_stops line behind next (hindrances.NoTrace NoMemory) h = tt
 
   -- a line that is too long

@@ -1,12 +1,15 @@
 -- Rows, one after the other.
-use Rattle.std.proofs.Common.{ℕ, ◌≡◌, ◌<◌, ◌∙◌, ◌⊎◌, inl, inr, List, [], ◌∷◌, ◌++◌, length, refl, sym, ap, subst, append_assoc, Some, None, arith}
-use Rattle.std.specs.Prelude.{Option, Result, Ok, Err, OnOk}
+use Rattle.std.proofs.Common.{ℕ, suc, ◌≡◌, ◌<◌, ◌∙◌, ◌⊎◌, inl, inr, List, [], ◌∷◌, ◌++◌, length, refl, sym, ap, subst, append_assoc, Some, None, arith}
+use Rattle.std.specs.Prelude.{Option, Result, Ok, Err, OnOk, IfErr, IsErrAnd}
 use Rattle.std.proofs.lemmas.List.{append-nil, length-append}
 use Rattle.ds_layout.specs.declared.place.Place.{Place}
 use Rattle.ds_formula.specs.declared.cells.Cell.{Cell}
 use Rattle.ds_layout.specs.SheetMemory.{memory}
 use Rattle.ds_state.specs.Value.{WorldValue, world_of}
+use Rattle.ds_formula.specs.Cells.{cell_at}
 use Rattle.ds_core.specs.declared.event.Event.{Event}
+use Rattle.ds_core.specs.declared.event.Event.TheVariants.{BeginWork}
+use Rattle.ds_calls.specs.Wanted.{wants}
 use Rattle.ds_core.specs.declared.reply.Reply.{Reply}
 use Rattle.ds_script.specs.Doing.{Doing, Says, Once, asks, told}
 use Rattle.ds_script.specs.Plays.{Plays}
@@ -16,10 +19,13 @@ use Rattle.ds_script.specs.declared.order.Command.TheVariants as commands
 use Rattle.ds_script.specs.Orders.{command_view}
 use Rattle.ds_script.proofs.Played.{plays_on}
 use Rattle.ds_script_stops.specs.declared.turn.Left.{Left}
+use Rattle.ds_script_stops.specs.declared.turn.Left.TheVariants as left
 use Rattle.ds_script_stops.specs.ScriptTurns.{Remains, doing_of}
 use Rattle.ds_trace.specs.declared.row.TraceRow.{TraceRow}
-use Rattle.ds_trace.specs.Rows.{Happens, OneMore}
-use Rattle.ds_trace.specs.Trails.{AreRows, Trail, TakesTurn, ObeysBy}
+use Rattle.ds_trace.specs.declared.turn.NoTrace.{NoTrace}
+use Rattle.ds_trace.specs.declared.turn.NoTrace.TheVariants.{TooManyEvents, NoMemory}
+use Rattle.ds_trace.specs.Rows.{Happens, IsFull, OneMore}
+use Rattle.ds_trace.specs.Trails.{AreRows, BreaksOff, Trail, TakesTurn, ObeysBy}
 
 -- ---- rows
 
@@ -33,6 +39,15 @@ rows_on places [] [] (row ∷ rows) events' replies' rows' old mid new h k = abs
 rows_on places [] (reply ∷ replies) rows events' replies' rows' old mid new h k = absurd h
 rows_on places (event ∷ events) [] rows events' replies' rows' old mid new h k = absurd h
 rows_on places (event ∷ events) (reply ∷ replies) [] events' replies' rows' old mid new h k = absurd h
+
+-- there are as many rows as events
+pub row_count : (places : List Place) (events : List Event) (replies : List Reply) (rows : List TraceRow) (old new : WorldValue) → AreRows places old events replies rows new → length rows ≡ length events
+row_count places [] [] [] old new h = refl
+row_count places (event ∷ events) (reply ∷ replies) (row ∷ rows) old new h = ap (λ (n : ℕ). suc n) (row_count places events replies rows h.0 new h.3)
+row_count places [] [] (row ∷ rows) old new h = absurd h
+row_count places [] (reply ∷ replies) rows old new h = absurd h
+row_count places (event ∷ events) [] rows old new h = absurd h
+row_count places (event ∷ events) (reply ∷ replies) [] old new h = absurd h
 
 -- one row more
 pub longer : (P : TraceRow → Type 0) (before after : List TraceRow) → OneMore P before after → length before < length after
@@ -95,6 +110,66 @@ module _ (places : List Place) (doing : Doing) (l : Left) (next : Option Left) (
   is_over is =
       let end = subst (λ (o : Option Left). Remains o (told (doing_of l) turn.event turn.reply new)) is turn.remains in
       arrives places doing end.0 old new r t (way_to places doing (told (doing_of l) turn.event turn.reply new) (Says end.0) old new r t end.1 on)
+
+-- ---- for want of room
+
+-- a command that has come here by these rows breaks off where it wants an event more
+pub breaks_way : (places : List Place) (doing last : Doing) (old mid : WorldValue) (r s : List TraceRow) (event : Event) (why : NoTrace)
+    → OnTheWay places doing old last mid r s → asks last mid ≡ Some event → IsFull s why → BreaksOff doing old r why
+breaks_way places doing last old mid r s event NoMemory way asked full = tt
+breaks_way places doing last old mid r s event TooManyEvents way asked full =
+    let count = row_count places way.events way.replies way.rows old mid way.are in
+    let size : length s ≡ length (r ++ way.rows) = ap (λ (l : List TraceRow). length l) way.behind in
+    let sum = length-append r way.rows in
+    record {
+      events = way.events;
+      replies = way.replies;
+      last = last;
+      world = mid;
+      event = event;
+      plays = way.plays;
+      wants = asked;
+      full = omega (arith, count, size, sum, full);
+    }
+
+-- so does one that has not begun
+pub breaks_here : (places : List Place) (doing : Doing) (w : WorldValue) (r : List TraceRow) (event : Event) (why : NoTrace) → asks doing w ≡ Some event → IsFull r why → BreaksOff doing w r why
+breaks_here places doing w r event why asked full = breaks_way places doing doing w w r r event why (sets_out places doing w r) asked full
+
+-- what is left of a command wants an event
+pub breaks_turn : (places : List Place) (doing : Doing) (l : Left) (old mid : WorldValue) (r s : List TraceRow) (why : NoTrace) → OnTheWay places doing old (doing_of l) mid r s → IsFull s why → BreaksOff doing old r why
+breaks_turn places doing (left.Drives p until) old mid r s why way full = breaks_way places doing (doing_of (left.Drives p until)) old mid r s (wants mid p) why way refl full
+breaks_turn places doing (left.Works p rounds cell) old mid r s why way full =
+    breaks_way places doing (doing_of (left.Works p rounds cell)) old mid r s (BeginWork p (cell_at mid.sheet.layout.shape cell)) why way refl full
+
+-- one event, and what breaks off behind it
+pub breaks_later : (places : List Place) (doing : Doing) (old mid : WorldValue) (event : Event) (reply : Reply) (r s : List TraceRow) (why : NoTrace)
+    → asks doing old ≡ Some event → Happens places old event reply mid r s → BreaksOff (told doing event reply mid) mid s why → BreaksOff doing old r why
+breaks_later places doing old mid event reply r s NoMemory asked h rest = tt
+breaks_later places doing old mid event reply r s TooManyEvents asked h rest =
+    let size : length s ≡ length (r ++ h.row.0 ∷ []) = ap (λ (l : List TraceRow). length l) h.row.1 in
+    let sum = length-append r (h.row.0 ∷ []) in
+    let full = rest.full in
+    record {
+      events = event ∷ rest.events;
+      replies = reply ∷ rest.replies;
+      last = rest.last;
+      world = rest.world;
+      event = rest.event;
+      plays = (mid, asked, h.fits, rest.plays);
+      wants = rest.wants;
+      full = omega (arith, size, sum, full);
+    }
+
+-- an error that is handed on
+pub handed_on : {A : Type 0} (result : Result A NoTrace) (why : NoTrace) (P : NoTrace → Type 0) → IsErrAnd result (λ e. e ≡ why) → P why → IfErr result P
+handed_on (Ok done) why P is h = tt
+handed_on (Err e) why P is h = subst P (sym is) h
+
+-- what follows from an error follows where there is one
+pub on_err : {A E : Type 0} (result : Result A E) (P Q : E → Type 0) → ((e : E) → P e → Q e) → IfErr result P → IfErr result Q
+on_err (Ok done) P Q f h = tt
+on_err (Err e) P Q f h = f e h
 
 -- ---- commands
 

@@ -1,5 +1,5 @@
 -- What a row says of its event.
-use Rattle.std.specs.Prelude.{ℕ, ◌≡◌, List, [], ◌∷◌, ◌++◌, map, length, true, IfSome}
+use Rattle.std.specs.Prelude.{ℕ, ◌≡◌, ◌≤◌, List, [], ◌∷◌, ◌++◌, Option, map, length, option_map}
 use Rattle.ds_formula.specs.declared.cells.Shape.{Shape}
 use Rattle.ds_words.specs.declared.words.Word.{Word}
 use Rattle.ds_words.specs.declared.access.Access.{Access}
@@ -18,7 +18,9 @@ use Rattle.ds_core.specs.Takes.{Fits}
 use Rattle.ds_core.specs.declared.event.Event.{Event}
 use Rattle.ds_core.specs.declared.event.Event.TheVariants as events
 use Rattle.ds_core.specs.declared.reply.Reply.{Reply}
-use Rattle.ds_script.specs.Points.{has_passed}
+use Rattle.ds_state.specs.Points.{point_of}
+use Rattle.ds_script.specs.Points.{name_of}
+use Rattle.ds_script.specs.declared.point.PointName.{PointName}
 use Rattle.ds_script.specs.ScriptTexts.{reply_text}
 use Rattle.ds_script.specs.declared.order.Call.{Call}
 use Rattle.ds_script.specs.declared.order.Call.TheVariants as calls
@@ -27,6 +29,9 @@ use Rattle.ds_trace.specs.declared.row.Begin.TheVariants as begins
 use Rattle.ds_trace.specs.declared.row.Happening.{Happening}
 use Rattle.ds_trace.specs.declared.row.Happening.TheVariants.{Begins, Steps, TakesEntry, Evicts, Stops, Crashes}
 use Rattle.ds_trace.specs.declared.row.TraceRow.{TraceRow}
+use Rattle.ds_trace.specs.declared.turn.NoTrace.{NoTrace}
+use Rattle.ds_trace.specs.declared.turn.NoTrace.TheVariants.{TooManyEvents, NoMemory}
+use Rattle.ds_trace.specs.declared.turn.TheConstants.{EVENT_LIMIT}
 
 -- ---- what happened
 
@@ -95,20 +100,29 @@ answered_by (Stops p) = p
 answered_by (Evicts place) = 0
 answered_by Crashes = 0
 
--- the row says this, and of the world after it: the reply as scripts write it, a point that the call of the process
--- has passed, how many edits are linearized, and both sides of the words at the places
+-- the name of the last point that the call of a process in this situation has passed, if it has passed one
+abbrev pub passed_by : Situation → Option PointName
+passed_by s = option_map name_of (point_of s)
+
+-- the row says this, and of the world after it: the reply as scripts write it, the last point that the call of the
+-- process has passed, how many edits are linearized, and both sides of the words at the places
 pub record Tells (places : List Place) (new : WorldValue) (what : Happening) (reply : Reply) (text : List ℕ) (row : TraceRow) : Type 0 where
   pub what_is : row.what ≡ what
   pub reply_is : row.reply ≡ reply
   pub text_is : row.text.items ≡ text
   pub answer : row.answer.items ≡ reply_text new (answered_by what) reply
-  pub behind : IfSome row.behind (λ name. has_passed ((world_of new).situation (answered_by what)) name ≡ true)
+  pub behind : row.behind ≡ passed_by ((world_of new).situation (answered_by what))
   pub counted : row.counted ≡ length new.counted
   pub words : row.words.items ≡ map (sides_of new) places
 
 -- the row is that of an event, which leads with this reply from the one world to the other
 abbrev pub IsRowOf : List Place → WorldValue → Event → Reply → WorldValue → TraceRow → Type 0
 IsRowOf places old event reply new row = Tells places new (what_of old event) reply (text_by event) row
+
+-- why there is no row after these: there is no room for one more; or memory ran out
+abbrev pub IsFull : List TraceRow → NoTrace → Type 0
+IsFull before TooManyEvents = EVENT_LIMIT ≤ length before
+IsFull before NoMemory = Unit {0}
 
 -- one row stands after the others, for which this holds
 abbrev pub OneMore : (TraceRow → Type 0) → List TraceRow → List TraceRow → Type 0

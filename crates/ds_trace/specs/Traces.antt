@@ -1,13 +1,14 @@
 -- The recording of a script.
-use Rattle.std.specs.Prelude.{ℕ, ◌≡◌, ◌⊎◌, Bool, List, Option, Some, None, Ok, Err, IfSome, Contains, map}
+use Rattle.std.specs.Prelude.{ℕ, ◌≡◌, ◌⊎◌, Bool, List, Option, Some, None, Ok, Err, IfSome, Contains, length, map}
 use Rattle.ds_words.specs.declared.words.Word.{Word}
 use Rattle.ds_words.specs.declared.access.Access.{Access}
 use Rattle.ds_words.specs.declared.access.Access.TheVariants as accesses
 use Rattle.ds_layout.specs.declared.place.Place.{Place}
 use Rattle.ds_state.specs.Value.{WorldValue}
-use Rattle.ds_script_io.specs.ScriptLines.{NoLine, next_of}
+use Rattle.ds_script_io.specs.ScriptLines.{NoLine, ALine, next_of}
 use Rattle.ds_script.specs.declared.order.Begun.{Begun}
-use Rattle.ds_script.specs.Orders.{Order, order_of}
+use Rattle.ds_script.specs.Orders.{Order, Does, Deed, order_of}
+use Rattle.ds_script.specs.Doing.{plan}
 use Rattle.ds_script.specs.Running.{after}
 use Rattle.ds_script.specs.Script.{Progress, Carried, Breaks}
 use Rattle.ds_trace.specs.declared.row.TraceRow.{TraceRow}
@@ -20,7 +21,7 @@ use Rattle.ds_trace.specs.declared.record.Hindrance.TheVariants as hindrances
 use Rattle.ds_trace.specs.declared.record.Untraced.{Untraced}
 use Rattle.ds_trace.specs.declared.record.Untraced.TheVariants as untraced
 use Rattle.ds_trace.specs.Rows.{sides_of}
-use Rattle.ds_trace.specs.Trails.{AreRows, ObeysBy}
+use Rattle.ds_trace.specs.Trails.{AreRows, Hinders, ObeysBy, Overflows}
 
 -- the lines of a script are carried out to the last one, which leads to this world; and the rows are those of the events,
 -- from the new sheet on that it begins with, with the words at these places, which the new sheet has so
@@ -41,10 +42,26 @@ pub record IsTraceOf (whole : Bool) (script : List ℕ) (trace : Trace) : Type 0
   pub record_is : IsRecord whole script trace.places.items trace.start.items world trace.rows.items
   pub layout : trace.layout ≡ world.sheet.layout
 
--- why a script has no recording: a line of it has a fault, which a run of it meets there; or for want of room
+-- a run of the script has more events than a recording has room for: its lines are carried out up to one whose command
+-- wants one too many
+pub record IsTooLong (whole : Bool) (script : List ℕ) : Type 0 where
+  pub lines : ℕ
+  pub progress : Progress
+  pub out : List ℕ
+  pub rest : List ℕ
+  pub line : List ℕ
+  pub behind : List ℕ
+  pub deed : Deed
+  pub carried : Carried whole script lines progress out rest
+  pub next : next_of whole rest ≡ ALine line behind
+  pub asks : order_of progress.begun progress.world line ≡ Ok (Some (Does deed))
+  pub overflows : Overflows (plan progress.world deed) progress.world (length progress.events)
+
+-- why a script has no recording: a line of it has a fault, which a run of it meets there; it is too long; or memory ran
+-- out
 abbrev pub IsUntraced : Bool → List ℕ → Untraced → Type 0
 IsUntraced whole script (untraced.Fault line kind) = (out : List ℕ) × Breaks whole script out line kind
-IsUntraced whole script untraced.TooManyEvents = Unit {0}
+IsUntraced whole script untraced.TooManyEvents = IsTooLong whole script
 IsUntraced whole script untraced.NoMemory = Unit {0}
 
 -- ---- a line
@@ -67,10 +84,10 @@ pub record CarriesLine (places : List Place) (first : Begun) (old : WorldValue) 
 abbrev pub PassesLine : List Place → Begun → WorldValue → List ℕ → Begun → WorldValue → List TraceRow → List TraceRow → Type 0
 PassesLine places first old line now new before rows = SkipsLine first old line now new before rows ⊎ CarriesLine places first old line now new before rows
 
--- why no further line is carried out: by its fault, or for want of room
-abbrev pub StopsLine : Begun → WorldValue → List ℕ → Hindrance → Type 0
-StopsLine first old line (hindrances.Fault kind) = order_of first old line ≡ Err kind
-StopsLine first old line (hindrances.NoTrace why) = Unit {0}
+-- why no further line is carried out after these rows: by its fault, or for want of room
+abbrev pub StopsLine : Begun → WorldValue → List ℕ → List TraceRow → Hindrance → Type 0
+StopsLine first old line before (hindrances.Fault kind) = order_of first old line ≡ Err kind
+StopsLine first old line before (hindrances.NoTrace why) = (order : Order) × (order_of first old line ≡ Ok (Some order)) × Hinders old order before why
 
 -- why a script has no recording that is stopped at this line
 abbrev pub why_not : ℕ → Hindrance → Untraced

@@ -1,5 +1,5 @@
 -- The rows of a run, and of a command.
-use Rattle.std.specs.Prelude.{ℕ, ◌≡◌, List, [], ◌∷◌, ◌++◌, Option, Some, IfSome}
+use Rattle.std.specs.Prelude.{ℕ, ◌+◌, ◌≡◌, ◌≤◌, List, [], ◌∷◌, ◌++◌, length, Option, Some, IfSome}
 use Rattle.ds_layout.specs.declared.place.Place.{Place}
 use Rattle.ds_state.specs.Value.{WorldValue}
 use Rattle.ds_core.specs.Takes.{Fits}
@@ -12,6 +12,9 @@ use Rattle.ds_script.specs.Script.{IsMade}
 use Rattle.ds_script_stops.specs.declared.turn.Left.{Left}
 use Rattle.ds_script_stops.specs.ScriptTurns.{Remains, IsWithin, doing_of}
 use Rattle.ds_trace.specs.declared.row.TraceRow.{TraceRow}
+use Rattle.ds_trace.specs.declared.turn.NoTrace.{NoTrace}
+use Rattle.ds_trace.specs.declared.turn.NoTrace.TheVariants.{TooManyEvents, NoMemory}
+use Rattle.ds_trace.specs.declared.turn.TheConstants.{EVENT_LIMIT}
 use Rattle.ds_trace.specs.Rows.{IsRowOf, Happens}
 
 -- these are the rows of a run, with the words at these places: one for each event, in their order, from world to world
@@ -40,6 +43,27 @@ pub record TakesTurn (places : List Place) (l : Left) (old : WorldValue) (next :
   pub happens : Happens places old event reply new before after
   pub remains : Remains next (told (doing_of l) event reply new)
   pub within : IfSome next (IsWithin new)
+
+-- the command, played from this world on after n events, wants an event for which a recording has no room
+pub record Overflows (doing : Doing) (old : WorldValue) (n : ℕ) : Type 0 where
+  pub events : List Event
+  pub replies : List Reply
+  pub last : Doing
+  pub world : WorldValue
+  pub event : Event
+  pub plays : Plays doing old events replies last world
+  pub wants : asks last world ≡ Some event
+  pub full : EVENT_LIMIT ≤ n + length events
+
+-- why a command is not played to its end after these rows: for want of room, or of memory
+abbrev pub BreaksOff : Doing → WorldValue → List TraceRow → NoTrace → Type 0
+BreaksOff doing old before TooManyEvents = Overflows doing old (length before)
+BreaksOff doing old before NoMemory = Unit {0}
+
+-- why an order is not carried out after these rows
+abbrev pub Hinders : WorldValue → Order → List TraceRow → NoTrace → Type 0
+Hinders old (Make first columns rows processes edition) before why = why ≡ NoMemory
+Hinders old (Does deed) before why = BreaksOff (plan old deed) old before why
 
 -- an order is carried out: a new sheet is made, without rows; or the deed is played to its end, and the rows of its
 -- events stand after the others

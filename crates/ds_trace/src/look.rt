@@ -1,12 +1,11 @@
 //! What a world shows before an event, and after it.
 
-ghost use Rattle.std.specs.Prelude.{◌≡◌, true, IfOk, IfSome, map};
+ghost use Rattle.std.specs.Prelude.{◌≡◌, IfOk, map};
 ghost use Rattle.ds_state.specs.Value.{world_of};
-ghost use Rattle.ds_script.specs.Points.{has_passed};
-ghost use Rattle.ds_trace.specs.Rows.{access_of, sides_of};
+ghost use Rattle.ds_trace.specs.Rows.{access_of, passed_by, sides_of};
 
 use ds_layout::place::Place;
-use ds_script::drive::has_come;
+use ds_script::drive::last_point;
 use ds_script::point::PointName;
 use ds_state::situation::Situation;
 use ds_state::world::World;
@@ -56,35 +55,9 @@ pub fn words(alloc: Global, world: &World, places: &[Place]) -> Result<Vec<Word>
     Ok(words)
 }
 
-// The points of calls, those of each in their order.
-const POINTS: [PointName; 16] = [
-    PointName::Freed,
-    PointName::Written,
-    PointName::Announced,
-    PointName::Indexed,
-    PointName::Helped,
-    PointName::Swung,
-    PointName::Kept,
-    PointName::Marked,
-    PointName::Answered,
-    PointName::Held,
-    PointName::Stored,
-    PointName::Valued,
-    PointName::Spread,
-    PointName::Cleared,
-    PointName::Copied,
-    PointName::Switched,
-];
-
 /// The last point that the call of a process has passed, if it has one.
 pub fn behind(world: &World, process: usize) -> Option<PointName>
-    ensures { IfSome result (λ name. has_passed ((world_of world.now).situation process) name ≡ true) }
+    ensures { result ≡ passed_by ((world_of world.now).situation process) }
 {
-    let mut last = None;
-    for name in POINTS {
-        if has_come(world, process, name) {
-            last = Some(name);
-        }
-    }
-    last
+    last_point(world, process)
 }

@@ -1,6 +1,6 @@
 //! Carries commands out, and keeps their events.
 
-ghost use Rattle.std.specs.Prelude.{◌≡◌, ◌<◌, ◌≤◌, List, [], IfOk, IfSome, OnOk, length};
+ghost use Rattle.std.specs.Prelude.{◌≡◌, ◌<◌, ◌≤◌, List, [], IfErr, IfOk, IfSome, OnOk, length};
 ghost use Rattle.ds_layout.specs.Places.{cells_of};
 ghost use Rattle.ds_core.specs.declared.event.Event.TheVariants.{Step};
 ghost use Rattle.ds_core.specs.declared.reply.Reply.TheVariants.{Answered};
@@ -11,7 +11,9 @@ ghost use Rattle.ds_script.specs.Script.{IsMade};
 ghost use Rattle.ds_script.specs.declared.drive.Until.TheVariants.{InRound};
 ghost use Rattle.ds_state.specs.Value.{world_of};
 ghost use Rattle.ds_script_stops.specs.ScriptTurns.{IsWithin, Remains, doing_of};
-ghost use Rattle.ds_trace.specs.Trails.{ObeysBy, TakesTurn, Trail};
+ghost use Rattle.ds_trace.specs.Rows.{IsFull};
+ghost use Rattle.ds_trace.specs.Trails.{BreaksOff, Hinders, ObeysBy, TakesTurn, Trail};
+ghost use Rattle.ds_trace.specs.declared.turn.NoTrace.TheVariants as hindered;
 ghost use Rattle.ds_trace.specs.declared.turn.TheConstants.{EVENT_LIMIT};
 
 use crate::row::{Happening, TraceRow};
@@ -57,6 +59,7 @@ fn begin_work(
     requires { cell < cells_of world.old.sheet.layout }
     ensures turn { IfOk result (λ left. TakesTurn places.now (Left.Works process rounds cell) world.old left world.new rows.old.items rows.new.items) }
     ensures few { OnOk result (length rows.new.items ≤ EVENT_LIMIT) }
+    ensures full { IfErr result (IsFull rows.old.items) }
 {
     let call = Call::Work(world.words.layout().shape.cell(cell));
     let reply = begin(alloc, world, places, process, call, rows)?;
@@ -76,6 +79,7 @@ fn step_on(
     requires within { IsWithin world.old (Left.Drives process until) }
     ensures turn { IfOk result (λ left. TakesTurn places.now (Left.Drives process until) world.old left world.new rows.old.items rows.new.items) }
     ensures few { OnOk result (length rows.new.items ≤ EVENT_LIMIT) }
+    ensures full { IfErr result (IsFull rows.old.items) }
 {
     let reply = step(alloc, world, places, process, rows)?;
     Ok(behind_step(world, process, until, reply))
@@ -93,6 +97,7 @@ fn go(
     requires { IsWithin world.old (Left.Drives process until) }
     ensures turn { IfOk result (λ left. TakesTurn places.now (Left.Drives process until) world.old left world.new rows.old.items rows.new.items) }
     ensures few { OnOk result (length rows.new.items ≤ EVENT_LIMIT) }
+    ensures full { IfErr result (IsFull rows.old.items) }
 {
     world.is_always_good();
     if offer_own(world, process) {
@@ -116,6 +121,7 @@ fn take_turn(
     requires { IsWithin world.old left }
     ensures turn { IfOk result (λ next. TakesTurn places.now left world.old next world.new rows.old.items rows.new.items) }
     ensures few { OnOk result (length rows.new.items ≤ EVENT_LIMIT) }
+    ensures full { IfErr result (IsFull rows.old.items) }
 {
     match left {
         Left::Drives(process, until) => go(alloc, world, places, process, until, rows),
@@ -136,7 +142,8 @@ fn play(
     rows: &mut Vec<TraceRow>,
 ) -> Result<(), NoTrace>
     requires { IsWithin world.old first }
-    ensures { OnOk result (Trail places.now (doing_of first) world.old world.new rows.old.items rows.new.items) }
+    ensures trail { OnOk result (Trail places.now (doing_of first) world.old world.new rows.old.items rows.new.items) }
+    ensures breaks_off { IfErr result (BreaksOff (doing_of first) world.old rows.old.items) }
 {
     let mut left = first;
     'turns: loop {
@@ -156,7 +163,8 @@ fn play_on(
     rows: &mut Vec<TraceRow>,
 ) -> Result<(), NoTrace>
     requires { IfSome left (IsWithin world.old) }
-    ensures { (doing : Doing) → Remains left doing → OnOk result (Trail places.now doing world.old world.new rows.old.items rows.new.items) }
+    ensures trail { (doing : Doing) → Remains left doing → OnOk result (Trail places.now doing world.old world.new rows.old.items rows.new.items) }
+    ensures breaks_off { (doing : Doing) → Remains left doing → IfErr result (BreaksOff doing world.old rows.old.items) }
 {
     match left {
         Some(left) => play(alloc, world, places, left, rows),
@@ -173,7 +181,8 @@ fn whole(
     call: Call<'_>,
     rows: &mut Vec<TraceRow>,
 ) -> Result<(), NoTrace>
-    ensures { OnOk result (Trail places.now (Calls process (beginning process call.entry)) world.old world.new rows.old.items rows.new.items) }
+    ensures trail { OnOk result (Trail places.now (Calls process (beginning process call.entry)) world.old world.new rows.old.items rows.new.items) }
+    ensures breaks_off { IfErr result (BreaksOff (Calls process (beginning process call.entry)) world.old rows.old.items) }
 {
     let reply = begin(alloc, world, places, process, call, rows)?;
     let left = after_begin(process, Until::ToAnswer, reply);
@@ -188,7 +197,8 @@ fn settle(
     process: usize,
     rows: &mut Vec<TraceRow>,
 ) -> Result<(), NoTrace>
-    ensures { OnOk result (Trail places.now (settle world.old process) world.old world.new rows.old.items rows.new.items) }
+    ensures trail { OnOk result (Trail places.now (settle world.old process) world.old world.new rows.old.items rows.new.items) }
+    ensures breaks_off { IfErr result (BreaksOff (settle world.old process) world.old rows.old.items) }
 {
     let left = left_of(process, settle::first_turn(world));
     play_on(alloc, world, places, left, rows)
@@ -203,7 +213,8 @@ fn run_to(
     name: PointName,
     rows: &mut Vec<TraceRow>,
 ) -> Result<(), NoTrace>
-    ensures { OnOk result (Trail places.now (to_point process name ((world_of world.old).situation process)) world.old world.new rows.old.items rows.new.items) }
+    ensures trail { OnOk result (Trail places.now (to_point process name ((world_of world.old).situation process)) world.old world.new rows.old.items rows.new.items) }
+    ensures breaks_off { IfErr result (BreaksOff (to_point process name ((world_of world.old).situation process)) world.old rows.old.items) }
 {
     let left = to_point(world, process, name);
     play_on(alloc, world, places, left, rows)
@@ -218,7 +229,8 @@ fn begin_only(
     call: Call<'_>,
     rows: &mut Vec<TraceRow>,
 ) -> Result<(), NoTrace>
-    ensures { OnOk result (Trail places.now (Once process (beginning process call.entry)) world.old world.new rows.old.items rows.new.items) }
+    ensures trail { OnOk result (Trail places.now (Once process (beginning process call.entry)) world.old world.new rows.old.items rows.new.items) }
+    ensures breaks_off { IfErr result (BreaksOff (Once process (beginning process call.entry)) world.old rows.old.items) }
 {
     let _reply = begin(alloc, world, places, process, call, rows)?;
     Ok(())
@@ -234,6 +246,7 @@ fn make(
 ) -> Result<(), NoTrace>
     ensures made { OnOk result (IsMade layout.shape.columns layout.shape.rows layout.processes edition world.new) }
     ensures no_row { OnOk result (rows.new.items ≡ []) }
+    ensures no_memory { IfErr result (λ why. why ≡ hindered.NoMemory) }
 {
     *world = new_world(alloc, layout, edition)?;
     rows.clear();
@@ -250,7 +263,8 @@ pub fn carry_out(
     rows: &mut Vec<TraceRow>,
 ) -> Result<(), NoTrace>
     requires { CanDo world.old.sheet.layout command }
-    ensures { OnOk result (ObeysBy places.now world.old (command_view command.entry) world.new rows.old.items rows.new.items) }
+    ensures obeys { OnOk result (ObeysBy places.now world.old (command_view command.entry) world.new rows.old.items rows.new.items) }
+    ensures hinders { IfErr result (Hinders world.old (command_view command.entry) rows.old.items) }
 {
     match command {
         Command::Sheet(layout) => make(alloc, world, layout, Edition::Second, rows),

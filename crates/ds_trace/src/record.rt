@@ -91,7 +91,7 @@ fn obey(
     rows: &mut Vec<TraceRow>,
 ) -> Result<Begun, Hindrance>
     ensures passes { IfOk result (λ now. PassesLine places.now begun world.old line.now now world.new rows.old.items rows.new.items) }
-    ensures stops { IfErr result (λ stop. StopsLine begun world.old line.now stop) }
+    ensures stops { IfErr result (λ stop. StopsLine begun world.old line.now rows.old.items stop) }
 {
     let Some(command) = read_order(line, begun, world)? else {
         return Ok(begun);

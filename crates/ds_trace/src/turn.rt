@@ -1,11 +1,12 @@
 //! One event of a run, and its row.
 
-ghost use Rattle.std.specs.Prelude.{◌≡◌, ◌≤◌, IfOk, OnOk, length};
+ghost use Rattle.std.specs.Prelude.{◌≡◌, ◌≤◌, IfErr, IfOk, OnOk, length};
 ghost use Rattle.ds_core.specs.Takes.{Fits};
 ghost use Rattle.ds_core.specs.declared.event.Event.TheVariants as events;
 ghost use Rattle.ds_script.specs.Orders.{beginning};
 ghost use Rattle.ds_core.specs.declared.reply.Reply.{Reply};
-ghost use Rattle.ds_trace.specs.Rows.{Happens, OneMore, Tells, answered_by, begin_in, text_in};
+ghost use Rattle.ds_trace.specs.Rows.{Happens, IsFull, OneMore, Tells, answered_by, begin_in, text_in};
+ghost use Rattle.ds_trace.specs.declared.turn.NoTrace.TheVariants as hindered;
 
 use crate::look::{behind, wanted, words};
 use crate::row::{Begin, Happening, TraceRow};
@@ -26,19 +27,23 @@ pub const EVENT_LIMIT: usize = 1_000;
 /// Why there is no recording.
 #[derive(Clone, Copy, Debug, PartialEq, Eq, Drop)]
 pub enum NoTrace {
-    /// The run has more events than a recording has room for.
+    /// The run has an event more than a recording has room for.
     TooManyEvents,
     /// An allocation failed.
     NoMemory,
 }
 
 impl From<AllocError> for NoTrace {
+    ghost from_gives = { λ _ why. why ≡ hindered.NoMemory };
+
     fn from(_error: AllocError) -> NoTrace {
         NoTrace::NoMemory
     }
 }
 
 impl<T: Drop> From<AllocFailed<T>> for NoTrace {
+    ghost from_gives = { λ _ why. why ≡ hindered.NoMemory };
+
     fn from(_failed: AllocFailed<T>) -> NoTrace {
         NoTrace::NoMemory
     }
@@ -93,6 +98,7 @@ pub fn note(
 ) -> Result<(), NoTrace>
     ensures row { OnOk result (OneMore (Tells places.now world.now what reply text.now) rows.old.items rows.new.items) }
     ensures few { OnOk result (length rows.new.items ≤ EVENT_LIMIT) }
+    ensures full { IfErr result (IsFull rows.old.items) }
 {
     if rows.len() >= EVENT_LIMIT {
         return Err(NoTrace::TooManyEvents);
@@ -137,6 +143,7 @@ pub fn begin(
 ) -> Result<Reply, NoTrace>
     ensures happens { IfOk result (λ reply. Happens places.now world.old (beginning process call.entry) reply world.new rows.old.items rows.new.items) }
     ensures few { OnOk result (length rows.new.items ≤ EVENT_LIMIT) }
+    ensures full { IfErr result (IsFull rows.old.items) }
 {
     let what = Happening::Begins(process, begin_of(call));
     let text = text_of(call);
@@ -155,6 +162,7 @@ pub fn step(
 ) -> Result<Reply, NoTrace>
     ensures happens { IfOk result (λ reply. Happens places.now world.old (events.Step process) reply world.new rows.old.items rows.new.items) }
     ensures few { OnOk result (length rows.new.items ≤ EVENT_LIMIT) }
+    ensures full { IfErr result (IsFull rows.old.items) }
 {
     let what = Happening::Steps(process, wanted(world, process));
     let reply = step_once(alloc, world, process);
@@ -194,7 +202,8 @@ pub fn evict(
     place: Place,
     rows: &mut Vec<TraceRow>,
 ) -> Result<(), NoTrace>
-    ensures { OnOk result ((reply : Reply) × Happens places.now world.old (events.Evict place) reply world.new rows.old.items rows.new.items) }
+    ensures happens { OnOk result ((reply : Reply) × Happens places.now world.old (events.Evict place) reply world.new rows.old.items rows.new.items) }
+    ensures full { IfErr result (IsFull rows.old.items) }
 {
     let reply = evicted(alloc, world, place);
     note(
@@ -216,7 +225,8 @@ pub fn stop(
     process: usize,
     rows: &mut Vec<TraceRow>,
 ) -> Result<(), NoTrace>
-    ensures { OnOk result ((reply : Reply) × Happens places.now world.old (events.Stop process) reply world.new rows.old.items rows.new.items) }
+    ensures happens { OnOk result ((reply : Reply) × Happens places.now world.old (events.Stop process) reply world.new rows.old.items rows.new.items) }
+    ensures full { IfErr result (IsFull rows.old.items) }
 {
     let reply = stopped(alloc, world, process);
     note(
@@ -238,7 +248,8 @@ pub fn crash(
     places: &[Place],
     rows: &mut Vec<TraceRow>,
 ) -> Result<(), NoTrace>
-    ensures { OnOk result ((reply : Reply) × Happens places.now world.old events.Crash reply world.new rows.old.items rows.new.items) }
+    ensures happens { OnOk result ((reply : Reply) × Happens places.now world.old events.Crash reply world.new rows.old.items rows.new.items) }
+    ensures full { IfErr result (IsFull rows.old.items) }
 {
     let reply = crashed(alloc, world);
     note(alloc, world, places, Happening::Crashes, reply, &[], rows)

@@ -9,7 +9,7 @@ pub undrawn : (limit : ℕ) (script : List ℕ) (end : PictureEnd) → IsUndrawn
 undrawn limit script ends.Drawn h = absurd h
 undrawn limit script (ends.Fault line kind) h = (refl, h)
 undrawn limit script ends.ScriptTooLong h = absurd h
-undrawn limit script ends.TooManyEvents h = refl
+undrawn limit script ends.TooManyEvents h = (refl, h)
 undrawn limit script ends.TooLong h = refl
 undrawn limit script ends.WriteFailed h = absurd h
 undrawn limit script ends.NoMemory h = refl

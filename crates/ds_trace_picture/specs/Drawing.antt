@@ -5,6 +5,7 @@ use Rattle.ds_script_io.specs.ScriptEndings.{name_of_fault}
 use Rattle.ds_formula.specs.Limits.{INPUT_MOST}
 use Rattle.ds_script.specs.Script.{Breaks}
 use Rattle.ds_svg.specs.Pages.{IsDocument}
+use Rattle.ds_trace.specs.Traces.{IsTooLong}
 use Rattle.ds_trace.specs.declared.record.Untraced.{Untraced}
 use Rattle.ds_trace.specs.declared.record.Untraced.TheVariants as untraced
 use Rattle.ds_trace_picture.specs.declared.script.PictureEnd.{PictureEnd}
@@ -30,12 +31,13 @@ end_of (untraced.Fault line kind) = ends.Fault line kind
 end_of untraced.TooManyEvents = ends.TooManyEvents
 end_of untraced.NoMemory = ends.NoMemory
 
--- why there is no picture: a line has a fault, which a run of the script meets there; or for want of room
+-- why there is no picture: a line has a fault, which a run of the script meets there; the run has too many events; or for
+-- want of room
 abbrev pub IsUndrawn : List ℕ → PictureEnd → Type 0
 IsUndrawn script ends.Drawn = ⊥
 IsUndrawn script (ends.Fault line kind) = (told : List ℕ) × Breaks true script told line kind
 IsUndrawn script ends.ScriptTooLong = ⊥
-IsUndrawn script ends.TooManyEvents = Unit {0}
+IsUndrawn script ends.TooManyEvents = IsTooLong true script
 IsUndrawn script ends.TooLong = Unit {0}
 IsUndrawn script ends.WriteFailed = ⊥
 IsUndrawn script ends.NoMemory = Unit {0}
@@ -45,7 +47,7 @@ abbrev pub Draws : ℕ → List ℕ → PictureEnd → List ℕ → Type 0
 Draws limit script ends.Drawn out = IsDocument out × (length out ≤ limit)
 Draws limit script (ends.Fault line kind) out = (out ≡ []) × ((told : List ℕ) × Breaks true script told line kind)
 Draws limit script ends.ScriptTooLong out = (out ≡ []) × (INPUT_MOST < length script)
-Draws limit script ends.TooManyEvents out = out ≡ []
+Draws limit script ends.TooManyEvents out = (out ≡ []) × IsTooLong true script
 Draws limit script ends.TooLong out = out ≡ []
 Draws limit script ends.WriteFailed out = Unit {0}
 Draws limit script ends.NoMemory out = out ≡ []

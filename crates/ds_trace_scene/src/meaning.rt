@@ -1,5 +1,14 @@
 //! What the words of a sheet say.
 
+ghost use Rattle.std.specs.Prelude.{◌≡◌, IfOk, IfSome, string_bytes};
+ghost use Rattle.ds_layout.specs.Announcement.{announcement_of};
+ghost use Rattle.ds_layout.specs.Head.{head_of};
+ghost use Rattle.ds_layout.specs.Header.{header_of};
+ghost use Rattle.ds_layout.specs.Mark.{mark_of, state_of};
+ghost use Rattle.ds_layout.specs.Places.{cells_of, edition_of};
+ghost use Rattle.ds_layout.specs.Stored.{stored_of};
+ghost use Rattle.ds_trace_scene.specs.Meanings.{announcement_label, edition_label, head_label, header_label, kind_name, label_of, phase_name, state_label};
+
 use crate::names::cell_name;
 use ds_layout::announcement::{Announcement, Phase};
 use ds_layout::bits::has_bit;
@@ -15,7 +24,9 @@ use std::alloc::{AllocError, Global};
 // How many bits of a word are named one by one; of the others only their number is shown.
 const NAMED: usize = 2;
 
-fn version_label(alloc: Global, word: u64) -> Result<String, AllocError> {
+fn version_label(alloc: Global, word: u64) -> Result<String, AllocError>
+    ensures { IfOk result (λ text. string_bytes text ≡ edition_label (edition_of word)) }
+{
     match Edition::read(word) {
         Edition::First => format!(in alloc; "layout 1"),
         Edition::Second => format!(in alloc; "layout 2"),
@@ -29,7 +40,9 @@ fn version_meaning(alloc: Global, word: u64) -> Result<String, AllocError> {
     }
 }
 
-fn head_label(alloc: Global, layout: Layout, word: u64) -> Result<String, AllocError> {
+fn head_label(alloc: Global, layout: Layout, word: u64) -> Result<String, AllocError>
+    ensures { IfOk result (λ text. string_bytes text ≡ head_label (head_of layout.processes word)) }
+{
     match Head::read(word, layout.processes) {
         Some(head) => format!(in alloc; "edit {} {}", head.process, head.number),
         None => format!(in alloc; "none"),
@@ -46,7 +59,9 @@ fn head_meaning(alloc: Global, layout: Layout, word: u64) -> Result<String, Allo
     }
 }
 
-fn mark_label(alloc: Global, layout: Layout, word: u64) -> Result<String, AllocError> {
+fn mark_label(alloc: Global, layout: Layout, word: u64) -> Result<String, AllocError>
+    ensures { IfOk result (λ text. string_bytes text ≡ state_label (state_of (mark_of layout.processes word))) }
+{
     match Mark::read(word, layout.processes).state() {
         State::Clean => format!(in alloc; "clean"),
         State::Marked => format!(in alloc; "dirty"),
@@ -66,7 +81,9 @@ fn mark_meaning(alloc: Global, layout: Layout, word: u64) -> Result<String, Allo
     }
 }
 
-fn kind_name(kind: Kind) -> &'static str {
+fn kind_name(kind: Kind) -> &'static str
+    ensures { result.now ≡ kind_name kind }
+{
     match kind {
         Kind::Blank => "blank",
         Kind::Number => "number",
@@ -76,7 +93,9 @@ fn kind_name(kind: Kind) -> &'static str {
     }
 }
 
-fn kind_label(alloc: Global, layout: Layout, word: u64) -> Result<String, AllocError> {
+fn kind_label(alloc: Global, layout: Layout, word: u64) -> Result<String, AllocError>
+    ensures { IfOk result (λ text. string_bytes text ≡ kind_name (stored_of (cells_of layout) 0 word).kind) }
+{
     let name = kind_name(Stored::read(0, word, layout.cells()).kind);
     format!(in alloc; "{name}")
 }
@@ -87,7 +106,9 @@ fn kind_meaning(alloc: Global, layout: Layout, word: u64) -> Result<String, Allo
     format!(in alloc; "{name}, height {}", stored.height)
 }
 
-fn phase_name(phase: Phase) -> &'static str {
+fn phase_name(phase: Phase) -> &'static str
+    ensures { result.now ≡ phase_name phase }
+{
     match phase {
         Phase::Pending => "pending",
         Phase::Done => "done",
@@ -95,7 +116,9 @@ fn phase_name(phase: Phase) -> &'static str {
     }
 }
 
-fn announcement_label(alloc: Global, word: u64) -> Result<String, AllocError> {
+fn announcement_label(alloc: Global, word: u64) -> Result<String, AllocError>
+    ensures { IfOk result (λ text. string_bytes text ≡ announcement_label (announcement_of word)) }
+{
     match Announcement::read(word) {
         Some(announcement) => {
             let phase = phase_name(announcement.phase);
@@ -115,7 +138,9 @@ fn announcement_meaning(alloc: Global, word: u64) -> Result<String, AllocError> 
     }
 }
 
-fn header_label(alloc: Global, layout: Layout, word: u64) -> Result<String, AllocError> {
+fn header_label(alloc: Global, layout: Layout, word: u64) -> Result<String, AllocError>
+    ensures { IfOk result (λ text. string_bytes text ≡ header_label layout word (header_of (cells_of layout) word)) }
+{
     match Header::read(word, layout.cells()) {
         Some(header) if word != 0 => {
             let cell = cell_name(alloc, layout, header.cell)?;
@@ -193,8 +218,10 @@ fn first_of(part: usize) -> usize {
     part.saturating_mul(64)
 }
 
-/// What the word of this place says, in a few letters.
-pub fn label(alloc: Global, layout: Layout, place: Place, word: u64) -> Result<String, AllocError> {
+/// What the word of this place says, in a few letters. An error means that an allocation failed.
+pub fn label(alloc: Global, layout: Layout, place: Place, word: u64) -> Result<String, AllocError>
+    ensures { IfOk result (λ text. IfSome (label_of layout place word) (λ says. string_bytes text ≡ says)) }
+{
     match place {
         Place::Version => version_label(alloc, word),
         Place::Head(_) => head_label(alloc, layout, word),

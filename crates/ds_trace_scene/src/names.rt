@@ -1,12 +1,18 @@
 //! Cells and places, as scripts name them.
 
+ghost use Rattle.std.specs.Prelude.{◌≡◌, IfOk, string_bytes};
+ghost use Rattle.ds_formula.specs.Cells.{cell_at};
+ghost use Rattle.ds_formula.specs.Names.{cell_text};
+
 use ds_layout::layout::Layout;
 use ds_layout::place::{Edition, Place};
 use ds_script_io::answer::cell_at;
 use std::alloc::{AllocError, Global};
 
 /// The cell with this number, as `A1`.
-pub fn cell_name(alloc: Global, layout: Layout, cell: usize) -> Result<String, AllocError> {
+pub fn cell_name(alloc: Global, layout: Layout, cell: usize) -> Result<String, AllocError>
+    ensures { IfOk result (λ text. string_bytes text ≡ cell_text (cell_at layout.shape cell)) }
+{
     let cell = cell_at(layout.shape, cell);
     format!(in alloc; "{cell}")
 }

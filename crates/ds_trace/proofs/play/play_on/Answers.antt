@@ -5,6 +5,6 @@ use Rattle.ds_script_stops.specs.ScriptTurns.{Remains}
 use Rattle.ds_trace.proofs.Trails.{none_left}
 use Rattle.ds_trace.proofs.play.play_on.Goals as goal
 
-pub returns-in-None : goal.returns-in-None
-returns-in-None c = λ doing remains.
+pub returns-in-None-clause-trail : goal.returns-in-None-clause-trail
+returns-in-None-clause-trail c = λ doing remains.
     none_left c.args.places.now doing c.args.world.now c.args.rows.now.items (subst (λ (o : Option Left). Remains o doing) c.in-None.is remains)

@@ -10,3 +10,10 @@ returns-then-from-cells-clause-value g c =
     let is = c.cells.ensures.value in
     let none : cells_of c.args.self.now.world.sheet.layout - c.args.from ≡ 0 = omega (arith, more, is) in
     sym (ap (λ (n : ℕ). marked_from (world_of c.args.self.now.world) n c.args.from) none)
+
+pub returns-then-from-cells-clause-marked : goal.returns-then-from-cells-clause-marked
+returns-then-from-cells-clause-marked g c = record {
+  world = c.args.self.now.world;
+  good = c.is_always_good.ensures;
+  is = returns-then-from-cells-clause-value g c;
+}

@@ -1,9 +1,5 @@
 use Rattle.std.proofs.Common.{◌≡◌}
-use Rattle.ds_crew.specs.declared.came.Came.TheVariants.{NotEnabled}
 use Rattle.ds_crew.proofs.locked.LockedSheet.finish_edit.Given as goal
 
 abbrev pub invariant-loop : goal.invariant-loop
-invariant-loop g l = record {
-  pass : l.pass ≡ l.fn.pass;
-  came : l.came ≡ NotEnabled;
-}
+invariant-loop g l = l.pass ≡ l.fn.pass

@@ -1,6 +1,0 @@
-use Rattle.std.proofs.Common.{◌≡◌}
-use Rattle.ds_crew.specs.declared.came.Came.TheVariants.{NotEnabled}
-use Rattle.ds_crew.proofs.locked.LockedSheet.finish_recovery.Given as goal
-
-abbrev pub invariant-loop : goal.invariant-loop
-invariant-loop g l = l.came ≡ NotEnabled

@@ -1,0 +1,9 @@
+use Rattle.std.proofs.Common.{◌≡◌, length}
+use Rattle.ds_explore.specs.Judging.{AreRecoveries}
+use Rattle.ds_explore.proofs.ends.recover.Given as goal
+
+abbrev pub invariant-loop-process : goal.invariant-loop-process
+invariant-loop-process l = record {
+  are : AreRecoveries l.told.items l.text.items;
+  count : length l.told.items ≡ l.process;
+}

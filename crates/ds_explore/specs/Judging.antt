@@ -1,0 +1,207 @@
+-- What is wrong with what an order came to, by what was answered and reported.
+use Rattle.std.specs.Prelude.{ℕ, zero, suc, ◌≡◌, ◌==◌, ◌&&◌, Bool, true, false, List, [], ◌∷◌, ◌++◌, Option, Some, None, Result, Ok, Err, All, drop, length, map, slice_get, if◌then◌else◌, not, nat_eq}
+use Rattle.std.specs.List.{starts_with, ends_with}
+use Rattle.std.specs.Global.{Vec}
+use Rattle.ds_state.specs.Value.{WorldValue}
+use Rattle.ds_state.specs.declared.answer.Answer.{Answer}
+use Rattle.ds_state.specs.declared.answer.Answer.TheVariants as answers
+use Rattle.ds_state.specs.declared.answer.EditEnd.TheVariants as edit_ends
+use Rattle.ds_state.specs.declared.recovery.LastEdit.{LastEdit}
+use Rattle.ds_state.specs.declared.recovery.RecoveryEnd.{RecoveryEnd}
+use Rattle.ds_state.specs.declared.recovery.RecoveryEnd.TheVariants.{Last, Nothing}
+use Rattle.ds_state.specs.declared.refusal.Refusal.{Refusal}
+use Rattle.ds_state.specs.declared.show.ShowEnd.{ShowEnd}
+use Rattle.ds_state.specs.declared.show.ShowEnd.TheVariants.{Settled}
+use Rattle.ds_core.specs.Ends.{Kind, recoveries, reports}
+use Rattle.ds_core.specs.declared.reply.Reply.{Reply}
+use Rattle.ds_core.specs.declared.reply.Reply.TheVariants as replies
+use Rattle.ds_calls.specs.declared.settle.SettleEnd.{SettleEnd}
+use Rattle.ds_calls.specs.declared.settle.SettleEnd.TheVariants.{Left}
+use Rattle.ds_script.specs.Doing.{end_text}
+use Rattle.ds_script.specs.ScriptTexts.{reply_text}
+use Rattle.ds_explore.specs.declared.ends.OutcomeEnding.{OutcomeEnding}
+use Rattle.ds_explore.specs.declared.flaw.Flaw.{Flaw}
+use Rattle.ds_explore.specs.declared.flaw.Flaw.TheVariants as flaw
+use Rattle.ds_explore.specs.declared.judge.Asked.{Asked}
+use Rattle.ds_explore.specs.declared.judge.Judge.{Judge}
+use Rattle.ds_explore.specs.declared.outcomes.Finding.{Finding}
+
+-- ---- what was reported
+
+-- the reply to a call of this kind that came to this
+abbrev pub replied : {E : Type 0} → Kind E → Result E Refusal → Reply
+replied kind (Ok end) = replies.Answered (kind.answer end)
+replied kind (Err why) = replies.Refused why
+
+-- the text is what the recoveries reported, one after the other: that of process 0 first
+pub data AreRecoveries : List (Result RecoveryEnd Refusal) → List ℕ → Type 0 where
+  no_recovery : AreRecoveries [] []
+  one_recovery_more : (told : List (Result RecoveryEnd Refusal)) (text : List ℕ) (w : WorldValue) (came : Result RecoveryEnd Refusal)
+      → AreRecoveries told text → AreRecoveries (told ++ came ∷ []) (text ++ reply_text w (length told) (replied recoveries came))
+
+-- the text is what was reported after an order: by the recoveries, the settle and the report
+pub record TellsEnding (ending : OutcomeEnding) (text : List ℕ) : Type 0 where
+  pub told : List ℕ
+  pub recovered : AreRecoveries ending.told.items told
+  pub settled : WorldValue
+  pub reported : WorldValue
+  pub is : text ≡ told ++ (end_text settled 0 ending.left ++ reply_text reported 0 (replied reports ending.reported))
+
+-- the text is that of what the process's call was answered, if it was
+abbrev pub IsAnswerText : ℕ → Option Answer → List ℕ → Type 0
+IsAnswerText p (Some answer) text = (w : WorldValue) × (text ≡ reply_text w p (replies.Answered answer))
+IsAnswerText p None text = Unit {0}
+
+-- the texts are those of the answers: that of process 0 first
+pub data AreAnswers : List (Option Answer) → List (List ℕ) → Type 0 where
+  no_answer : AreAnswers [] []
+  one_answer_more : (given : List (Option Answer)) (texts : List (List ℕ)) (answer : Option Answer) (text : List ℕ)
+      → AreAnswers given texts → IsAnswerText (length given) answer text → AreAnswers (given ++ answer ∷ []) (texts ++ text ∷ [])
+
+-- the part stands in the text
+abbrev pub IsPart : List ℕ → List ℕ → Type 0
+IsPart text part = (n : ℕ) × (starts_with nat_eq (drop n text) part ≡ true)
+
+-- what a script is answered has each of these answers, and ends so
+abbrev pub Answers : List ℕ → List (List ℕ) → List ℕ → Type 0
+Answers told texts tail = All (IsPart told) texts × (ends_with nat_eq told tail ≡ true)
+
+-- ---- an edit that was asked for
+
+-- the edit that was asked of the process, if one was
+abbrev pub edit_by : Option (Option Asked) → Option Asked
+edit_by (Some (Some asked)) = Some asked
+edit_by _ = None
+
+abbrev pub edit_at : Judge → ℕ → Option Asked
+edit_at judge p = edit_by (slice_get judge.asked.items p)
+
+-- what the recovery of the process came to
+abbrev pub told_at : OutcomeEnding → ℕ → Option (Result RecoveryEnd Refusal)
+told_at ending p = slice_get ending.told.items p
+
+-- what the process's call was answered
+abbrev pub answer_by : Option (Option Answer) → Option Answer
+answer_by (Some answer) = answer
+answer_by None = None
+
+abbrev pub answer_at : OutcomeEnding → ℕ → Option Answer
+answer_at ending p = answer_by (slice_get ending.answers.items p)
+
+-- a recovery reports this edit as done: this number of its process, in this cell
+abbrev pub is_told_done : Asked → LastEdit → Bool
+is_told_done asked told = ((told.number == asked.number) && (told.cell == asked.cell)) && told.counts
+
+-- the edit is done, by what the recovery of its process came to
+abbrev pub is_done : Asked → Option (Result RecoveryEnd Refusal) → Bool
+is_done asked (Some (Ok (Last told))) = is_told_done asked told
+is_done asked _ = false
+
+-- ---- what is wrong with the answer to a process
+
+-- the recovery is refused
+abbrev pub is_refused : Option (Result RecoveryEnd Refusal) → Bool
+is_refused (Some (Err why)) = true
+is_refused _ = false
+
+abbrev pub same_bool : Bool → Bool → Bool
+same_bool true b = b
+same_bool false b = not b
+
+-- two recoveries reported the same
+abbrev pub same_end : RecoveryEnd → RecoveryEnd → Bool
+same_end Nothing Nothing = true
+same_end (Last a) (Last b) = ((a.number == b.number) && (a.cell == b.cell)) && same_bool a.counts b.counts
+same_end _ _ = false
+
+-- the call was a recovery, and the next one tells otherwise
+abbrev pub is_told_twice : Option Answer → Option (Result RecoveryEnd Refusal) → Bool
+is_told_twice (Some (answers.Recovery end)) (Some (Ok again)) = not (same_end end again)
+is_told_twice (Some (answers.Recovery end)) _ = true
+is_told_twice _ _ = false
+
+-- this is the edit that was asked of its process, and it is not done
+abbrev pub is_undone : Option Asked → ℕ → Option (Result RecoveryEnd Refusal) → Bool
+is_undone (Some asked) number told = (asked.number == number) && not (is_done asked told)
+is_undone None number told = false
+
+-- the call was overtaken by an edit that is not done; a crash may have taken that one back
+abbrev pub is_overtaken_by_none : Judge → OutcomeEnding → Option Answer → Bool
+is_overtaken_by_none judge ending (Some (answers.Edit (edit_ends.Overtaken number by))) =
+    not ending.crashed && is_undone (edit_at judge by.process) by.number (told_at ending by.process)
+is_overtaken_by_none judge ending _ = false
+
+-- the edit was answered otherwise than this, whether it is done
+abbrev pub is_contradicted : Bool → Option Answer → Bool
+is_contradicted done (Some (answers.Edit (edit_ends.Done number))) = not done
+is_contradicted done (Some (answers.Edit (edit_ends.Overtaken number by))) = done
+is_contradicted done _ = false
+
+-- the edit that was asked for is reported otherwise than it was answered
+abbrev pub is_told_otherwise : Option Asked → Option (Result RecoveryEnd Refusal) → Option Answer → Bool
+is_told_otherwise (Some asked) told answer = is_contradicted (is_done asked told) answer
+is_told_otherwise None told answer = false
+
+-- what is wrong with what a process was answered, and with its report, if something is
+abbrev pub process_flaw : Judge → OutcomeEnding → ℕ → Option Flaw
+process_flaw judge ending p =
+    if is_refused (told_at ending p) then Some (flaw.Refused p)
+    else (if is_told_twice (answer_at ending p) (told_at ending p) then Some (flaw.ToldTwice p)
+    else (if is_overtaken_by_none judge ending (answer_at ending p) then Some (flaw.OvertakenByNone p)
+    else (if is_told_otherwise (edit_at judge p) (told_at ending p) (answer_at ending p) then Some (flaw.ToldOtherwise p)
+    else None)))
+
+-- ---- all that is wrong
+
+-- one flaw, or none
+abbrev pub listed : Option Flaw → List Flaw
+listed None = []
+listed (Some f) = f ∷ []
+
+-- the flaws of the numbers below n, in their order
+abbrev pub flaws_below : (ℕ → Option Flaw) → ℕ → List Flaw
+flaws_below f zero = []
+flaws_below f (suc n) = flaws_below f n ++ listed (f n)
+
+-- the settle leaves a cell that is not clean
+abbrev pub settle_flaw : SettleEnd → Option Flaw
+settle_flaw (Left zero) = None
+settle_flaw _ = Some flaw.NotClean
+
+-- the flaw is one of a cell's text, or of a cell's value
+abbrev pub IsOfText : Flaw → Type 0
+IsOfText (flaw.TextOfNone cell) = Unit {0}
+IsOfText _ = ⊥
+
+abbrev pub IsOfValue : Flaw → Type 0
+IsOfValue (flaw.ValueOfNone cell) = Unit {0}
+IsOfValue _ = ⊥
+
+-- the report is not settled; else these values of its are wrong
+abbrev pub report_flaws : Result ShowEnd Refusal → List Flaw → List Flaw
+report_flaws (Ok Settled) values = values
+report_flaws _ values = flaw.NotSettled ∷ []
+
+-- some more flaws of a kind stand after the others
+abbrev pub Adds : (Flaw → Type 0) → List Flaw → List Flaw → Type 0
+Adds P before after = (more : List Flaw) × All P more × (after ≡ before ++ more)
+
+-- what the judge finds: the flaws of each process, some of texts, those of the settle, and those of the report
+pub record IsJudged (judge : Judge) (ending : OutcomeEnding) (flaws : List Flaw) : Type 0 where
+  pub texts : List Flaw
+  pub of_texts : All IsOfText texts
+  pub values : List Flaw
+  pub of_values : All IsOfValue values
+  pub is : flaws ≡ ((flaws_below (process_flaw judge ending) (length ending.answers.items) ++ texts) ++ listed (settle_flaw ending.left)) ++ report_flaws ending.reported values
+
+-- the texts of answers
+abbrev pub texts_of : List (Vec ℕ) → List (List ℕ)
+texts_of texts = map (λ text. text.items) texts
+
+-- what was found is what was answered and reported of an order, as the judge finds it
+pub record IsFound (judge : Judge) (found : Finding) : Type 0 where
+  pub ending : OutcomeEnding
+  pub judged : IsJudged judge ending found.flaws.items
+  pub answered : AreAnswers ending.answers.items (texts_of found.answers.items)
+  pub told : TellsEnding ending found.tail.items
+  pub crashed : found.crashed ≡ ending.crashed
