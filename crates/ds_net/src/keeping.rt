@@ -42,7 +42,7 @@ struct KeptCount {
 }
 
 /// That all edits are kept of which the keeper had heard at some moment: what a session has to say after that moment may
-/// leave. Only `Keeping` makes one, where so many are kept.
+/// leave. Only `Keeping` makes one, where as many are kept.
 #[derive(Drop)]
 pub struct AllKept {
     heard: u64,
@@ -68,7 +68,7 @@ impl KeptCount {
         Some(())
     }
 
-    // The permit for what is said after so many were heard, if they are kept.
+    // The permit for what is said after this number of edits was heard of, if they are kept.
     fn permit(&self, heard: u64) -> Option<AllKept>
         ensures { IfSome result (λ permit. (permit.heard ≡ heard) × (permit.kept ≡ self.now.count)) }
     {
@@ -116,18 +116,18 @@ impl Backlog {
         self.edits.reserve(1)
     }
 
-    /// The keeper hears of an edit that was answered Done, which stands then in this history of what it was told, too.
+    /// The keeper hears of an edit that was answered Done, which stands then in this history of what it has heard, too.
     /// Where there is no room for it nothing is kept any more.
-    pub(crate) fn hear(&mut self, told: &mut Log<usize, AnsweredEdit>, edit: AnsweredEdit)
-        ensures { told.new.items ≡ told.old.items ++ (edit.process, edit) ∷ [] }
+    pub(crate) fn hear(&mut self, heard: &mut Log<usize, AnsweredEdit>, edit: AnsweredEdit)
+        ensures { heard.new.items ≡ heard.old.items ++ (edit.process, edit) ∷ [] }
     {
-        *told = told.and(&edit.process, &edit);
-        let Some(heard) = self.heard.checked_add(1) else {
+        *heard = heard.and(&edit.process, &edit);
+        let Some(count) = self.heard.checked_add(1) else {
             self.phase = Phase::Failed;
             return;
         };
         match self.edits.push(edit) {
-            Ok(()) => self.heard = heard,
+            Ok(()) => self.heard = count,
             Err(_) => self.phase = Phase::Failed,
         }
     }

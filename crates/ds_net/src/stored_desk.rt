@@ -18,21 +18,21 @@ use std::sync::Wait;
 use std::time::Clock;
 
 /// What one session sees of a shared sheet with a store: what it sees of the sheet, what is shared with the keeper of the
-/// store, and, for proofs alone, each edit of which the keeper was told.
+/// store, and, for proofs alone, each edit of which the keeper has heard.
 #[derive(Drop)]
 pub struct StoredDesk<'a, R: Wait + Clock> {
     shared: SharedDesk<'a, R>,
     keeping: &'a Keeping,
-    told: Log<usize, AnsweredEdit>,
+    heard: Log<usize, AnsweredEdit>,
 }
 
 impl<'a, R: Wait + Clock> StoredDesk<'a, R> {
-    /// Over this desk of the sheet, before the keeper was told of an edit.
+    /// Over this desk of the sheet, before the keeper has heard of an edit.
     pub fn new(shared: SharedDesk<'a, R>, keeping: &'a Keeping) -> StoredDesk<'a, R> {
         StoredDesk {
             shared,
             keeping,
-            told: Log::new(),
+            heard: Log::new(),
         }
     }
 }
@@ -43,12 +43,12 @@ fn edited_in_turn<R: Wait>(
     rt: &R,
     alloc: Global,
     keeping: &Keeping,
-    told: &mut Log<usize, AnsweredEdit>,
+    heard: &mut Log<usize, AnsweredEdit>,
     seat: &mut Seat,
     cell: Cell,
     text: &[u8],
 ) -> Result<EditEnd, CallRefusal>
-    ensures { StoredSet seat.old told.old.items cell text.now (set_view result) (Some seat.new) told.new.items }
+    ensures { StoredSet seat.old heard.old.items cell text.now (set_view result) (Some seat.new) heard.new.items }
 {
     let Ok(copy) = Vec::from_slice(alloc, text) else {
         return Err(CallRefusal::NoMemory);
@@ -66,7 +66,7 @@ fn edited_in_turn<R: Wait>(
                 cell,
                 text: copy,
             };
-            backlog.hear(told, edit);
+            backlog.hear(heard, edit);
             keeping.wake();
             Ok(EditEnd::Done(number))
         }
@@ -74,7 +74,7 @@ fn edited_in_turn<R: Wait>(
     }
 }
 
-/// As the shared sheet's desk; and the keeper of the store is told of each edit that is answered Done, of no other, and in
+/// As the shared sheet's desk; and the keeper of the store hears of each edit that is answered Done, of no other, and in
 /// the order in which they count.
 impl<'a, R: Wait + Clock> Desk for StoredDesk<'a, R> {
     ghost use Rattle.ds_net.specs.SharedDesks.{IsSeatAt};
@@ -85,7 +85,7 @@ impl<'a, R: Wait + Clock> Desk for StoredDesk<'a, R> {
       shape = λ d. d.shared.shape;
       processes = λ d. length d.shared.queues.now;
       sits = λ d p. IsSeatAt d.shared.seat p;
-      does = λ old call said new. StoredDeals old.shared.seat old.told.items call said new.shared.seat new.told.items;
+      does = λ old call said new. StoredDeals old.shared.seat old.heard.items call said new.shared.seat new.heard.items;
     } };
 
     fn shape(&self) -> Shape {
@@ -111,7 +111,7 @@ impl<'a, R: Wait + Clock> Desk for StoredDesk<'a, R> {
         let Some(seat) = &mut self.shared.seat else {
             return Err(CallRefusal::ProcessTaken);
         };
-        let end = edited_in_turn(rt, alloc, keeping, &mut self.told, seat, cell, text);
+        let end = edited_in_turn(rt, alloc, keeping, &mut self.heard, seat, cell, text);
         self.shared.noted(alloc, cell, text, &end);
         end
     }

@@ -5,7 +5,7 @@ ghost use Rattle.ds_store_journal.specs.Journals.{AreCounts, KeptEdit, edits_by}
 
 use std::alloc::{AllocError, Global};
 
-/// How many edits of each process a journal has. So many are before the next one of the process: that is its number.
+/// How many edits of each process a journal has. The number of the next one of a process is how many are before it.
 #[derive(Drop)]
 pub struct EditCounts {
     counts: Vec<usize>,
