@@ -119,7 +119,7 @@ def kill_clients(server, begun):
 
 
 def trickle(server):
-    """A client that is told to leave, and goes on."""
+    """A client that is sent away, and goes on."""
     try:
         with server.connect() as client:
             client.sendall(b"GET / HTTP/1.0\r\n")

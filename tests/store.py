@@ -273,7 +273,7 @@ def check_files(program, folder, store):
 
 
 def check_sums(program, folder, store, flips, draw):
-    """Lines that were changed, and bits of the file that were flipped, are told."""
+    """Lines that were changed, and bits of the file that were flipped, are reported."""
     whole = run(program, "export", store).stdout
     changed = os.path.join(folder, "changed.db")
     for name, change, words in (

@@ -7,7 +7,7 @@ use Rattle.ds_formula.specs.Bytes.{Read, ◌>>=◌, unexpected_stop, number_from
 use Rattle.ds_formula.specs.References.{without_dollar, letters_from, letters_at, row_at, cell_of, corner_at}
 use Rattle.ds_formula.specs.declared.tokens.Stop.{Stop}
 use Rattle.ds_formula.proofs.Formed.{either, bind_with}
-use Rattle.ds_a1.specs.Tokens.{are_digits, is_row, behind_letters, is_column_and_row, is_cell}
+use Rattle.ds_a1.specs.Tokens.{are_digits, is_row, after_letters, is_column_and_row, is_cell}
 use Rattle.ds_a1.proofs.Solids.{is_solid, are_solid, both, differs}
 
 -- the text is these bytes and the rest
@@ -161,11 +161,11 @@ dollar_of (b ∷ bs) = by_test (eqb b 36) refl where
       with_one (ap (λ (x : ℕ). x ∷ bs) is ∙ ap (λ (t : List ℕ). 36 ∷ t) (sym one))
   by_test false e = without (ap (λ (t : Bool). cond t bs (b ∷ bs)) e)
 
-pub letters_pass : (ls rest : List ℕ) → are_letters ls ≡ true → behind_letters rest ≡ rest → behind_letters (ls ++ rest) ≡ rest
+pub letters_pass : (ls rest : List ℕ) → are_letters ls ≡ true → after_letters rest ≡ rest → after_letters (ls ++ rest) ≡ rest
 letters_pass [] rest e h = h
 letters_pass (l ∷ ls) rest e h =
     let k = both (is_ascii_alphabetic l) (are_letters ls) e in
-    ap (λ (t : Bool). cond t (behind_letters (ls ++ rest)) (l ∷ (ls ++ rest))) k.0 ∙ letters_pass ls rest k.1 h
+    ap (λ (t : Bool). cond t (after_letters (ls ++ rest)) (l ∷ (ls ++ rest))) k.0 ∙ letters_pass ls rest k.1 h
 
 pub digit_no_letter : (b : ℕ) → is_ascii_digit b ≡ true → is_ascii_alphabetic b ≡ false
 digit_no_letter b e =
@@ -182,14 +182,14 @@ pub record HasEnd (text rest : List ℕ) : Type 0 where
   pub bytes : List ℕ
   pub is : text ≡ bytes ++ rest
   pub row : is_row (without_dollar bytes) ≡ true
-  pub no_letter : behind_letters bytes ≡ bytes
+  pub no_letter : after_letters bytes ≡ bytes
   pub solid : are_solid bytes ≡ true
 
-row_starts : (ds : List ℕ) → is_row ds ≡ true → behind_letters ds ≡ ds
+row_starts : (ds : List ℕ) → is_row ds ≡ true → after_letters ds ≡ ds
 row_starts [] e = refl
 row_starts (d ∷ ds) e =
     let h = both (leb 49 d && leb d 57) (are_digits ds) e in
-    ap (λ (t : Bool). cond t (behind_letters ds) (d ∷ ds)) (digit_no_letter d (first_digit d h.0))
+    ap (λ (t : Bool). cond t (after_letters ds) (d ∷ ds)) (digit_no_letter d (first_digit d h.0))
 
 pub no_dollar : (b : ℕ) (bs : List ℕ) → eqb b 36 ≡ false → without_dollar (b ∷ bs) ≡ b ∷ bs
 no_dollar b bs e = ap (λ (t : Bool). cond t bs (b ∷ bs)) e
@@ -218,7 +218,7 @@ name_of : (text mid rest : List ℕ) → HasColumn text mid → HasEnd mid rest 
 name_of text mid rest c e = (
   c.first ∷ (c.others ++ e.bytes),
   c.is ∙ ap (λ (t : List ℕ). c.first ∷ (c.others ++ t)) e.is ∙ ap (λ (t : List ℕ). c.first ∷ t) (sym (append_assoc c.others e.bytes rest)),
-  ap (λ (t : Bool). t && is_row (without_dollar (behind_letters (c.others ++ e.bytes)))) c.letter ∙ ap (λ (t : List ℕ). is_row (without_dollar t)) (letters_pass c.others e.bytes c.letters e.no_letter) ∙ e.row,
+  ap (λ (t : Bool). t && is_row (without_dollar (after_letters (c.others ++ e.bytes)))) c.letter ∙ ap (λ (t : List ℕ). is_row (without_dollar t)) (letters_pass c.others e.bytes c.letters e.no_letter) ∙ e.row,
   ap (λ (t : Bool). t && are_solid (c.others ++ e.bytes)) (letter_solid c.first c.letter) ∙ solids_join c.others e.bytes (letters_solid c.others c.letters) e.solid,
   no_dollar c.first (c.others ++ e.bytes) (differs is_ascii_alphabetic c.first 36 c.letter refl),
 )

@@ -29,7 +29,7 @@ use Rattle.ds_formula.specs.Forms.{Expression}
 use Rattle.ds_formula.specs.Grammar.{without_equals, expression_of}
 use Rattle.ds_formula.proofs.Walks.{level_walk}
 use Rattle.ds_formula.proofs.Formed.{either, bind_with}
-use Rattle.ds_a1.specs.Tokens.{Token, Word, Mark, is_word_byte, tokens, is_cell, begins_mark, begins_reference, goes_on, are_digits, is_row, behind_letters, is_column_and_row}
+use Rattle.ds_a1.specs.Tokens.{Token, Word, Mark, is_word_byte, tokens, is_cell, begins_mark, begins_reference, goes_on, are_digits, is_row, after_letters, is_column_and_row}
 use Rattle.std.specs.List.{position, position_or_len}
 use Rattle.ds_formula.specs.declared.fault.FaultKind.TheVariants.{TooLong}
 use Rattle.ds_formula.specs.Plain.{PlainContent}
@@ -208,7 +208,7 @@ no_cell_digit : (d : ℕ) (ds : List ℕ) → is_ascii_digit d ≡ true → is_c
 unfolding is_cell
 no_cell_digit d ds e =
     let dollar : without_dollar (d ∷ ds) ≡ d ∷ ds = no_dollar d ds (differs is_ascii_digit d 36 e refl) in
-    ap is_column_and_row dollar ∙ ap (λ (t : Bool). t && is_row (without_dollar (behind_letters ds))) (digit_no_letter d e)
+    ap is_column_and_row dollar ∙ ap (λ (t : Bool). t && is_row (without_dollar (after_letters ds))) (digit_no_letter d e)
 
 number_good : (d : ℕ) (bs rest : List ℕ) → is_ascii_digit d ≡ true → HasDigits bs rest → Ended rest → Good (d ∷ bs)
 number_good d bs rest e h k =
@@ -353,8 +353,8 @@ unfolding is_cell
 no_cell_letters b w e =
     let h = both (is_ascii_alphabetic b) (are_letters w) e in
     let dollar : without_dollar (b ∷ w) ≡ b ∷ w = no_dollar b w (differs is_ascii_alphabetic b 36 h.0 refl) in
-    let none : behind_letters w ≡ [] = ap behind_letters (sym (append-nil w)) ∙ letters_pass w [] h.1 refl in
-    ap is_column_and_row dollar ∙ ap (λ (t : Bool). t && is_row (without_dollar (behind_letters w))) h.0 ∙ ap (λ (t : List ℕ). is_row (without_dollar t)) none
+    let none : after_letters w ≡ [] = ap after_letters (sym (append-nil w)) ∙ letters_pass w [] h.1 refl in
+    ap is_column_and_row dollar ∙ ap (λ (t : Bool). t && is_row (without_dollar (after_letters w))) h.0 ∙ ap (λ (t : List ℕ). is_row (without_dollar t)) none
 
 name_good : (w rest : List ℕ) → are_letters w ≡ true → Named rest → Good (w ++ rest)
 name_good [] rest e h = h.good

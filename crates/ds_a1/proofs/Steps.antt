@@ -72,7 +72,7 @@ mark_begins m (b ∷ bs) e = by_test (is_word_byte b) refl where
   by_test true w = ap (begins_mark m) (letter_front b bs w) ∙ word_is_no_mark m b (tokens bs) ∙ other w (eqb b m) refl
   by_test false w = ap (begins_mark m) (mark_front b bs w)
 
--- whether a reference is at the front, by its word and what is behind it
+-- whether a reference is at the front, by its word and what is after it
 pub reference_front : (text : List ℕ) (n : ℕ) → n ≡ word_length text → begins_reference (tokens text) ≡ (is_cell (take n text) && not (begins 40 (drop n text)))
 unfolding is_cell
 reference_front text zero e = no_reference text (sym e)
@@ -138,7 +138,7 @@ pub some_word : (text : List ℕ) (n : ℕ) → n ≡ word_length text → begin
 some_word text zero e h = let k = no_reference text (sym e) in cc
 some_word text (suc n) e h = omega arith
 
--- ---- the same behind what is there already, where a text is cut behind its word or its mark
+-- ---- the same after what is there already, where a text is cut after its word or its mark
 
 pub mark_next : (items all rest : List ℕ) (second : Bool) (d : ℕ) → 0 < length rest → 0 ≡ word_length rest → items ++ opened second (tokens rest) ≡ all
     → (items ++ opened_mark (get_or rest 0 d) ∷ []) ++ opened second (tokens (drop 1 rest)) ≡ all

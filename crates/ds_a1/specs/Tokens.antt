@@ -35,14 +35,14 @@ is_row [] = false
 is_row (b ∷ bs) = nat_le 49 b && nat_le b 57 && are_digits bs
 
 -- what is after the letters at the front
-abbrev pub behind_letters : List ℕ → List ℕ
-behind_letters [] = []
-behind_letters (b ∷ bs) = if is_ascii_alphabetic b then behind_letters bs else b ∷ bs
+abbrev pub after_letters : List ℕ → List ℕ
+after_letters [] = []
+after_letters (b ∷ bs) = if is_ascii_alphabetic b then after_letters bs else b ∷ bs
 
 -- whether this is a column and a row: letters, at least one, and a number, with a `$` before it or without
 abbrev pub is_column_and_row : List ℕ → Bool
 is_column_and_row [] = false
-is_column_and_row (b ∷ bs) = is_ascii_alphabetic b && is_row (without_dollar (behind_letters bs))
+is_column_and_row (b ∷ bs) = is_ascii_alphabetic b && is_row (without_dollar (after_letters bs))
 
 -- whether a word is the name of a cell, as A1 or $A$1
 unfoldable pub is_cell : List ℕ → Bool

@@ -50,9 +50,9 @@ fn opened(alloc: Global, text: &[u8]) -> Result<Vec<u8>, AllocError>
     let mut second = false;
     while !rest.is_empty() {
         let length = word_length(rest);
-        let (token, behind) = rest.split_at(length.max(1));
+        let (token, left) = rest.split_at(length.max(1));
         if begins_reference(rest) {
-            let ranged = goes_on(behind);
+            let ranged = goes_on(left);
             put_reference(&mut open, token, second, ranged)?;
             second = ranged;
         } else if length > 0 {
@@ -61,7 +61,7 @@ fn opened(alloc: Global, text: &[u8]) -> Result<Vec<u8>, AllocError>
         } else {
             open.push(opened_mark(rest[0]))?;
         }
-        rest = behind;
+        rest = left;
     }
     Ok(open)
 }
@@ -145,11 +145,11 @@ fn bare(alloc: Global, text: &[u8]) -> Result<Vec<u8>, AllocError>
 {
     let mut shown = Vec::new(alloc);
     let mut rest = text;
-    while let [byte, behind @ ..] = rest {
+    while let [byte, left @ ..] = rest {
         if stays(*byte) {
             shown.push(if *byte == b';' { b',' } else { *byte })?;
         }
-        rest = behind;
+        rest = left;
     }
     Ok(shown)
 }

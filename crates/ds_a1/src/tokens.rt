@@ -3,7 +3,7 @@
 ghost use Rattle.std.specs.Prelude.{◌≡◌, ◌≤◌, length};
 ghost use Rattle.ds_formula.specs.Bytes.{begins};
 ghost use Rattle.ds_formula.specs.References.{without_dollar};
-ghost use Rattle.ds_a1.specs.Tokens.{are_digits, begins_reference, behind_letters, goes_on, is_cell, is_column_and_row, is_row, is_word_byte, tokens};
+ghost use Rattle.ds_a1.specs.Tokens.{are_digits, begins_reference, after_letters, goes_on, is_cell, is_column_and_row, is_row, is_word_byte, tokens};
 ghost use Rattle.ds_a1.specs.Words.{word_length};
 
 fn is_word_byte(byte: u8) -> bool
@@ -42,8 +42,8 @@ fn without_dollar(text: &[u8]) -> &[u8]
 }
 
 // What is after the letters at the front.
-fn behind_letters(text: &[u8]) -> &[u8]
-    ensures { result.now ≡ behind_letters text.now }
+fn after_letters(text: &[u8]) -> &[u8]
+    ensures { result.now ≡ after_letters text.now }
 {
     let mut rest = text;
     while let [byte, after @ ..] = rest
@@ -81,7 +81,7 @@ fn is_column_and_row(text: &[u8]) -> bool
 {
     match text {
         [first, rest @ ..] => {
-            first.is_ascii_alphabetic() && is_row(without_dollar(behind_letters(rest)))
+            first.is_ascii_alphabetic() && is_row(without_dollar(after_letters(rest)))
         }
         [] => false,
     }
@@ -108,8 +108,8 @@ fn begins_mark(byte: u8, text: &[u8]) -> bool
 pub fn begins_reference(text: &[u8]) -> bool
     ensures { result ≡ begins_reference (tokens text.now) }
 {
-    let (word, behind) = text.split_at(word_length(text));
-    is_cell(word) && !begins_mark(b'(', behind)
+    let (word, left) = text.split_at(word_length(text));
+    is_cell(word) && !begins_mark(b'(', left)
 }
 
 /// Whether a reference goes on as a range: a colon is at the front, and another reference after it.
@@ -119,6 +119,6 @@ pub(crate) fn goes_on(text: &[u8]) -> bool
     if !begins_mark(b':', text) {
         return false;
     }
-    let (_, behind) = text.split_at(1);
-    begins_reference(behind)
+    let (_, left) = text.split_at(1);
+    begins_reference(left)
 }

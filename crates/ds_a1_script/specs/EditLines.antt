@@ -8,9 +8,9 @@ use Rattle.ds_a1_script.specs.declared.lines.Commands.{Commands}
 use Rattle.ds_a1_script.specs.declared.lines.Commands.TheVariants.{OfScript, OfClient}
 
 -- what is after the first of these words, where there is a space
-abbrev pub behind_word : Option (List ℕ) → Option (List ℕ)
-behind_word None = None
-behind_word (Some words) = (word_of words).1
+abbrev pub after_word : Option (List ℕ) → Option (List ℕ)
+after_word None = None
+after_word (Some words) = (word_of words).1
 
 -- whether the first of these words is this one
 abbrev pub begins_word : List ℕ → Option (List ℕ) → Bool
@@ -20,14 +20,14 @@ begins_word name (Some words) = bytes_eq (word_of words).0 name
 -- the text in a line of a script, `set P C TEXT` or `begin P set C TEXT`
 abbrev pub script_text : List ℕ → Option (List ℕ)
 script_text line =
-    if begins_word (codes "set") (Some line) then behind_word (behind_word (behind_word (Some line)))
-    else (if begins_word (codes "begin") (Some line) && begins_word (codes "set") (behind_word (behind_word (Some line)))
-    then behind_word (behind_word (behind_word (behind_word (Some line))))
+    if begins_word (codes "set") (Some line) then after_word (after_word (after_word (Some line)))
+    else (if begins_word (codes "begin") (Some line) && begins_word (codes "set") (after_word (after_word (Some line)))
+    then after_word (after_word (after_word (after_word (Some line))))
     else None)
 
 -- the text in a line of a client, `set C TEXT`
 abbrev pub client_text : List ℕ → Option (List ℕ)
-client_text line = if begins_word (codes "set") (Some line) then behind_word (behind_word (Some line)) else None
+client_text line = if begins_word (codes "set") (Some line) then after_word (after_word (Some line)) else None
 
 -- the text in a line of these commands; none where it is none that edits, or ends before its text
 abbrev pub line_text : Commands → List ℕ → Option (List ℕ)

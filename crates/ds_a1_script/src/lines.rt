@@ -1,7 +1,7 @@
 //! Lines that edit a cell, and their texts.
 
 ghost use Rattle.std.specs.Prelude.{◌≡◌, option_map};
-ghost use Rattle.ds_a1_script.specs.EditLines.{begins_word, behind_word, client_text, line_text, script_text};
+ghost use Rattle.ds_a1_script.specs.EditLines.{begins_word, after_word, client_text, line_text, script_text};
 
 use ds_script_io::line::word;
 
@@ -15,11 +15,11 @@ pub enum Commands {
 }
 
 // What is after the first word.
-fn behind_word(words: Option<&[u8]>) -> Option<&[u8]>
-    ensures { option_map (λ w. w.now) result ≡ behind_word (option_map (λ w. w.now) words.entry) }
+fn after_word(words: Option<&[u8]>) -> Option<&[u8]>
+    ensures { option_map (λ w. w.now) result ≡ after_word (option_map (λ w. w.now) words.entry) }
 {
-    let (_, behind) = word(words?);
-    behind
+    let (_, left) = word(words?);
+    left
 }
 
 // Whether the first word is this one.
@@ -35,12 +35,12 @@ fn begins_word(name: &[u8], words: Option<&[u8]>) -> bool
 fn script_text(line: &[u8]) -> Option<&[u8]>
     ensures { option_map (λ t. t.now) result ≡ script_text line.now }
 {
-    let second = behind_word(Some(line));
-    let third = behind_word(second);
+    let second = after_word(Some(line));
+    let third = after_word(second);
     if begins_word(b"set", Some(line)) {
-        behind_word(third)
+        after_word(third)
     } else if begins_word(b"begin", Some(line)) && begins_word(b"set", third) {
-        behind_word(behind_word(third))
+        after_word(after_word(third))
     } else {
         None
     }
@@ -50,7 +50,7 @@ fn client_text(line: &[u8]) -> Option<&[u8]>
     ensures { option_map (λ t. t.now) result ≡ client_text line.now }
 {
     if begins_word(b"set", Some(line)) {
-        behind_word(behind_word(Some(line)))
+        after_word(after_word(Some(line)))
     } else {
         None
     }

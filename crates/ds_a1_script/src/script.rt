@@ -56,11 +56,11 @@ pub fn open_script(alloc: Global, script: &[u8]) -> Result<OpenScript, AllocErro
     let mut lines = 0;
     'lines: loop {
         match next_line(rest, true) {
-            NextLine::Line(line, behind) => match open_line(alloc, Commands::OfScript, line) {
+            NextLine::Line(line, left) => match open_line(alloc, Commands::OfScript, line) {
                 Ok(open) => {
                     add_line(&mut text, &open)?;
                     lines += 1;
-                    rest = behind;
+                    rest = left;
                 }
                 Err(fault) => match fault.kind {
                     FaultKind::NoMemory => return Err(AllocError),

@@ -119,7 +119,7 @@ Places (N is one of the edits of P, from 0; PART is from 0):
 A text is empty, a whole number or a formula, as =[.A1]*2 or =SUM([.A1:.B3];7):
 a reference is [.A1], a range [.A1:.B3], and ; parts arguments. With --a1 they are written as in
 Calc and Excel, =A1*2 or =SUM(A1:B3,7): brackets, and a text over 240 bytes with them, end the
-script at their line, which is named; what else is refused is told by its byte in the text with brackets.
+script at their line, which is named; what else is refused is named by its byte in the text with brackets.
 Functions: SUM MIN MAX COUNT AND OR of one argument or more, ranges among them;
 ABS and NOT of one; MOD and QUOTIENT of two; IF of two or three.
 Limits: 26 columns, 64 rows, 1024 cells; 8 processes, 256 edits of each;

@@ -59,12 +59,12 @@ answers_more given texts p answer text given' texts' are count is e f =
     (one_answer_more given (texts_of texts) answer text.items are (subst (λ (n : ℕ). IsAnswerText n answer text.items) (sym count) is)))
 
 -- one recovery more
-pub recoveries_more : (told : List (Result RecoveryEnd Refusal)) (text line : List ℕ) (p : ℕ) (w : WorldValue) (came : Result RecoveryEnd Refusal) (told' : List (Result RecoveryEnd Refusal)) (text' : List ℕ)
-    → AreRecoveries told text → length told ≡ p → line ≡ reply_text w p (replied recoveries came) → told' ≡ told ++ came ∷ [] → text' ≡ text ++ line → AreRecoveries told' text'
-recoveries_more told text line p w came told' text' are count is e f =
+pub recoveries_more : (resolved : List (Result RecoveryEnd Refusal)) (text line : List ℕ) (p : ℕ) (w : WorldValue) (came : Result RecoveryEnd Refusal) (resolved' : List (Result RecoveryEnd Refusal)) (text' : List ℕ)
+    → AreRecoveries resolved text → length resolved ≡ p → line ≡ reply_text w p (replied recoveries came) → resolved' ≡ resolved ++ came ∷ [] → text' ≡ text ++ line → AreRecoveries resolved' text'
+recoveries_more resolved text line p w came resolved' text' are count is e f =
     subst (λ (t : List (Result RecoveryEnd Refusal)). AreRecoveries t text') (sym e)
-    (subst (λ (t : List ℕ). AreRecoveries (told ++ came ∷ []) t) (sym (f ∙ ap (λ (l : List ℕ). text ++ l) (is ∙ ap (λ (n : ℕ). reply_text w n (replied recoveries came)) (sym count))))
-    (one_recovery_more told text w came are))
+    (subst (λ (t : List ℕ). AreRecoveries (resolved ++ came ∷ []) t) (sym (f ∙ ap (λ (l : List ℕ). text ++ l) (is ∙ ap (λ (n : ℕ). reply_text w n (replied recoveries came)) (sym count))))
+    (one_recovery_more resolved text w came are))
 
 -- a list of one more is one longer
 pub longer : {X : Type 0} (xs ys : List X) (x : X) (n : ℕ) → length xs ≡ n → ys ≡ xs ++ x ∷ [] → length ys ≡ n + 1
@@ -75,8 +75,8 @@ pub answers_none : (given : List (Option Answer)) (texts : List (Vec ℕ)) → g
 answers_none given texts e f = subst (λ (g : List (Option Answer)). AreAnswers g (texts_of texts)) (sym e) (subst (λ (t : List (Vec ℕ)). AreAnswers [] (texts_of t)) (sym f) no_answer)
 
 -- no recoveries
-pub recoveries_none : (told : List (Result RecoveryEnd Refusal)) (text : List ℕ) → told ≡ [] → text ≡ [] → AreRecoveries told text
-recoveries_none told text e f = subst (λ (g : List (Result RecoveryEnd Refusal)). AreRecoveries g text) (sym e) (subst (λ (t : List ℕ). AreRecoveries [] t) (sym f) no_recovery)
+pub recoveries_none : (resolved : List (Result RecoveryEnd Refusal)) (text : List ℕ) → resolved ≡ [] → text ≡ [] → AreRecoveries resolved text
+recoveries_none resolved text e f = subst (λ (g : List (Result RecoveryEnd Refusal)). AreRecoveries g text) (sym e) (subst (λ (t : List ℕ). AreRecoveries [] t) (sym f) no_recovery)
 
 -- the text of what was answered
 pub told_so : {E : Type 0} (result : Result (Vec ℕ) E) (w : WorldValue) (p : ℕ) (given : Option Answer) (answer : Answer) → given ≡ Some answer → IfOk result (λ text. text.items ≡ reply_text w p (Answered answer))

@@ -36,16 +36,16 @@ replied kind (Err why) = replies.Refused why
 -- the text is what the recoveries reported, one after the other: that of process 0 first
 pub data AreRecoveries : List (Result RecoveryEnd Refusal) → List ℕ → Type 0 where
   no_recovery : AreRecoveries [] []
-  one_recovery_more : (told : List (Result RecoveryEnd Refusal)) (text : List ℕ) (w : WorldValue) (came : Result RecoveryEnd Refusal)
-      → AreRecoveries told text → AreRecoveries (told ++ came ∷ []) (text ++ reply_text w (length told) (replied recoveries came))
+  one_recovery_more : (resolved : List (Result RecoveryEnd Refusal)) (text : List ℕ) (w : WorldValue) (came : Result RecoveryEnd Refusal)
+      → AreRecoveries resolved text → AreRecoveries (resolved ++ came ∷ []) (text ++ reply_text w (length resolved) (replied recoveries came))
 
 -- the text is what was reported after an order: by the recoveries, the settle and the report
-pub record TellsEnding (ending : OutcomeEnding) (text : List ℕ) : Type 0 where
-  pub told : List ℕ
-  pub recovered : AreRecoveries ending.told.items told
+pub record ReportsEnding (ending : OutcomeEnding) (text : List ℕ) : Type 0 where
+  pub resolved : List ℕ
+  pub recovered : AreRecoveries ending.resolved.items resolved
   pub settled : WorldValue
   pub reported : WorldValue
-  pub is : text ≡ told ++ (end_text settled 0 ending.left ++ reply_text reported 0 (replied reports ending.reported))
+  pub is : text ≡ resolved ++ (end_text settled 0 ending.left ++ reply_text reported 0 (replied reports ending.reported))
 
 -- the text is that of what the process's call was answered, if it was
 abbrev pub IsAnswerText : ℕ → Option Answer → List ℕ → Type 0
@@ -64,7 +64,7 @@ IsPart text part = (n : ℕ) × (starts_with nat_eq (drop n text) part ≡ true)
 
 -- what a script is answered has each of these answers, and ends so
 abbrev pub Answers : List ℕ → List (List ℕ) → List ℕ → Type 0
-Answers told texts tail = All (IsPart told) texts × (ends_with nat_eq told tail ≡ true)
+Answers answered texts tail = All (IsPart answered) texts × (ends_with nat_eq answered tail ≡ true)
 
 -- ---- an edit that was asked for
 
@@ -73,37 +73,40 @@ abbrev pub edit_by : Option (Option Asked) → Option Asked
 edit_by (Some (Some asked)) = Some asked
 edit_by _ = None
 
+-- the edit that the judge knows to be asked of the process, if one was
 abbrev pub edit_at : Judge → ℕ → Option Asked
 edit_at judge p = edit_by (slice_get judge.asked.items p)
 
 -- what the recovery of the process came to
-abbrev pub told_at : OutcomeEnding → ℕ → Option (Result RecoveryEnd Refusal)
-told_at ending p = slice_get ending.told.items p
+abbrev pub recovery_at : OutcomeEnding → ℕ → Option (Result RecoveryEnd Refusal)
+recovery_at ending p = slice_get ending.resolved.items p
 
 -- what the process's call was answered
 abbrev pub answer_by : Option (Option Answer) → Option Answer
 answer_by (Some answer) = answer
 answer_by None = None
 
+-- the same, of the process with this number, after an order
 abbrev pub answer_at : OutcomeEnding → ℕ → Option Answer
 answer_at ending p = answer_by (slice_get ending.answers.items p)
 
 -- a recovery reports this edit as done: this number of its process, in this cell
-abbrev pub is_told_done : Asked → LastEdit → Bool
-is_told_done asked told = ((told.number == asked.number) && (told.cell == asked.cell)) && told.counts
+abbrev pub is_reported_done : Asked → LastEdit → Bool
+is_reported_done asked resolved = ((resolved.number == asked.number) && (resolved.cell == asked.cell)) && resolved.counts
 
 -- the edit is done, by what the recovery of its process came to
 abbrev pub is_done : Asked → Option (Result RecoveryEnd Refusal) → Bool
-is_done asked (Some (Ok (Last told))) = is_told_done asked told
+is_done asked (Some (Ok (Last resolved))) = is_reported_done asked resolved
 is_done asked _ = false
 
 -- ---- what is wrong with the answer to a process
 
--- the recovery is refused
+-- the process has no recovery, or it is refused
 abbrev pub is_refused : Option (Result RecoveryEnd Refusal) → Bool
-is_refused (Some (Err why)) = true
-is_refused _ = false
+is_refused (Some (Ok end)) = false
+is_refused _ = true
 
+-- both are true, or neither is
 abbrev pub same_bool : Bool → Bool → Bool
 same_bool true b = b
 same_bool false b = not b
@@ -114,21 +117,21 @@ same_end Nothing Nothing = true
 same_end (Last a) (Last b) = ((a.number == b.number) && (a.cell == b.cell)) && same_bool a.counts b.counts
 same_end _ _ = false
 
--- the call was a recovery, and the next one tells otherwise
-abbrev pub is_told_twice : Option Answer → Option (Result RecoveryEnd Refusal) → Bool
-is_told_twice (Some (answers.Recovery end)) (Some (Ok again)) = not (same_end end again)
-is_told_twice (Some (answers.Recovery end)) _ = true
-is_told_twice _ _ = false
+-- the call was a recovery, and the next one reports otherwise
+abbrev pub is_reported_twice : Option Answer → Option (Result RecoveryEnd Refusal) → Bool
+is_reported_twice (Some (answers.Recovery end)) (Some (Ok again)) = not (same_end end again)
+is_reported_twice (Some (answers.Recovery end)) _ = true
+is_reported_twice _ _ = false
 
 -- this is the edit that was asked of its process, and it is not done
 abbrev pub is_undone : Option Asked → ℕ → Option (Result RecoveryEnd Refusal) → Bool
-is_undone (Some asked) number told = (asked.number == number) && not (is_done asked told)
-is_undone None number told = false
+is_undone (Some asked) number resolved = (asked.number == number) && not (is_done asked resolved)
+is_undone None number resolved = false
 
 -- the call was overtaken by an edit that is not done; a crash may have taken that one back
 abbrev pub is_overtaken_by_none : Judge → OutcomeEnding → Option Answer → Bool
 is_overtaken_by_none judge ending (Some (answers.Edit (edit_ends.Overtaken number by))) =
-    not ending.crashed && is_undone (edit_at judge by.process) by.number (told_at ending by.process)
+    not ending.crashed && is_undone (edit_at judge by.process) by.number (recovery_at ending by.process)
 is_overtaken_by_none judge ending _ = false
 
 -- the edit was answered otherwise than this, whether it is done
@@ -138,17 +141,17 @@ is_contradicted done (Some (answers.Edit (edit_ends.Overtaken number by))) = don
 is_contradicted done _ = false
 
 -- the edit that was asked for is reported otherwise than it was answered
-abbrev pub is_told_otherwise : Option Asked → Option (Result RecoveryEnd Refusal) → Option Answer → Bool
-is_told_otherwise (Some asked) told answer = is_contradicted (is_done asked told) answer
-is_told_otherwise None told answer = false
+abbrev pub is_reported_otherwise : Option Asked → Option (Result RecoveryEnd Refusal) → Option Answer → Bool
+is_reported_otherwise (Some asked) resolved answer = is_contradicted (is_done asked resolved) answer
+is_reported_otherwise None resolved answer = false
 
 -- what is wrong with what a process was answered, and with its report, if something is
 abbrev pub process_flaw : Judge → OutcomeEnding → ℕ → Option Flaw
 process_flaw judge ending p =
-    if is_refused (told_at ending p) then Some (flaw.Refused p)
-    else (if is_told_twice (answer_at ending p) (told_at ending p) then Some (flaw.ToldTwice p)
+    if is_refused (recovery_at ending p) then Some (flaw.Refused p)
+    else (if is_reported_twice (answer_at ending p) (recovery_at ending p) then Some (flaw.ToldTwice p)
     else (if is_overtaken_by_none judge ending (answer_at ending p) then Some (flaw.OvertakenByNone p)
-    else (if is_told_otherwise (edit_at judge p) (told_at ending p) (answer_at ending p) then Some (flaw.ToldOtherwise p)
+    else (if is_reported_otherwise (edit_at judge p) (recovery_at ending p) (answer_at ending p) then Some (flaw.ToldOtherwise p)
     else None)))
 
 -- ---- all that is wrong
@@ -168,11 +171,12 @@ abbrev pub settle_flaw : SettleEnd → Option Flaw
 settle_flaw (Left zero) = None
 settle_flaw _ = Some flaw.NotClean
 
--- the flaw is one of a cell's text, or of a cell's value
+-- the flaw is one of a cell's text
 abbrev pub IsOfText : Flaw → Type 0
 IsOfText (flaw.TextOfNone cell) = Unit {0}
 IsOfText _ = ⊥
 
+-- the flaw is one of a cell's value
 abbrev pub IsOfValue : Flaw → Type 0
 IsOfValue (flaw.ValueOfNone cell) = Unit {0}
 IsOfValue _ = ⊥
@@ -203,5 +207,5 @@ pub record IsFound (judge : Judge) (found : Finding) : Type 0 where
   pub ending : OutcomeEnding
   pub judged : IsJudged judge ending found.flaws.items
   pub answered : AreAnswers ending.answers.items (texts_of found.answers.items)
-  pub told : TellsEnding ending found.tail.items
+  pub resolved : ReportsEnding ending found.tail.items
   pub crashed : found.crashed ≡ ending.crashed

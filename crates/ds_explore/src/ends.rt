@@ -1,7 +1,7 @@
 //! What is reported after an order: every process recovers, process 0 settles and reports.
 
 ghost use Rattle.std.specs.Prelude.{◌≡◌, IfOk};
-ghost use Rattle.ds_explore.specs.Judging.{AreAnswers, AreRecoveries, IsAnswerText, TellsEnding, replied, texts_of};
+ghost use Rattle.ds_explore.specs.Judging.{AreAnswers, AreRecoveries, IsAnswerText, ReportsEnding, replied, texts_of};
 
 use ds_calls::call::{whole_recovery, whole_show};
 use ds_calls::settle::{SettleEnd, settle};
@@ -32,7 +32,7 @@ pub(crate) struct OutcomeEnding {
     /// What the call of each process was answered, if it was.
     pub(crate) answers: Vec<Option<Answer>>,
     /// How the recovery of each process ended.
-    pub(crate) told: Vec<Result<RecoveryEnd, Refusal>>,
+    pub(crate) resolved: Vec<Result<RecoveryEnd, Refusal>>,
     /// What the settle leaves.
     pub(crate) left: SettleEnd,
     /// How the report ended.
@@ -86,26 +86,26 @@ pub(crate) fn what_was_said(alloc: Global, position: &Position) -> Result<Said, 
 // What recoveries came to, and their texts.
 #[derive(Drop)]
 struct Recovered {
-    told: Vec<Result<RecoveryEnd, Refusal>>,
+    resolved: Vec<Result<RecoveryEnd, Refusal>>,
     text: Vec<u8>,
 }
 
 // Each process recovers, in their order.
 fn recover(alloc: Global, world: &mut World) -> Result<Recovered, AllocError>
-    ensures { IfOk result (λ recovered. AreRecoveries recovered.told.items recovered.text.items) }
+    ensures { IfOk result (λ recovered. AreRecoveries recovered.resolved.items recovered.text.items) }
 {
-    let mut told = Vec::new(alloc);
+    let mut resolved = Vec::new(alloc);
     let mut text = Vec::new(alloc);
     for process in 0..world.words.layout().processes {
         if process >= world.words.layout().processes {
-            return Ok(Recovered { told, text });
+            return Ok(Recovered { resolved, text });
         }
         let came = whole_recovery(alloc, world, process);
         let line = reply_bytes(alloc, world, process, replied(came))?;
         text.extend_from_slice(&line)?;
-        told.push(came)?;
+        resolved.push(came)?;
     }
-    Ok(Recovered { told, text })
+    Ok(Recovered { resolved, text })
 }
 
 /// Every process recovers, after a crash or not; then process 0 settles, and reports: what that came to, after these
@@ -116,11 +116,11 @@ pub(crate) fn end(
     answers: Vec<Option<Answer>>,
     crashed: bool,
 ) -> Result<(OutcomeEnding, Vec<u8>), AllocError>
-    ensures told { IfOk result (λ end. TellsEnding end.0 end.1.items) }
+    ensures reports { IfOk result (λ end. ReportsEnding end.0 end.1.items) }
     ensures answers { IfOk result (λ end. end.0.answers ≡ answers) }
     ensures crashed { IfOk result (λ end. end.0.crashed ≡ crashed) }
 {
-    let Recovered { told, mut text } = recover(alloc, world)?;
+    let Recovered { resolved, mut text } = recover(alloc, world)?;
     let left = settle(alloc, world, 0);
     let settled = end_bytes(alloc, world, 0, left)?;
     let reported = whole_show(alloc, world, 0);
@@ -129,7 +129,7 @@ pub(crate) fn end(
     text.extend_from_slice(&line)?;
     let ending = OutcomeEnding {
         answers,
-        told,
+        resolved,
         left,
         reported,
         crashed,

@@ -1,7 +1,7 @@
 //! Whether an outcome is one that may be.
 
 ghost use Rattle.std.specs.Prelude.{◌≡◌, ◌++◌, All, List, IfOk, IfSome, OnOk, length, option_copied};
-ghost use Rattle.ds_explore.specs.Judging.{Adds, IsJudged, IsOfText, IsOfValue, answer_at, edit_at, flaws_below, is_contradicted, is_done, is_overtaken_by_none, is_refused, is_told_done, is_told_otherwise, is_told_twice, is_undone, process_flaw, report_flaws, same_bool, same_end, settle_flaw, told_at};
+ghost use Rattle.ds_explore.specs.Judging.{Adds, IsJudged, IsOfText, IsOfValue, answer_at, edit_at, flaws_below, is_contradicted, is_done, is_overtaken_by_none, is_refused, is_reported_done, is_reported_otherwise, is_reported_twice, is_undone, process_flaw, report_flaws, same_bool, same_end, settle_flaw, recovery_at};
 ghost use Rattle.ds_explore.specs.declared.flaw.Flaw.{Flaw};
 
 use crate::ends::{OutcomeEnding, values};
@@ -80,17 +80,17 @@ fn all_asked(alloc: Global, world: &World) -> Result<Vec<Option<Asked>>, AllocEr
 }
 
 // Whether a recovery has reported that this edit of its process is done: of another edit, or of none, that it is not.
-fn is_told_done(asked: &Asked, told: LastEdit) -> bool
-    ensures { result ≡ is_told_done asked.now told }
+fn is_reported_done(asked: &Asked, resolved: LastEdit) -> bool
+    ensures { result ≡ is_reported_done asked.now resolved }
 {
-    told.number == asked.number && told.cell == asked.cell && told.counts
+    resolved.number == asked.number && resolved.cell == asked.cell && resolved.counts
 }
 
 // What the recovery of a process came to after the order.
-fn told_at(ending: &OutcomeEnding, process: usize) -> Option<Result<RecoveryEnd, Refusal>>
-    ensures { result ≡ told_at ending.now process }
+fn recovery_at(ending: &OutcomeEnding, process: usize) -> Option<Result<RecoveryEnd, Refusal>>
+    ensures { result ≡ recovery_at ending.now process }
 {
-    ending.told.get(process).copied()
+    ending.resolved.get(process).copied()
 }
 
 // What the call of a process was answered.
@@ -104,11 +104,11 @@ fn answer_at(ending: &OutcomeEnding, process: usize) -> Option<Answer>
 }
 
 // Whether an edit is done, by what the recovery of its process came to.
-fn is_done(asked: &Asked, told: Option<Result<RecoveryEnd, Refusal>>) -> bool
-    ensures { result ≡ is_done asked.now told }
+fn is_done(asked: &Asked, resolved: Option<Result<RecoveryEnd, Refusal>>) -> bool
+    ensures { result ≡ is_done asked.now resolved }
 {
-    match told {
-        Some(Ok(RecoveryEnd::Last(told))) => is_told_done(asked, told),
+    match resolved {
+        Some(Ok(RecoveryEnd::Last(resolved))) => is_reported_done(asked, resolved),
         _ => false,
     }
 }
@@ -143,9 +143,9 @@ fn same_bool(one: bool, other: bool) -> bool
     if one { other } else { !other }
 }
 
-// Whether a call was a recovery, and the next one tells otherwise.
-fn is_told_twice(answer: Option<Answer>, again: Option<Result<RecoveryEnd, Refusal>>) -> bool
-    ensures { result ≡ is_told_twice answer again }
+// Whether a call was a recovery, and the next one reports otherwise.
+fn is_reported_twice(answer: Option<Answer>, again: Option<Result<RecoveryEnd, Refusal>>) -> bool
+    ensures { result ≡ is_reported_twice answer again }
 {
     match (answer, again) {
         (Some(Answer::Recovery(end)), Some(Ok(again))) => !same_end(end, again),
@@ -154,13 +154,13 @@ fn is_told_twice(answer: Option<Answer>, again: Option<Result<RecoveryEnd, Refus
     }
 }
 
-// Whether a recovery is refused.
-fn is_refused(told: Option<Result<RecoveryEnd, Refusal>>) -> bool
-    ensures { result ≡ is_refused told }
+// Whether a recovery is refused, or there was none.
+fn is_refused(resolved: Option<Result<RecoveryEnd, Refusal>>) -> bool
+    ensures { result ≡ is_refused resolved }
 {
-    match told {
-        Some(Err(_)) => true,
-        _ => false,
+    match resolved {
+        Some(Ok(_)) => false,
+        _ => true,
     }
 }
 
@@ -168,26 +168,26 @@ fn is_refused(told: Option<Result<RecoveryEnd, Refusal>>) -> bool
 fn is_undone(
     asked: Option<&Asked>,
     number: usize,
-    told: Option<Result<RecoveryEnd, Refusal>>,
+    resolved: Option<Result<RecoveryEnd, Refusal>>,
 ) -> bool
-    ensures { result ≡ is_undone (option_copied asked.entry) number told }
+    ensures { result ≡ is_undone (option_copied asked.entry) number resolved }
 {
     match asked {
-        Some(asked) => asked.number == number && !is_done(asked, told),
+        Some(asked) => asked.number == number && !is_done(asked, resolved),
         None => false,
     }
 }
 
 // Whether an edit that was asked for is reported otherwise than it was answered.
-fn is_told_otherwise(
+fn is_reported_otherwise(
     asked: Option<&Asked>,
-    told: Option<Result<RecoveryEnd, Refusal>>,
+    resolved: Option<Result<RecoveryEnd, Refusal>>,
     answer: Option<Answer>,
 ) -> bool
-    ensures { result ≡ is_told_otherwise (option_copied asked.entry) told answer }
+    ensures { result ≡ is_reported_otherwise (option_copied asked.entry) resolved answer }
 {
     match asked {
-        Some(asked) => is_contradicted(is_done(asked, told), answer),
+        Some(asked) => is_contradicted(is_done(asked, resolved), answer),
         None => false,
     }
 }
@@ -235,7 +235,7 @@ impl Judge {
                     && is_undone(
                         self.edit(by.process),
                         by.number,
-                        told_at(ending, by.process),
+                        recovery_at(ending, by.process),
                     )
             }
             _ => false,
@@ -246,18 +246,18 @@ impl Judge {
     fn process_flaw(&self, ending: &OutcomeEnding, process: usize) -> Option<Flaw>
         ensures { result ≡ process_flaw self.now ending.now process }
     {
-        let told = told_at(ending, process);
+        let resolved = recovery_at(ending, process);
         let answer = answer_at(ending, process);
-        if is_refused(told) {
+        if is_refused(resolved) {
             return Some(Flaw::Refused(process));
         }
-        if is_told_twice(answer, told) {
+        if is_reported_twice(answer, resolved) {
             return Some(Flaw::ToldTwice(process));
         }
         if self.is_overtaken_by_none(ending, answer) {
             return Some(Flaw::OvertakenByNone(process));
         }
-        if is_told_otherwise(self.edit(process), told, answer) {
+        if is_reported_otherwise(self.edit(process), resolved, answer) {
             return Some(Flaw::ToldOtherwise(process));
         }
         None
@@ -280,7 +280,7 @@ impl Judge {
         let mut is_among = false;
         for (process, asked) in self.asked.iter().enumerate() {
             if let Some(asked) = asked {
-                if asked.cell == cell && is_done(asked, told_at(ending, process)) {
+                if asked.cell == cell && is_done(asked, recovery_at(ending, process)) {
                     count = count.saturating_add(1);
                     is_among = is_among || asked.text.as_slice() == text;
                 }

@@ -134,7 +134,7 @@ pub fn first_bare(alloc: Global, script: &[u8], lines: usize) -> Option<BareLine
     let mut rest = script;
     for number in 1..=script.len().min(lines) {
         match next_line(rest, true) {
-            NextLine::Line(line, behind) => {
+            NextLine::Line(line, left) => {
                 if let Some((fault, excerpt)) = bare_line(alloc, &shape, line) {
                     return Some(BareLine {
                         number,
@@ -142,7 +142,7 @@ pub fn first_bare(alloc: Global, script: &[u8], lines: usize) -> Option<BareLine
                         excerpt,
                     });
                 }
-                rest = behind;
+                rest = left;
             }
             NextLine::Nothing | NextLine::TooLong => return None,
         }

@@ -43,13 +43,15 @@ flawed_recover EvidenceBeforeWalk recover.LoadLinked (recover.Done found.NotEnqu
 flawed_recover EvidenceBeforeWalk (recover.FindNode a) recover.LoadLinked = recover.Done found.NotEnqueued
 flawed_recover _ before s = s
 
--- a call after a step that was answered so
+-- an enqueue after a step that was answered so
 abbrev pub then_enqueue : Flaw → Enqueue → ℕ → Enqueue
 then_enqueue f c word = let d = enqueue_next c word in record d { stage = flawed_enqueue f d.stage }
 
+-- a dequeue after a step that was answered so
 abbrev pub then_dequeue : Flaw → Dequeue → ℕ → Dequeue
 then_dequeue f c word = let d = dequeue_next c word in record d { stage = flawed_dequeue f d.stage }
 
+-- a recovery after a step that was answered so
 abbrev pub then_recover : Flaw → Recover → ℕ → Recover
 then_recover f c word = let d = recover_next c word in record d { stage = flawed_recover f c.stage d.stage }
 
@@ -72,13 +74,15 @@ StepAsks now asked = (f : Flaw) (access : Access ℕ) (answer : ℕ) (after : Do
 abbrev pub StepLands : Flaw → Doing → ℕ → Landed Doing Response → Type 0
 StepLands f now answer landed = (access : Access ℕ) (after : Doing) (says : List Response) → StepIs f now access answer after says → (after ≡ landed.doing) × (says ≡ list_of landed.says)
 
--- where a call's step lands
+-- where an enqueue's step lands
 abbrev pub LandsEnqueue : Enqueue → Landed Doing Response → Type 0
 LandsEnqueue c landed = (enqueue_doing c c.stage ≡ landed.doing) × (enqueue_says c c.stage ≡ list_of landed.says)
 
+-- where a dequeue's step lands
 abbrev pub LandsDequeue : Dequeue → Landed Doing Response → Type 0
 LandsDequeue c landed = (dequeue_doing c c.stage ≡ landed.doing) × (dequeue_says c c.stage ≡ list_of landed.says)
 
+-- where a recovery's step lands
 abbrev pub LandsRecover : Recover → Landed Doing Response → Type 0
 LandsRecover c landed = (recover_doing c c.stage ≡ landed.doing) × (recover_says c c.stage ≡ list_of landed.says)
 

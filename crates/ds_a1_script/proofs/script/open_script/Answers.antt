@@ -13,16 +13,16 @@ lines-init c = record { opens = begun c.args.script.now c.new-text.result.items 
 
 pub lines-preserved : goal.lines-preserved
 lines-preserved c =
-    let next : next_of true c.lines.rest.now ≡ ALine c.in-Line.line.now c.in-Line.behind.now = sym c.in-Line.ensures in
-    let shorter = next_shorter true c.lines.rest.now c.in-Line.line.now c.in-Line.behind.now next in
+    let next : next_of true c.lines.rest.now ≡ ALine c.in-Line.line.now c.in-Line.left.now = sym c.in-Line.ensures in
+    let shorter = next_shorter true c.lines.rest.now c.in-Line.line.now c.in-Line.left.now next in
     let is : c.add_line.new.text.items ≡ c.lines.text.items ++ (c.in-Ok.open.items ++ (10 ∷ [])) = c.in_ok-add_line-in-Ok.ensures ∙ ap (λ (l : List ℕ). c.lines.text.items ++ (l ++ (10 ∷ []))) c.deref.ensures.value in
     record {
-      opens = line_more c.args.script.now c.lines.text.items c.add_line.new.text.items c.lines.rest.now c.in-Line.line.now c.in-Line.behind.now c.in-Ok.open.items c.lines.lines c.lines.invariant.opens next c.in-Ok.ensures is;
+      opens = line_more c.args.script.now c.lines.text.items c.add_line.new.text.items c.lines.rest.now c.in-Line.line.now c.in-Line.left.now c.in-Ok.open.items c.lines.lines c.lines.invariant.opens next c.in-Ok.ensures is;
       within = omega (arith, shorter, c.lines.invariant.within);
     }
 
 pub returns-in_default : goal.returns-in_default
-returns-in_default c = line_refused c.args.script.now c.lines.text.items c.lines.rest.now c.in-Line.line.now c.in-Line.behind.now c.lines.lines c.in-Err.fault c.lines.invariant.opens
+returns-in_default c = line_refused c.args.script.now c.lines.text.items c.lines.rest.now c.in-Line.line.now c.in-Line.left.now c.lines.lines c.in-Err.fault c.lines.invariant.opens
     (sym c.in-Line.ensures) c.in-Err.ensures c.in_default.not-NoMemory
 
 pub returns-in-Nothing : goal.returns-in-Nothing

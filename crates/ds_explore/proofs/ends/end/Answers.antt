@@ -7,13 +7,13 @@ use Rattle.ds_explore.specs.Judging.{replied}
 use Rattle.ds_explore.proofs.Judged.{behind_it}
 use Rattle.ds_explore.proofs.ends.end.Goals as goal
 
-pub returns-clause-told : goal.returns-clause-told
-returns-clause-told c = record {
-  told = c.in_ok-told.field-0.text.items;
-  recovered = c.in_ok-told.ensures;
+pub returns-clause-reports : goal.returns-clause-reports
+returns-clause-reports c = record {
+  resolved = c.in_ok-resolved.field-0.text.items;
+  recovered = c.in_ok-resolved.ensures;
   settled = c.settle-left.new.world;
   reported = c.whole_show-reported.new.world;
-  is = behind_it c.in_ok-told.field-0.text.items c.deref.result.now c.deref-2.result.now (end_text c.settle-left.new.world 0 c.settle-left.result) (reply_text c.whole_show-reported.new.world 0 (replied reports c.whole_show-reported.result))
+  is = behind_it c.in_ok-resolved.field-0.text.items c.deref.result.now c.deref-2.result.now (end_text c.settle-left.new.world 0 c.settle-left.result) (reply_text c.whole_show-reported.new.world 0 (replied reports c.whole_show-reported.result))
       c.extend_from_slice.new.self.items c.extend_from_slice-2.new.self.items (c.deref.ensures.value ∙ c.in_ok-settled.ensures)
       (c.deref-2.ensures.value ∙ c.in_ok-line.ensures ∙ ap (λ (r : Reply). reply_text c.whole_show-reported.new.world 0 r) c.replied.ensures) c.in_ok-extend_from_slice.ensures.items c.in_ok-extend_from_slice-2.ensures.items;
 }

@@ -10,6 +10,6 @@ returns c = record {
   ending = c.in_ok-ending.ending;
   judged = c.in_ok-flaws.ensures;
   answered = subst (λ (v : Vec (Option Answer)). AreAnswers v.items (texts_of c.in_ok-answers.field-0.texts.items)) (sym c.in_ok-ending.ensures.answers) c.in_ok-answers.ensures;
-  told = c.in_ok-ending.ensures.told;
+  resolved = c.in_ok-ending.ensures.reports;
   crashed = sym c.in_ok-ending.ensures.crashed;
 }
