@@ -9,6 +9,8 @@ import re
 import sys
 
 TOP = os.path.dirname(os.path.dirname(os.path.realpath(__file__)))
+# A line of the table, which stands as it is.
+LINE = "    {:20} {:20} {:8} {:6} {}"
 ROW = re.compile(r"\| `(\w+)` \| ([\d.]+) \| ([\d.]+) \| ([\d.]+) \| ")
 
 
@@ -48,15 +50,14 @@ def minutes(names):
 
 def main():
     times = minutes(sys.argv[1:])
-    print("| Crate | Code/specs/proofs | Edits | Proof | Tests |")
-    print("|" + "---|" * 5)
+    print(LINE.format("crate", "code/specs/proofs", "edits", "proof", "tests").rstrip())
     for crate in crates():
         counts = [lines(crate, "src", ".rt"), lines(crate, "specs", ".antt"), lines(crate, "proofs", ".antt")]
         edits = [len(files(crate, part, ".edit")) for part in ("must-fail", "more-edits")]
         proof, _tried, tests = times.get(crate, [0.0, 0.0, 0.0])
-        figures = [f"{it:.1f}" if it else "" for it in (proof, tests)]
+        figures = [f"{proof:.1f}" if proof else "-", f"{tests:.1f}" if tests else ""]
         cells = [crate, "/".join(f"{it:,}" for it in counts), f"{edits[0]}+{edits[1]}", *figures]
-        print("| " + " | ".join(cells) + " |")
+        print(LINE.format(*cells).rstrip())
 
 
 if __name__ == "__main__":

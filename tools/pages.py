@@ -155,7 +155,7 @@ def check_words(checks, pages):
         for pattern, most in LIMITS:
             if re.fullmatch(pattern, page):
                 if page == "docs/COSTS.md":
-                    text = re.sub(r"(?m)^\|.*$", "", text)
+                    text = re.sub(r"(?m)^    .*$", "", text)
                 count = words(text)
                 checks.check(count <= most, page, 1, f"{count} words, at most {most}")
 

@@ -1,6 +1,6 @@
 //! What the sessions of a server tell the keeper of its store, and wait for.
 
-ghost use Rattle.std.specs.Prelude.{◌≡◌, ◌+◌, ◌++◌, ◌∷◌, ◌≤◌, [], length, IfSome};
+ghost use Rattle.std.specs.Prelude.{◌≡◌, ◌+◌, ◌++◌, ◌∷◌, ◌≤◌, ◌⊎◌, [], length, IfSome};
 
 use ds_store::committed::Committed;
 use ds_store_journal::edit::AnsweredEdit;
@@ -109,7 +109,9 @@ impl Backlog {
     }
 
     /// Room for one edit more, before it is made. An error is that an allocation failed, or that no more can be counted.
-    pub(crate) fn make_room(&mut self) -> Result<(), AllocError> {
+    pub(crate) fn make_room(&mut self) -> Result<(), AllocError>
+        ensures { self.new.edits.items ≡ self.old.edits.items }
+    {
         if self.heard == u64::MAX {
             return Err(AllocError);
         }
@@ -119,7 +121,8 @@ impl Backlog {
     /// The keeper hears of an edit that was answered Done, which stands then in this history of what it has heard, too.
     /// Where there is no room for it nothing is kept any more.
     pub(crate) fn hear(&mut self, heard: &mut Log<usize, AnsweredEdit>, edit: AnsweredEdit)
-        ensures { heard.new.items ≡ heard.old.items ++ (edit.process, edit) ∷ [] }
+        ensures log { heard.new.items ≡ heard.old.items ++ (edit.process, edit) ∷ [] }
+        ensures heard { (self.new.edits.items ≡ self.old.edits.items ++ edit ∷ []) ⊎ (self.new.phase ≡ Phase.Failed) }
     {
         *heard = heard.and(&edit.process, &edit);
         let Some(count) = self.heard.checked_add(1) else {
@@ -136,6 +139,7 @@ impl Backlog {
     fn take(&mut self, alloc: Global) -> Vec<AnsweredEdit>
         ensures edits { result.items ≡ self.old.edits.items }
         ensures taken { self.new.taken ≡ self.old.taken + length self.old.edits.items }
+        ensures heard { (self.new.heard ≡ self.old.heard) × (self.new.kept ≡ self.old.kept) }
     {
         let edits = mem::replace(&mut self.edits, Vec::new(alloc));
         self.taken += edits.len() as u64;
@@ -144,7 +148,9 @@ impl Backlog {
 
     // The edits of a commit are kept. Where they are more than the keeper has in hand, nothing is kept any more.
     fn keep(&mut self, committed: &Committed)
-        ensures { self.new.kept.count ≤ self.old.kept.count + length committed.now.edits.items }
+        ensures kept { (self.new.kept.count ≡ self.old.kept.count + length committed.now.edits.items) ⊎ (self.new.phase ≡ Phase.Failed) }
+        ensures at_most { self.new.kept.count ≤ self.old.kept.count + length committed.now.edits.items }
+        ensures heard { (self.new.heard ≡ self.old.heard) × (self.new.edits ≡ self.old.edits) }
     {
         let Some(left) = self.taken.checked_sub(committed.count() as u64) else {
             self.phase = Phase::Failed;

@@ -133,6 +133,7 @@ impl<S: Alter + Drop> Store<S> {
     /// the database has something it is an error.
     pub fn make(alloc: Global, conn: Connection<S>, layout: Layout) -> Result<Opened<S>, StoreFault>
         ensures leads { IfOk result (λ opened. Leads opened.store.layout opened.store.counts.counts.items opened.sheet (map string_bytes opened.lines.items)) }
+        ensures asked { IfOk result (λ opened. size_of opened.store.layout ≡ size_of layout) }
         ensures one { IfOk result (λ opened. length opened.lines.items ≡ 1) }
         ensures holds { IfOk result (λ opened. HasCleanDisk (state S.Store opened.store.conn) → IsBare (state S.Store conn).now
             → Holds (map string_bytes opened.lines.items) (state S.Store opened.store.conn).now × Holds (map string_bytes opened.lines.items) (state S.Store opened.store.conn).committed) }
@@ -143,7 +144,9 @@ impl<S: Alter + Drop> Store<S> {
         };
         let mut lines = Vec::with_capacity(alloc, 1)?;
         lines.push_reserved(line);
-        Store::of_lines(alloc, conn, lines)
+        let opened = Store::of_lines(alloc, conn, lines)?;
+        asked(&opened.store, &layout)?;
+        Ok(opened)
     }
 
     /// Opens the store in a database: all its lines are read, and followed, each in its turn. An error says which line
@@ -263,9 +266,7 @@ pub fn open_or_make<S: Alter + Drop>(
         → (length opened.lines.items ≡ 1) × Holds (map string_bytes opened.lines.items) (state S.Store opened.store.conn).now × Holds (map string_bytes opened.lines.items) (state S.Store opened.store.conn).committed) }
 {
     if is_bare(&conn) {
-        let opened = Store::make(alloc, conn, layout)?;
-        asked(&opened.store, &layout)?;
-        return Ok(opened);
+        return Store::make(alloc, conn, layout);
     }
     let opened = Store::open(alloc, conn)?;
     asked(&opened.store, &layout)?;
