@@ -5,6 +5,7 @@ pub mod committed;
 pub mod compact;
 pub mod fault;
 pub mod open;
+pub mod renewal;
 mod replay;
 pub mod seated;
 pub mod store;

@@ -27,7 +27,7 @@ pub struct AskedEdit<'a> {
 }
 
 // What is after the first word of a line, where that is the verb.
-fn after<'a>(verb: &[u8], line: &'a [u8]) -> Option<&'a [u8]>
+pub(crate) fn after<'a>(verb: &[u8], line: &'a [u8]) -> Option<&'a [u8]>
     ensures { option_map (λ r. r.now) result ≡ after_verb verb.now line.now }
 {
     let (first, rest) = word(line);
@@ -50,7 +50,7 @@ fn sheet(line: &[u8]) -> Option<Layout>
 }
 
 // The edit of a sheet of this layout that a line asks for.
-fn edit<'a>(layout: &Layout, line: &'a [u8]) -> Option<AskedEdit<'a>>
+pub(crate) fn edit<'a>(layout: &Layout, line: &'a [u8]) -> Option<AskedEdit<'a>>
     ensures asks { option_map asked_view result ≡ edit_in layout.now line.now }
     ensures inside { IfSome result (λ a. (a.process < layout.now.processes) × IsInside layout.now.shape a.cell) }
 {

@@ -4,4 +4,7 @@
 pub mod counts;
 pub mod edit;
 pub mod fault;
+pub mod joining;
 pub mod journal;
+pub mod standing;
+pub mod standings;
