@@ -93,6 +93,33 @@ pub fn append<S: Alter>(conn: &mut Connection<S>, lines: &[String]) -> Result<()
     tx.commit()
 }
 
+// Makes the table anew, with these lines alone.
+fn fill_anew<S: Alter>(tx: &mut Transaction<'_, S>, lines: &[String]) -> Result<(), Error>
+    ensures same_reference { tx.new.conn.ghost_name ≡ tx.old.conn.ghost_name }
+    ensures holds { HasCleanDisk (state S.Store tx.new.conn.now) → (before : List (List ℕ)) → HoldsInside before (state S.Store tx.old.conn.now)
+        → OnOk result (HoldsInside (map string_bytes lines.now) (state S.Store tx.new.conn.now)) }
+    ensures survives { Survives (state S.Store tx.old.conn.now) (state S.Store tx.new.conn.now) (λ _. ⊥) }
+{
+    table::remove(tx)?;
+    fill_new(tx, lines)
+}
+
+/// Puts these lines, numbered from 1, in place of those that are there: all of it is committed, or nothing is. It is
+/// refused where a transaction is under way.
+pub fn replace<S: Alter>(conn: &mut Connection<S>, lines: &[String]) -> Result<(), Error>
+    ensures replaced { HasCleanDisk (state S.Store conn.new) → (before : List (List ℕ)) → Holds before (state S.Store conn.old).now
+        → OnOk result (Holds (map string_bytes lines.now) (state S.Store conn.new).now × Holds (map string_bytes lines.now) (state S.Store conn.new).committed) }
+    ensures crash { (before : List (List ℕ)) → Holds before (state S.Store conn.old).now
+        → Survives (state S.Store conn.old) (state S.Store conn.new) (MayHold (map string_bytes lines.now)) }
+{
+    if !conn.is_autocommit() {
+        return Err(IN_TRANSACTION);
+    }
+    let mut tx = conn.transaction();
+    fill_anew(&mut tx, lines)?;
+    tx.commit()
+}
+
 // The text of a row, which is to have this number.
 fn text_at(row: &Row, number: usize) -> Result<String, LinesFault>
     ensures { IfOk result (λ text. (lines : List (List ℕ)) → IsListed lines row.now → slice_get lines (number - 1) ≡ Some (string_bytes text)) }
