@@ -4,4 +4,5 @@ mod Lists
 mod Making
 mod Numbered
 mod Reading
+mod Removing
 mod Texts

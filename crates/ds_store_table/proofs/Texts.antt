@@ -6,7 +6,7 @@ use Rattle.sqlite.specs.Query.{Query, inner, end}
 use Rattle.sqlite.specs.Collation.TheVariants.{Binary}
 use Rattle.sqlite.specs.Schema.{Schema}
 use Rattle.sqlite.specs.Source.TheVariants.{Values}
-use Rattle.sqlite.specs.Command.TheVariants.{Insert, Select, CreateTable, Begin, Commit}
+use Rattle.sqlite.specs.Command.TheVariants.{Insert, Select, CreateTable, DropTable, Begin, Commit}
 use Rattle.sqlite.specs.Compile.{table_defined_by}
 use Rattle.sqlite_tied.specs.Compute.{everything}
 use Rattle.sqlite.specs.Listing.{understood, reads_listing}
@@ -34,6 +34,20 @@ create_is = (refl, refl, refl)
 pub create_plain : IsPlain (understood no_schema create_text)
 unfolding understood everything
 create_plain = (refl, refl)
+
+-- the statement that takes the table away
+abbrev pub drop_text : List ℕ
+drop_text = codes "DROP TABLE journal"
+
+-- `drop_text` drops the table `journal`
+pub drop_is : command_of (understood journal_schema drop_text) ≡ DropTable 0
+unfolding understood everything
+drop_is = refl
+
+-- it has no RETURNING, and does not read the time
+pub drop_plain : IsPlain (understood journal_schema drop_text)
+unfolding understood everything
+drop_plain = (refl, refl)
 
 -- `insert_text` puts a line into the table, as a new row
 pub insert_is : command_of (understood journal_schema insert_text) ≡ Insert 0 (Values terms 3)

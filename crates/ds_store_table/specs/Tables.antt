@@ -1,5 +1,7 @@
 -- The table of a journal's lines, as a database has it.
-use Rattle.std.specs.Prelude.{◌≡◌, ℕ, suc, pos, length, slice_get, All, true, false, [], ◌∷◌, List, Some, codes}
+use Rattle.std.specs.Prelude.{◌≡◌, ℕ, suc, pos, length, slice_get, All, true, false, [], ◌∷◌, List, Some, None, codes, map, take}
+use Rattle.std.specs.String.{string_bytes}
+use Rattle.ds_store_table.specs.declared.lines.FirstLines.{FirstLines}
 use Rattle.sqlite.specs.Collation.TheVariants.{Binary}
 use Rattle.sqlite.specs.declared.types.Value.TheVariants.{Null, Int, Text as Words}
 use Rattle.sqlite.specs.Order.{Row}
@@ -65,6 +67,11 @@ pub record IsListed (lines : List (List ℕ)) (row : Row) : Type 0 where
 pub record AreListed (lines : List (List ℕ)) (rows : List Row) : Type 0 where
   pub count : length rows ≡ length lines
   pub each : All (IsListed lines) rows
+
+-- these are the first of the lines; where none is missing, they are all of them
+pub record AreFirst (lines : List (List ℕ)) (first : FirstLines) : Type 0 where
+  pub begin : map string_bytes first.lines.items ≡ take (length first.lines.items) lines
+  pub all : first.missing ≡ None → map string_bytes first.lines.items ≡ lines
 
 -- within a transaction the connection sees the table with these lines
 pub record HoldsInside (lines : List (List ℕ)) (s : State) : Type 0 where

@@ -1,10 +1,10 @@
 //! The lines of a journal in a database: made, added to, and read.
 
-ghost use Rattle.std.specs.Prelude.{◌≡◌, ◌-◌, ◌++◌, ◌∷◌, [], ℕ, List, IfOk, IsTrue, OnOk, Some, map, slice_get};
+ghost use Rattle.std.specs.Prelude.{◌≡◌, ◌-◌, ◌++◌, ◌∷◌, [], ℕ, List, IfOk, IfSome, IsTrue, OnOk, Some, map, slice_get};
 ghost use Rattle.std.specs.String.{string_bytes};
 ghost use Rattle.sqlite.specs.Held.{state};
 ghost use Rattle.sqlite.specs.State.{HasCleanDisk, Survives};
-ghost use Rattle.ds_store_table.specs.Tables.{AreListed, Holds, HoldsInside, IsBare, IsListed, MayHold};
+ghost use Rattle.ds_store_table.specs.Tables.{AreFirst, AreListed, Holds, HoldsInside, IsBare, IsListed, MayHold};
 
 use crate::table;
 use sqlite::{Alter, Connection, Error, ErrorCode, Row, Transaction};
@@ -93,16 +93,52 @@ pub fn append<S: Alter>(conn: &mut Connection<S>, lines: &[String]) -> Result<()
     tx.commit()
 }
 
-// The text of a row, which is to have this number.
-fn text_at(row: &Row, number: usize) -> Result<String, LinesFault>
-    ensures { IfOk result (λ text. (lines : List (List ℕ)) → IsListed lines row.now → slice_get lines (number - 1) ≡ Some (string_bytes text)) }
+// Makes the table anew, with these lines alone.
+fn fill_anew<S: Alter>(tx: &mut Transaction<'_, S>, lines: &[String]) -> Result<(), Error>
+    ensures same_reference { tx.new.conn.ghost_name ≡ tx.old.conn.ghost_name }
+    ensures holds { HasCleanDisk (state S.Store tx.new.conn.now) → (before : List (List ℕ)) → HoldsInside before (state S.Store tx.old.conn.now)
+        → OnOk result (HoldsInside (map string_bytes lines.now) (state S.Store tx.new.conn.now)) }
+    ensures survives { Survives (state S.Store tx.old.conn.now) (state S.Store tx.new.conn.now) (λ _. ⊥) }
+{
+    table::remove(tx)?;
+    fill_new(tx, lines)
+}
+
+/// Puts these lines, numbered from 1, in place of those that are there: all of it is committed, or nothing is. It is
+/// refused where a transaction is under way.
+pub fn replace<S: Alter>(conn: &mut Connection<S>, lines: &[String]) -> Result<(), Error>
+    ensures replaced { HasCleanDisk (state S.Store conn.new) → (before : List (List ℕ)) → Holds before (state S.Store conn.old).now
+        → OnOk result (Holds (map string_bytes lines.now) (state S.Store conn.new).now × Holds (map string_bytes lines.now) (state S.Store conn.new).committed) }
+    ensures crash { (before : List (List ℕ)) → Holds before (state S.Store conn.old).now
+        → Survives (state S.Store conn.old) (state S.Store conn.new) (MayHold (map string_bytes lines.now)) }
+{
+    if !conn.is_autocommit() {
+        return Err(IN_TRANSACTION);
+    }
+    let mut tx = conn.transaction();
+    fill_anew(&mut tx, lines)?;
+    tx.commit()
+}
+
+/// The first lines of a table.
+#[derive(Drop)]
+pub struct FirstLines {
+    /// The lines, from number 1 on, in their order.
+    pub lines: Vec<String>,
+    /// The number after theirs, where it is missing, though the table has higher ones.
+    pub missing: Option<usize>,
+}
+
+// The text of a row, where it has this number.
+fn text_at(row: &Row, number: usize) -> Result<Option<String>, LinesFault>
+    ensures { IfOk result (λ text. IfSome text (λ it. (lines : List (List ℕ)) → IsListed lines row.now → slice_get lines (number - 1) ≡ Some (string_bytes it))) }
 {
     let shown: i64 = row.get(0)?;
     if usize::try_from(shown) != Ok(number) {
-        return Err(LinesFault::Missing(number));
+        return Ok(None);
     }
     let text: String = row.get(1)?;
-    Ok(text)
+    Ok(Some(text))
 }
 
 /// The lines that are there, in their order. They are those of the table, all of them; where one of the numbers from 1 on
@@ -111,19 +147,44 @@ pub fn read<S: Alter>(alloc: Global, conn: &mut Connection<S>) -> Result<Vec<Str
     ensures { HasCleanDisk (state S.Store conn.new) → (lines : List (List ℕ)) → Holds lines (state S.Store conn.old).now
         → IfOk result (λ texts. (map string_bytes texts.items ≡ lines) × Holds lines (state S.Store conn.new).now) }
 {
-    let rows = table::rows(conn)?;
-    texts_of(alloc, &rows)
+    let FirstLines { lines, missing } = read_first(alloc, conn)?;
+    match missing {
+        None => Ok(lines),
+        Some(number) => Err(LinesFault::Missing(number)),
+    }
 }
 
-// The texts of rows that are numbered from 1 on.
-fn texts_of(alloc: Global, rows: &[Row]) -> Result<Vec<String>, LinesFault>
-    ensures { IfOk result (λ texts. (lines : List (List ℕ)) → AreListed lines rows.now → map string_bytes texts.items ≡ lines) }
+/// The lines that are there, in their order, as far as no number is missing.
+pub fn read_first<S: Alter>(
+    alloc: Global,
+    conn: &mut Connection<S>,
+) -> Result<FirstLines, LinesFault>
+    ensures { HasCleanDisk (state S.Store conn.new) → (lines : List (List ℕ)) → Holds lines (state S.Store conn.old).now
+        → IfOk result (λ first. AreFirst lines first × Holds lines (state S.Store conn.new).now) }
 {
-    let mut texts = Vec::with_capacity(alloc, rows.len())?;
+    let rows = table::rows(conn)?;
+    first_of(alloc, &rows)
+}
+
+// The texts of rows, as far as they are numbered from 1 on.
+fn first_of(alloc: Global, rows: &[Row]) -> Result<FirstLines, LinesFault>
+    ensures { IfOk result (λ first. (lines : List (List ℕ)) → AreListed lines rows.now → AreFirst lines first) }
+{
+    let mut lines = Vec::with_capacity(alloc, rows.len())?;
     for row in rows {
-        let number = texts.len() + 1;
-        let text = text_at(row, number)?;
-        texts.push_reserved(text);
+        let number = lines.len() + 1;
+        match text_at(row, number)? {
+            Some(line) => lines.push_reserved(line),
+            None => {
+                return Ok(FirstLines {
+                    lines,
+                    missing: Some(number),
+                });
+            }
+        }
     }
-    Ok(texts)
+    Ok(FirstLines {
+        lines,
+        missing: None,
+    })
 }

@@ -20,6 +20,16 @@ pub(crate) fn create<S: Alter>(tx: &mut Transaction<'_, S>) -> Result<usize, Err
     )
 }
 
+/// Takes the table away, with all its lines: the database has nothing then.
+pub(crate) fn remove<S: Alter>(tx: &mut Transaction<'_, S>) -> Result<usize, Error>
+    ensures same_reference { tx.new.conn.ghost_name ≡ tx.old.conn.ghost_name }
+    ensures bare { HasCleanDisk (state S.Store tx.new.conn.now) → (lines : List (List ℕ)) → HoldsInside lines (state S.Store tx.old.conn.now)
+        → OnOk result (IsTrue (state S.Store tx.new.conn.now).in_transaction × IsBare (state S.Store tx.new.conn.now).now) }
+    ensures survives { Survives (state S.Store tx.old.conn.now) (state S.Store tx.new.conn.now) (λ _. ⊥) }
+{
+    tx.execute("DROP TABLE journal", &[])
+}
+
 /// Appends a line to the others.
 pub(crate) fn add<S: Alter>(tx: &mut Transaction<'_, S>, line: &str) -> Result<usize, Error>
     ensures same_reference { tx.new.conn.ghost_name ≡ tx.old.conn.ghost_name }

@@ -2,18 +2,18 @@ use Rattle.std.proofs.Common.{◌≡◌, ◌++◌, ◌∷◌, [], map, length, t
 use Rattle.std.specs.String.{string_bytes}
 use Rattle.ds_store_table.specs.Tables.{IsListed}
 use Rattle.ds_store_table.proofs.Lists.{grows}
-use Rattle.ds_store_table.proofs.lines.texts_of.Goals as goal
+use Rattle.ds_store_table.proofs.lines.first_of.Goals as goal
 
 pub loop-row-preserved : goal.loop-row-preserved
 loop-row-preserved c =
-    let old = c.loop-row.texts.items in
+    let old = c.loop-row.lines.items in
     let new = c.push_reserved.new.self.items in
-    let items : new ≡ old ++ c.in_ok-text.text ∷ [] = c.push_reserved.ensures.items in
+    let items : new ≡ old ++ c.in-Some.line ∷ [] = c.push_reserved.ensures.items in
     let at : c.loop-row.row-index ≡ length old = c.loop-row.invariant.0 in (
-      omega (arith, at, ap length items, length-append old (c.in_ok-text.text ∷ [])),
+      omega (arith, at, ap length items, length-append old (c.in-Some.line ∷ [])),
       search rules,
       λ lines all.
           let row : IsListed lines c.row-item.result = search rules in
-          let shown : slice_get lines (length old) ≡ Some (string_bytes c.in_ok-text.text) = search rules in
-          subst (λ news. map string_bytes news ≡ take (length news) lines) (sym items) (grows string_bytes old c.in_ok-text.text lines (c.loop-row.invariant.2 lines all) shown),
+          let shown : slice_get lines (length old) ≡ Some (string_bytes c.in-Some.line) = search rules in
+          subst (λ news. map string_bytes news ≡ take (length news) lines) (sym items) (grows string_bytes old c.in-Some.line lines (c.loop-row.invariant.2 lines all) shown),
     )
