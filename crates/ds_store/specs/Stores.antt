@@ -9,7 +9,7 @@ use Rattle.ds_shared.specs.Answers.{IsFresh, opened_with}
 use Rattle.ds_shared_seats.specs.declared.seat.Seat.{Seat}
 use Rattle.ds_shared_seats.specs.Calls.{Edits}
 use Rattle.ds_shared_seats.specs.Sheets.{IsSeatOf}
-use Rattle.ds_store_journal.specs.Journals.{AreCounts, IsJournal, KeptEdit}
+use Rattle.ds_store_journal.specs.Journals.{AreCounts, IsJournal, KeptEdit, SheetSize}
 use Rattle.ds_store_table.specs.Tables.{MayHold}
 use Rattle.sqlite.specs.Tree.{Trees}
 
@@ -61,6 +61,10 @@ pub record LeadsTo (layout : Layout) (counts : List ℕ) (s : SharedSheet) (seat
   pub edits : List KeptEdit
   pub goes_on : GoesOn layout counts lines edits
   pub made : IsMadeBy layout edits s seats
+
+-- the size of a store's sheet as its clients see it: with the processes that they may join
+abbrev pub size_seen : Layout → ℕ → SheetSize
+size_seen layout joins = record { columns = layout.shape.columns; rows = layout.shape.rows; processes = joins }
 
 -- the trees of a database that has these lines, and after them some that keep these edits
 pub record MayKeep (layout : Layout) (held : List (List ℕ)) (kept edits : List KeptEdit) (trees : Trees) : Type 0 where

@@ -1,17 +1,21 @@
 //! A store: a journal in a database.
 
-ghost use Rattle.std.specs.Prelude.{◌≡◌, ◌++◌, ◌∷◌, [], ℕ, List, true, length, IfOk, OnOk, map};
+ghost use Rattle.std.specs.List.{list_any};
+ghost use Rattle.std.specs.Prelude.{◌≡◌, ◌++◌, ◌∷◌, [], ℕ, List, nat_le, true, length, IfOk, OnOk, map};
 ghost use Rattle.std.specs.String.{string_bytes};
 ghost use Rattle.sqlite.specs.Held.{state};
 ghost use Rattle.sqlite.specs.State.{HasCleanDisk, Survives};
+ghost use Rattle.ds_store_journal.specs.Joining.{joins_of};
 ghost use Rattle.ds_store_journal.specs.Journals.{KeptEdit, edits_by, size_of};
 ghost use Rattle.ds_store_sums.specs.Taken.{IsAt};
 ghost use Rattle.ds_store_table.specs.Tables.{Holds, IsBare};
 ghost use Rattle.ds_store.specs.Opened.{Leads};
-ghost use Rattle.ds_store.specs.Stores.{GoesOn, MayKeep};
+ghost use Rattle.ds_store.specs.Renewals.{GoesOver, MayGoOver};
+ghost use Rattle.ds_store.specs.Stores.{GoesOn, MayKeep, size_seen};
 
 use crate::committed::Committed;
 use crate::fault::StoreFault;
+use crate::renewal::next_lines;
 use crate::replay::{Replay, replayed};
 use crate::seated::SeatedSheet;
 use crate::summing::{sum_up, summed};
@@ -20,6 +24,7 @@ use ds_layout::layout::Layout;
 use ds_store_journal::counts::EditCounts;
 use ds_store_journal::edit::AnsweredEdit;
 use ds_store_journal::fault::JournalFault;
+use ds_store_journal::joining::joins_of;
 use ds_store_journal::journal::{edit_line, sheet_line};
 use ds_store_sums::sums::LineSums;
 use ds_store_table::lines;
@@ -33,6 +38,7 @@ use std::alloc::Global;
 pub struct Store<S: Alter + Drop> {
     conn: Connection<S>,
     layout: Layout,
+    joins: usize,
     counts: EditCounts,
     sums: LineSums,
 }
@@ -47,6 +53,18 @@ pub struct Opened<S: Alter + Drop> {
     /// The lines of the store's journal, all of them.
     pub lines: Vec<String>,
 }
+
+/// A sheet to which a store has gone over.
+#[derive(Drop)]
+pub struct Renewed {
+    /// A new sheet, on which the edits were made that give it its texts.
+    pub sheet: SeatedSheet,
+    /// The lines of the store's journal, all of them.
+    pub lines: Vec<String>,
+}
+
+/// After how many edits of one of its processes a store is short: its sheet has room for 256.
+pub const SHORT: usize = 240;
 
 // The line of an edit that is to have the next number of its process.
 fn kept(
@@ -107,6 +125,7 @@ impl<S: Alter + Drop> Store<S> {
         ensures lines { IfOk result (λ opened. opened.lines ≡ lines) }
         ensures leads { IfOk result (λ opened. Leads opened.store.layout opened.store.counts.counts.items opened.sheet (map string_bytes opened.lines.items)) }
         ensures summed { IfOk result (λ opened. IsAt opened.store.sums (map string_bytes opened.lines.items)) }
+        ensures joins { IfOk result (λ opened. opened.store.joins ≡ joins_of opened.store.layout (map string_bytes opened.lines.items)) }
         ensures holds { IfOk result (λ opened. HasCleanDisk (state S.Store opened.store.conn) → IsBare (state S.Store conn).now
             → Holds (map string_bytes opened.lines.items) (state S.Store opened.store.conn).now × Holds (map string_bytes opened.lines.items) (state S.Store opened.store.conn).committed) }
     {
@@ -116,11 +135,13 @@ impl<S: Alter + Drop> Store<S> {
             sheet,
         } = replayed(alloc, &lines)?;
         let sums = summed(alloc, &lines)?;
+        let joins = joins_of(&layout, &lines);
         let conn = with_lines(conn, &lines)?;
         Ok(Opened {
             store: Store {
                 conn,
                 layout,
+                joins,
                 counts,
                 sums,
             },
@@ -133,8 +154,9 @@ impl<S: Alter + Drop> Store<S> {
     /// the database has something it is an error.
     pub fn make(alloc: Global, conn: Connection<S>, layout: Layout) -> Result<Opened<S>, StoreFault>
         ensures leads { IfOk result (λ opened. Leads opened.store.layout opened.store.counts.counts.items opened.sheet (map string_bytes opened.lines.items)) }
-        ensures asked { IfOk result (λ opened. size_of opened.store.layout ≡ size_of layout) }
+        ensures asked { IfOk result (λ opened. size_seen opened.store.layout opened.store.joins ≡ size_of layout) }
         ensures one { IfOk result (λ opened. length opened.lines.items ≡ 1) }
+        ensures joins { IfOk result (λ opened. opened.store.joins ≡ joins_of opened.store.layout (map string_bytes opened.lines.items)) }
         ensures holds { IfOk result (λ opened. HasCleanDisk (state S.Store opened.store.conn) → IsBare (state S.Store conn).now
             → Holds (map string_bytes opened.lines.items) (state S.Store opened.store.conn).now × Holds (map string_bytes opened.lines.items) (state S.Store opened.store.conn).committed) }
     {
@@ -154,6 +176,7 @@ impl<S: Alter + Drop> Store<S> {
     pub fn open(alloc: Global, conn: Connection<S>) -> Result<Opened<S>, StoreFault>
         ensures leads { IfOk result (λ opened. Leads opened.store.layout opened.store.counts.counts.items opened.sheet (map string_bytes opened.lines.items)) }
         ensures summed { IfOk result (λ opened. IsAt opened.store.sums (map string_bytes opened.lines.items)) }
+        ensures joins { IfOk result (λ opened. opened.store.joins ≡ joins_of opened.store.layout (map string_bytes opened.lines.items)) }
         ensures holds { IfOk result (λ opened. HasCleanDisk (state S.Store opened.store.conn) → (held : List (List ℕ)) → Holds held (state S.Store conn).now
             → (map string_bytes opened.lines.items ≡ held) × Holds held (state S.Store opened.store.conn).now) }
     {
@@ -165,10 +188,12 @@ impl<S: Alter + Drop> Store<S> {
             sheet,
         } = replayed(alloc, &lines)?;
         let sums = summed(alloc, &lines)?;
+        let joins = joins_of(&layout, &lines);
         Ok(Opened {
             store: Store {
                 conn,
                 layout,
+                joins,
                 counts,
                 sums,
             },
@@ -185,7 +210,7 @@ impl<S: Alter + Drop> Store<S> {
         edits: Vec<AnsweredEdit>,
     ) -> Result<Committed, StoreFault>
         ensures committed { IfOk result (λ c. c.edits ≡ edits) }
-        ensures layout { self.new.layout ≡ self.old.layout }
+        ensures layout { (self.new.layout ≡ self.old.layout) × (self.new.joins ≡ self.old.joins) }
         ensures kept { IfOk result (λ c. (lines : List (List ℕ))
             × ((held : List (List ℕ)) (before : List KeptEdit) → GoesOn self.old.layout self.old.counts.counts.items held before → IsAt self.old.sums held
             → GoesOn self.new.layout self.new.counts.counts.items (held ++ lines) (before ++ edits.items) × IsAt self.new.sums (held ++ lines))
@@ -198,6 +223,56 @@ impl<S: Alter + Drop> Store<S> {
         let texts = sum_up(alloc, &mut self.sums, texts)?;
         lines::append(&mut self.conn, &texts)?;
         Ok(Committed::of(edits))
+    }
+
+    /// The lines that it holds, all of them.
+    pub fn lines(&mut self, alloc: Global) -> Result<Vec<String>, StoreFault>
+        ensures lines { HasCleanDisk (state S.Store self.new.conn) → (held : List (List ℕ)) → Holds held (state S.Store self.old.conn).now
+            → IfOk result (λ lines. (map string_bytes lines.items ≡ held) × Holds held (state S.Store self.new.conn).now) }
+        ensures rest { (self.new.layout ≡ self.old.layout) × (self.new.joins ≡ self.old.joins) × (self.new.counts ≡ self.old.counts) × (self.new.sums ≡ self.old.sums) }
+    {
+        let lines = lines::read(alloc, &mut self.conn)?;
+        Ok(lines)
+    }
+
+    /// Whether one of its processes has made 240 edits or more, of 256: it is time to go over to a new sheet.
+    pub fn is_short(&self) -> bool
+        ensures { result ≡ list_any (nat_le 240) self.now.counts.counts.items }
+    {
+        self.counts.has_at_least(SHORT)
+    }
+
+    /// Goes over to a new sheet with the texts of the one that these lines have made, which are those that it holds: they
+    /// are replaced, all or none, when it returns. Each process that may be joined stands as it stood.
+    pub fn renew(&mut self, alloc: Global, held: &[String]) -> Result<Renewed, StoreFault>
+        ensures leads { IfOk result (λ renewed. Leads self.new.layout self.new.counts.counts.items renewed.sheet (map string_bytes renewed.lines.items)) }
+        ensures summed { IfOk result (λ renewed. IsAt self.new.sums (map string_bytes renewed.lines.items)) }
+        ensures joins { IfOk result (λ renewed. self.new.joins ≡ joins_of self.new.layout (map string_bytes renewed.lines.items)) }
+        ensures over { IfOk result (λ renewed. GoesOver (map string_bytes held.now) (map string_bytes renewed.lines.items)) }
+        ensures holds { IfOk result (λ renewed. HasCleanDisk (state S.Store self.new.conn) → Holds (map string_bytes held.now) (state S.Store self.old.conn).now
+            → Holds (map string_bytes renewed.lines.items) (state S.Store self.new.conn).now × Holds (map string_bytes renewed.lines.items) (state S.Store self.new.conn).committed) }
+        ensures crash { Holds (map string_bytes held.now) (state S.Store self.old.conn).now → Survives (state S.Store self.old.conn) (state S.Store self.new.conn) (MayGoOver (map string_bytes held.now)) }
+    {
+        let lines = next_lines(alloc, held, "the sheet before")?;
+        let Replay {
+            layout,
+            counts,
+            sheet,
+        } = replayed(alloc, &lines)?;
+        let sums = summed(alloc, &lines)?;
+        lines::replace(&mut self.conn, &lines)?;
+        self.joins = joins_of(&layout, &lines);
+        self.layout = layout;
+        self.counts = counts;
+        self.sums = sums;
+        Ok(Renewed { sheet, lines })
+    }
+
+    /// How many of its processes may be joined: the first ones.
+    pub fn joins(&self) -> usize
+        ensures { result ≡ self.now.joins }
+    {
+        self.joins
     }
 
     /// The shape of the sheet, and how many processes it has.
@@ -231,22 +306,22 @@ pub fn is_bare<S: Alter>(conn: &Connection<S>) -> bool
     schema.tables.is_empty() && schema.indexes.is_empty() && schema.views.is_empty()
 }
 
-// That the sheet of a store has this layout: as many columns, rows and processes.
+// That the sheet of a store has this layout: as many columns and rows, and as many processes that may be joined.
 fn asked<S: Alter + Drop>(store: &Store<S>, layout: &Layout) -> Result<(), StoreFault>
-    ensures { OnOk result (size_of store.now.layout ≡ size_of layout.now) }
+    ensures { OnOk result (size_seen store.now.layout store.now.joins ≡ size_of layout.now) }
 {
-    let found = store.layout;
-    let Shape { columns, rows, .. } = found.shape;
+    let Shape { columns, rows, .. } = store.layout.shape;
+    let processes = store.joins;
     if columns == layout.shape.columns
         && rows == layout.shape.rows
-        && found.processes == layout.processes
+        && processes == layout.processes
     {
         Ok(())
     } else {
         Err(StoreFault::OtherSheet {
             columns,
             rows,
-            processes: found.processes,
+            processes,
         })
     }
 }
@@ -258,8 +333,9 @@ pub fn open_or_make<S: Alter + Drop>(
     conn: Connection<S>,
     layout: Layout,
 ) -> Result<Opened<S>, StoreFault>
-    ensures asked { IfOk result (λ opened. size_of opened.store.layout ≡ size_of layout) }
+    ensures asked { IfOk result (λ opened. size_seen opened.store.layout opened.store.joins ≡ size_of layout) }
     ensures leads { IfOk result (λ opened. Leads opened.store.layout opened.store.counts.counts.items opened.sheet (map string_bytes opened.lines.items)) }
+    ensures joins { IfOk result (λ opened. opened.store.joins ≡ joins_of opened.store.layout (map string_bytes opened.lines.items)) }
     ensures opens { IfOk result (λ opened. HasCleanDisk (state S.Store opened.store.conn) → (held : List (List ℕ)) → Holds held (state S.Store conn).now
         → (map string_bytes opened.lines.items ≡ held) × Holds held (state S.Store opened.store.conn).now) }
     ensures makes { IfOk result (λ opened. HasCleanDisk (state S.Store opened.store.conn) → IsBare (state S.Store conn).now

@@ -1,6 +1,7 @@
 //! How many edits of each process a journal has.
 
-ghost use Rattle.std.specs.Prelude.{◌≡◌, ◌++◌, ◌∷◌, [], List, IfOk, IfSome, None};
+ghost use Rattle.std.specs.List.{list_any};
+ghost use Rattle.std.specs.Prelude.{◌≡◌, nat_le, ◌++◌, ◌∷◌, [], List, IfOk, IfSome, None};
 ghost use Rattle.ds_store_journal.specs.Journals.{AreCounts, KeptEdit, edits_by};
 
 use std::alloc::{AllocError, Global};
@@ -44,5 +45,12 @@ impl EditCounts {
         let more = number.checked_add(1)?;
         self.counts[process] = more;
         Some(number)
+    }
+
+    /// Whether a process has this number of edits, or more.
+    pub fn has_at_least(&self, number: usize) -> bool
+        ensures { result ≡ list_any (nat_le number) self.now.counts.items }
+    {
+        self.counts.iter().any(|count| *count >= number)
     }
 }
