@@ -1,4 +1,4 @@
--- What a call of a session over a shared sheet does to the seat that the session has.
+-- What a call of a session over a shared sheet does to the seat that acts for the session's process.
 use Rattle.std.specs.Prelude.{◌≡◌, ◌⊎◌, ℕ, List, Option, Some, None, Vec}
 use Rattle.std.specs.Global.{Global}
 use Rattle.std.specs.Arc.{arc_value}
@@ -13,7 +13,6 @@ use Rattle.ds_state.specs.declared.recovery.RecoveryEnd.{RecoveryEnd}
 use Rattle.ds_state.specs.declared.recovery.RecoveryEnd.TheVariants as recovery_ends
 use Rattle.ds_state.specs.declared.show.ShowEnd.{ShowEnd}
 use Rattle.ds_state.specs.declared.show.ShowEnd.TheVariants as show_ends
-use Rattle.ds_state.specs.declared.recovery.LastEdit.{LastEdit}
 use Rattle.ds_shared.specs.declared.ended.Ended.{Ended}
 use Rattle.ds_shared.specs.declared.ended.Ended.TheVariants.{Answered, Refused, Stopped}
 use Rattle.ds_shared.specs.declared.sheet.SharedSheet.{SharedSheet}
@@ -23,17 +22,11 @@ use Rattle.ds_shared_seats.specs.declared.seat.Seat.{Seat}
 use Rattle.ds_server.specs.declared.desk.CallRefusal.{CallRefusal}
 use Rattle.ds_server.specs.declared.desk.CallRefusal.TheVariants as refusals
 use Rattle.ds_server.specs.WorldDesks.{refused_by}
-use Rattle.ds_server.specs.DeskCalls.{Call, Join, Set, Report, Last, Leave}
 use Rattle.ds_server.specs.Replies as said
 
 -- how many steps a call of a session may take: as many as are counted
 abbrev pub STEPS_MOST : ℕ
 STEPS_MOST = 18446744073709551615
-
--- the session has the seat of this process
-abbrev pub IsSeatAt : Option Seat → ℕ → Type 0
-IsSeatAt None process = ⊥
-IsSeatAt (Some seat) process = seat.pass.process ≡ process
 
 -- the sheet of a seat
 abbrev pub sheet_of : Seat → SharedSheet
@@ -85,49 +78,20 @@ pub record BreaksOff (s : SharedSheet) (first new : Seat) (why : CallRefusal) : 
   pub works : Works s cell STEPS_MOST before.pass new.pass how
   pub cause : FitsCause how why
 
--- the session has taken a seat of this process, and all that it has used it for is a recovery that tells this
-pub record HasJoined (process : ℕ) (last : Option LastEdit) (new : Option Seat) : Type 0 where
-  pub seat : Seat
-  pub after : Seat
-  pub how : Ended RecoveryEnd
-  pub process_is : seat.pass.process ≡ process
-  pub recovers : Recovers (sheet_of seat) STEPS_MOST seat.pass after.pass how
-  pub tells : last_said how ≡ said.Tells last
-  pub new_is : new ≡ Some after
-
 -- the seat was used for one call more, an edit of this cell to this text, and this is said of it; or its sheet has no such
 -- cell: then it is refused as a process of another sheet, and the seat is as it was
-pub record HasSet (seat : Seat) (cell : Cell) (text : List ℕ) (what : said.Said) (new : Option Seat) : Type 0 where
-  pub after : Seat
-  pub new_is : new ≡ Some after
-  pub edits : ((how : Ended EditEnd) × Edits (sheet_of seat) cell text STEPS_MOST seat.pass after.pass how × (what ≡ set_said how)) ⊎ ((after ≡ seat) × (IsInside (sheet_of seat).board.layout.shape cell → ⊥) × (what ≡ said.Refused refusals.ProcessTaken))
+pub record HasSet (seat : Seat) (cell : Cell) (text : List ℕ) (what : said.Said) (new : Seat) : Type 0 where
+  pub edits : ((how : Ended EditEnd) × Edits (sheet_of seat) cell text STEPS_MOST seat.pass new.pass how × (what ≡ set_said how)) ⊎ ((new ≡ seat) × (IsInside (sheet_of seat).board.layout.shape cell → ⊥) × (what ≡ said.Refused refusals.ProcessTaken))
 
 -- the seat was used for works, and then for a report of which this is said, with its values where it is settled; or one of
 -- the works broke off, and the report is refused for its cause
-pub record HasReported (seat : Seat) (what : said.Said) (new : Option Seat) : Type 0 where
+pub record HasReported (seat : Seat) (what : said.Said) (new : Seat) : Type 0 where
   pub worked : Seat
-  pub after : Seat
-  pub new_is : new ≡ Some after
   pub works : HasWorked (sheet_of seat) seat worked
-  pub reports : ((how : Ended ShowEnd) × (values : Option (Vec Value Global)) × Reports (sheet_of seat) STEPS_MOST worked.pass after.pass how values × (what ≡ report_said how (last_of worked.last values).items)) ⊎ ((after ≡ worked) × ((why : CallRefusal) × (what ≡ said.Refused why) × BreaksOff (sheet_of seat) seat worked why))
+  pub reports : ((how : Ended ShowEnd) × (values : Option (Vec Value Global)) × Reports (sheet_of seat) STEPS_MOST worked.pass new.pass how values × (what ≡ report_said how (last_of worked.last values).items)) ⊎ ((new ≡ worked) × ((why : CallRefusal) × (what ≡ said.Refused why) × BreaksOff (sheet_of seat) seat worked why))
 
 -- the seat was used for one call more, a recovery, and this is said of it
-pub record HasRecovered (seat : Seat) (what : said.Said) (new : Option Seat) : Type 0 where
-  pub after : Seat
+pub record HasRecovered (seat : Seat) (what : said.Said) (new : Seat) : Type 0 where
   pub how : Ended RecoveryEnd
-  pub new_is : new ≡ Some after
-  pub recovers : Recovers (sheet_of seat) STEPS_MOST seat.pass after.pass how
+  pub recovers : Recovers (sheet_of seat) STEPS_MOST seat.pass new.pass how
   pub says : what ≡ last_said how
-
--- what a call that was answered so does to the seat that the session has, if any. A join takes one where there was none,
--- and answers what the process's recovery reports; it is refused only since the process is taken. A set is an edit of the call's cell to the call's
--- text; a report comes after works alone; last is a recovery. What each answer means is said by the shared sheet's own
--- calls. A process that is given back takes its seat with it. Nothing else changes it
-abbrev pub SharedDeals : Option Seat → Call → said.Said → Option Seat → Type 0
-SharedDeals old (Join p) (said.Joined q last) new = (old ≡ None) × (q ≡ p) × HasJoined p last new
-SharedDeals old (Join p) (said.Refused why) new = (new ≡ old) × (why ≡ refusals.ProcessTaken)
-SharedDeals (Some seat) (Set p cell text) what new = HasSet seat cell text what new
-SharedDeals (Some seat) (Report p) what new = HasReported seat what new
-SharedDeals (Some seat) (Last p) what new = HasRecovered seat what new
-SharedDeals old (Leave p) said.Left new = new ≡ None
-SharedDeals old call what new = ⊥

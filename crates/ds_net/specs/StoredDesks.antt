@@ -1,4 +1,4 @@
--- What a call of a session over a shared sheet with a store does to its seat, and of which edits the keeper of the store hears.
+-- What a call of a session over a shared sheet with a store does, and of which edits the keeper of the store hears.
 use Rattle.std.specs.Prelude.{◌≡◌, ◌⊎◌, ◌++◌, ◌∷◌, [], ℕ, List, Option, Some}
 use Rattle.ds_formula.specs.declared.cells.Cell.{Cell}
 use Rattle.ds_shared_seats.specs.declared.seat.Seat.{Seat}
@@ -6,7 +6,9 @@ use Rattle.ds_server.specs.declared.desk.CallRefusal.TheVariants as refusals
 use Rattle.ds_server.specs.DeskCalls.{Call, Set}
 use Rattle.ds_server.specs.Replies as said
 use Rattle.ds_store_journal.specs.Journals.{KeptEdit}
-use Rattle.ds_net.specs.SharedDesks.{HasSet, SharedDeals}
+use Rattle.ds_net.specs.PlacedDesks.{PlacedDeals, Uses}
+use Rattle.ds_net.specs.SharedDesks.{HasSet}
+use Rattle.ds_net.specs.declared.placed.Placed.{Placed}
 
 -- the edits of which the keeper has heard from the session, each with its process
 abbrev pub Heard : Type 0
@@ -19,12 +21,13 @@ heard_of process cell text what = []
 
 -- the seat was used for an edit of this cell to this text, and this is said of it; or an allocation has failed before it, and
 -- the seat is as it was. The keeper hears of it just where it is done
-abbrev pub StoredSet : Seat → Heard → Cell → List ℕ → said.Said → Option Seat → Heard → Type 0
-StoredSet seat before cell text what new after =
-    (HasSet seat cell text what new ⊎ ((new ≡ Some seat) × (what ≡ said.Refused refusals.NoMemory))) × (after ≡ before ++ heard_of seat.pass.process cell text what)
+abbrev pub StoredSet : Heard → Cell → List ℕ → Heard → Seat → said.Said → Seat → Type 0
+StoredSet before cell text after seat what new =
+    (HasSet seat cell text what new ⊎ ((new ≡ seat) × (what ≡ said.Refused refusals.NoMemory))) × (after ≡ before ++ heard_of seat.pass.process cell text what)
 
--- what a call that was answered so does to the seat that the session has, if any, and of which edits the keeper has heard
--- then: as over a sheet without a store, but that it hears of each edit that is done, and of nothing else
-abbrev pub StoredDeals : Option Seat → Heard → Call → said.Said → Option Seat → Heard → Type 0
-StoredDeals (Some seat) before (Set p cell text) what new after = StoredSet seat before cell text what new after
-StoredDeals old before call what new after = SharedDeals old call what new × (after ≡ before)
+-- what a call that was answered so does to what acts for the session's process, if it has joined one, and of which edits the keeper
+-- has heard then: as over a sheet without a store, but that it hears of each edit that is done, and of nothing else
+abbrev pub StoredDeals : Option Placed → Heard → Call → said.Said → Option Placed → Heard → Type 0
+StoredDeals (Some old) before (Set p cell text) what (Some new) after = Uses (StoredSet before cell text after) old what new
+StoredDeals old before (Set p cell text) what new after = ⊥
+StoredDeals old before call what new after = PlacedDeals old call what new × (after ≡ before)

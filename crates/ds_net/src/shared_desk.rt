@@ -1,14 +1,15 @@
 //! A desk that is a sheet which threads share, with no lock.
 
-ghost use Rattle.std.specs.Prelude.{◌≡◌, IfSome, Some};
+ghost use Rattle.std.specs.Prelude.{◌≡◌};
 ghost use Rattle.ds_shared_seats.specs.Sheets.{IsSeatOf};
 ghost use Rattle.ds_server.specs.Replies.{last_view, set_view, report_view};
 ghost use Rattle.ds_net.specs.SharedDesks.{HasSet, HasReported, HasRecovered, set_said, last_said, report_said, sheet_of};
+ghost use Rattle.ds_net.specs.PlacedDesks.{Uses};
 
-use crate::queues::put_back;
+use crate::placed::Placed;
+use crate::places::Places;
 use crate::shared_settle::{STEPS_MOST, shared_settle};
 use crate::visit::Visit;
-use crossbeam_queue::ArrayQueue;
 use ds_formula::cells::{Cell, Shape};
 use ds_order::course::Course;
 use ds_order::known::KnownReferences;
@@ -22,28 +23,28 @@ use std::alloc::Global;
 use std::sync::Wait;
 use std::time::Clock;
 
-/// What one session sees of a sheet that threads share: the seats that nobody has, and the one that it has taken.
+/// What one session sees of a sheet that threads share: where what acts for its processes lies, and what acts for the process
+/// that the session has joined.
 #[derive(Drop)]
 pub struct SharedDesk<'a, R: Wait + Clock> {
     pub(crate) rt: &'a R,
     pub(crate) shape: Shape,
-    pub(crate) queues: &'a [ArrayQueue<Seat>],
+    pub(crate) places: &'a Places,
     open: usize,
     visit: &'a Visit<'a>,
     references: &'a KnownReferences,
     course: Course,
-    pub(crate) seat: Option<Seat>,
+    pub(crate) placed: Option<Placed>,
 }
 
 impl<'a, R: Wait + Clock> SharedDesk<'a, R> {
-    /// Before a process is joined. Each process has a queue, which holds its seat while nobody has it; the first ones, this number
-    /// of them, may be joined. The visit notes which process is joined, and counts what the calls come to. The references are
-    /// those of the texts that were set; reports go by them.
+    /// Before a process is joined. The first processes, this number of them, may be joined. The visit notes which process is
+    /// joined, and counts what the calls come to. The references are those of the texts that were set; reports go by them.
     pub fn new(
         rt: &'a R,
         alloc: Global,
         shape: Shape,
-        queues: &'a [ArrayQueue<Seat>],
+        places: &'a Places,
         open: usize,
         visit: &'a Visit<'a>,
         references: &'a KnownReferences,
@@ -51,12 +52,12 @@ impl<'a, R: Wait + Clock> SharedDesk<'a, R> {
         SharedDesk {
             rt,
             shape,
-            queues,
+            places,
             open,
             visit,
             references,
             course: Course::new(alloc),
-            seat: None,
+            placed: None,
         }
     }
 }
@@ -107,7 +108,7 @@ pub(crate) fn edited(
     cell: Cell,
     text: &[u8],
 ) -> Result<EditEnd, CallRefusal>
-    ensures { HasSet seat.old cell text.now (set_view result) (Some seat.new) }
+    ensures { HasSet seat.old cell text.now (set_view result) seat.new }
 {
     match seat.edit(alloc, cell, text, STEPS_MOST) {
         Ok(how) => ended(how),
@@ -140,7 +141,7 @@ fn reported<R: Wait + Clock>(
     course: &Course,
     visit: &Visit<'_>,
 ) -> Result<Reported, CallRefusal>
-    ensures { HasReported seat.old (report_view result) (Some seat.new) }
+    ensures { HasReported seat.old (report_view result) seat.new }
 {
     shared_settle(rt, alloc, seat, course, visit)?;
     let how = seat.show(alloc, STEPS_MOST);
@@ -149,33 +150,69 @@ fn reported<R: Wait + Clock>(
 
 // A whole recovery, and what it tells.
 fn recovered(alloc: Global, seat: &mut Seat) -> Result<Option<LastEdit>, CallRefusal>
-    ensures { HasRecovered seat.old (last_view result) (Some seat.new) }
+    ensures { HasRecovered seat.old (last_view result) seat.new }
 {
     last_of(seat.recover(alloc, STEPS_MOST))
 }
 
-// The seat of a process, out of its queue. None where it is not there.
-fn popped<R: Wait>(rt: &R, queue: &ArrayQueue<Seat>, process: usize) -> Option<Seat>
-    ensures { IfSome result (λ seat. seat.pass.process ≡ process) }
+// An edit of what acts for a process, in the newest sheet.
+fn placed_edit<R: Wait>(
+    rt: &R,
+    alloc: Global,
+    places: &Places,
+    placed: &mut Placed,
+    cell: Cell,
+    text: &[u8],
+) -> Result<EditEnd, CallRefusal>
+    ensures uses { Uses (λ seat plain after. HasSet seat cell text.now plain after) placed.old (set_view result) placed.new }
+    ensures process { placed.new.seat.pass.process ≡ placed.old.seat.pass.process }
 {
-    let seat = queue.pop(rt)?;
-    if seat.process() == process {
-        Some(seat)
-    } else {
-        None
-    }
+    places.renew(rt, placed);
+    let end = edited(alloc, &mut placed.seat, cell, text);
+    placed.set_seen(end)
 }
 
-/// A session over a shared sheet has the seat of the process that it has joined.
+// A report of what acts for a process, of the newest sheet.
+fn placed_report<R: Wait + Clock>(
+    rt: &R,
+    alloc: Global,
+    places: &Places,
+    placed: &mut Placed,
+    course: &Course,
+    visit: &Visit<'_>,
+) -> Result<Reported, CallRefusal>
+    ensures uses { Uses HasReported placed.old (report_view result) placed.new }
+    ensures process { placed.new.seat.pass.process ≡ placed.old.seat.pass.process }
+{
+    places.renew(rt, placed);
+    reported(rt, alloc, &mut placed.seat, course, visit)
+}
+
+// A recovery of what acts for a process, in the newest sheet, and what it tells.
+fn placed_last<R: Wait>(
+    rt: &R,
+    alloc: Global,
+    places: &Places,
+    placed: &mut Placed,
+) -> Result<Option<LastEdit>, CallRefusal>
+    ensures uses { Uses HasRecovered placed.old (last_view result) placed.new }
+    ensures process { placed.new.seat.pass.process ≡ placed.old.seat.pass.process }
+{
+    places.renew(rt, placed);
+    let last = recovered(alloc, &mut placed.seat);
+    placed.last_seen(last)
+}
+
+/// A session over a shared sheet has what acts for the process that it has joined.
 impl<'a, R: Wait + Clock> Desk for SharedDesk<'a, R> {
-    ghost use Rattle.ds_net.specs.SharedDesks.{IsSeatAt, SharedDeals};
-    ghost use Rattle.std.specs.Prelude.{length};
+    ghost use Rattle.ds_net.specs.PlacedDesks.{IsPlacedAt, PlacedDeals};
+    ghost use Rattle.ds_net.specs.PlacesHeld.{count_of};
 
     ghost rules = { record {
       shape = λ d. d.shape;
-      processes = λ d. length d.queues.now;
-      sits = λ d p. IsSeatAt d.seat p;
-      does = λ old call said new. SharedDeals old.seat call said new.seat;
+      processes = λ d. count_of d.places.now;
+      sits = λ d p. IsPlacedAt d.placed p;
+      does = λ old call said new. PlacedDeals old.placed call said new.placed;
     } };
 
     fn shape(&self) -> Shape {
@@ -183,28 +220,27 @@ impl<'a, R: Wait + Clock> Desk for SharedDesk<'a, R> {
     }
 
     fn processes(&self) -> usize {
-        self.queues.len()
+        self.places.len()
     }
 
     fn join(&mut self, alloc: Global, process: usize) -> Result<Option<LastEdit>, CallRefusal> {
-        if self.seat.is_some() || process >= self.open {
+        if self.placed.is_some() || process >= self.open {
             return Err(CallRefusal::ProcessTaken);
         }
-        match popped(self.rt, &self.queues[process], process) {
-            Some(mut seat) => {
-                match recovered(alloc, &mut seat) {
-                    Ok(last) => {
-                        self.seat = Some(seat);
-                        self.visit.joins(process);
-                        Ok(last)
-                    }
-                    Err(why) => {
-                        put_back(self.rt, self.queues, process, seat);
-                        Err(why)
-                    }
-                }
+        let Some(mut placed) = self.places.take(self.rt, process) else {
+            return Err(CallRefusal::ProcessTaken);
+        };
+        match recovered(alloc, &mut placed.seat) {
+            Ok(last) => {
+                let seen = placed.last_seen(Ok(last));
+                self.placed = Some(placed);
+                self.visit.joins(process);
+                seen
             }
-            None => Err(CallRefusal::ProcessTaken),
+            Err(why) => {
+                self.places.put_back(self.rt, placed);
+                Err(why)
+            }
         }
     }
 
@@ -215,34 +251,37 @@ impl<'a, R: Wait + Clock> Desk for SharedDesk<'a, R> {
         cell: Cell,
         text: &[u8],
     ) -> Result<EditEnd, CallRefusal> {
-        let Some(seat) = &mut self.seat else {
+        let (rt, places) = (self.rt, self.places);
+        let Some(placed) = &mut self.placed else {
             return Err(CallRefusal::ProcessTaken);
         };
-        let end = edited(alloc, seat, cell, text);
+        let end = placed_edit(rt, alloc, places, placed, cell, text);
         self.noted(alloc, cell, text, &end);
         end
     }
 
     fn report(&mut self, alloc: Global, _process: usize) -> Result<Reported, CallRefusal> {
-        let Some(seat) = &mut self.seat else {
+        let (rt, places, visit) = (self.rt, self.places, self.visit);
+        let Some(placed) = &mut self.placed else {
             return Err(CallRefusal::ProcessTaken);
         };
         self.course.renew(alloc, self.references);
-        let end = reported(self.rt, alloc, seat, &self.course, self.visit);
+        let end = placed_report(rt, alloc, places, placed, &self.course, visit);
         self.visit.counts_report(&end);
         end
     }
 
     fn last(&mut self, alloc: Global, _process: usize) -> Result<Option<LastEdit>, CallRefusal> {
-        let Some(seat) = &mut self.seat else {
+        let (rt, places) = (self.rt, self.places);
+        let Some(placed) = &mut self.placed else {
             return Err(CallRefusal::ProcessTaken);
         };
-        recovered(alloc, seat)
+        placed_last(rt, alloc, places, placed)
     }
 
-    fn leave(&mut self, process: usize) {
-        if let Some(seat) = self.seat.take() {
-            put_back(self.rt, self.queues, process, seat);
+    fn leave(&mut self, _process: usize) {
+        if let Some(placed) = self.placed.take() {
+            self.places.put_back(self.rt, placed);
         }
     }
 }

@@ -54,7 +54,7 @@ fn roomy(read: &ReadJournal) -> Layout {
     let wanted = filled(&read.texts).div_ceil(SHARE);
     Layout {
         shape: read.texts.layout().shape,
-        processes: read.joins.max(wanted).min(PROCESS_LIMIT),
+        processes: read.joins.max(wanted).max(1).min(PROCESS_LIMIT),
     }
 }
 
@@ -162,20 +162,17 @@ impl ReadJournal {
     fn goes_over(&self, next: &ReadJournal) -> bool
         ensures { result ≡ true → (old new : List (List ℕ)) → HasRead self.now old → HasRead next.now new → GoesOver old new }
     {
-        next.joins == self.joins
-            && self.texts.is_same(&next.texts)
-            && stand_alike(self.joins, &self.standings, &next.standings)
+        if next.joins != self.joins || !self.texts.is_same(&next.texts) {
+            return false;
+        }
+        stand_alike(self.joins, &self.standings, &next.standings)
     }
 }
 
 /// The lines with which a store of these lines goes over to a new sheet: it has the same texts, as many processes may be
 /// joined, and each of those stands as it stood. A comment says of what the texts are. The fault is of a line that is none
 /// of a journal, or of a sheet with more texts than its processes can set; or an allocation failed.
-pub fn next_lines(
-    alloc: Global,
-    lines: &[String],
-    origin: &str,
-) -> Result<Vec<String>, StoreFault>
+pub fn next_lines(alloc: Global, lines: &[String], origin: &str) -> Result<Vec<String>, StoreFault>
     ensures { IfOk result (λ next. GoesOver (map string_bytes lines.now) (map string_bytes next.items)) }
 {
     let read = ReadJournal::of(alloc, lines)?;
