@@ -2,6 +2,8 @@
 -- move to one.
 use Rattle.std.proofs.Crossing.{crosses}
 use denote.Param.Send.{IsSend, IsSync, sendable}
+use denote.Param.SendFields.{declared_send}
+use denote.Struct.Record.{declared}
 use denote.Builtin.{bool}
 use denote.Ref.{NamedLft}
 use Rattle.std.specs.contracts.alloc.Global as Global
@@ -13,11 +15,13 @@ use Rattle.atomic_table.proofs.shared.Shared.TheSendSync.{the_sync as shared_syn
 use Rattle.atomic_table.proofs.send_lease.SendLease.TheSendSync.{the_sync as lease_sync}
 use Rattle.crossbeam_queue.specs.contracts.array_queue.plain.ArrayQueue as ArrayQueue
 use Rattle.ds_shared_seats.proofs.Crossing.{seat_send}
-use Rattle.ds_shared_seats.specs.contracts.seat.Seat as Seat
 use Rattle.ds_order.specs.contracts.known.KnownReferences as KnownReferences
 use Rattle.ds_net.specs.contracts.door.Door as Door
 use Rattle.ds_net.specs.contracts.keeping.Keeping as Keeping
 use Rattle.ds_net.specs.contracts.keeping.Backlog as Backlog
+use Rattle.ds_net.specs.contracts.numbering.Numbering as Numbering
+use Rattle.ds_net.specs.contracts.placed.Placed as Placed
+use Rattle.ds_net.specs.contracts.places.Places as Places
 use Rattle.ds_net.specs.contracts.server.Service as Service
 use Rattle.ds_net.specs.contracts.shared_floor.SharedFloor as SharedFloor
 use Rattle.ds_store_journal.specs.contracts.edit.AnsweredEdit as AnsweredEdit
@@ -59,10 +63,20 @@ listener_sync = search (sendable, crosses) depth 40
 pub service_send : IsSend Service.the_row
 service_send = search (sendable, crosses) depth 40
 
--- a queue of seats may be shared by threads
-pub seats_sync : IsSync (ArrayQueue.the_row Seat.the_row Global.the_row ghosts)
-seats_sync = search (sendable, crosses, shared_sync, lease_sync, seat_send) depth 60 fits 100000
+numbering_send : IsSend Numbering.the_row
+numbering_send = search (sendable, crosses) depth 40
+
+-- what acts for a process may go to another thread
+pub placed_send : IsSend Placed.the_row
+placed_send = declared_send (declared Placed.struct _) (seat_send, (search (sendable, crosses, numbering_send) depth 40, (search (sendable, crosses) depth 20, tt)))
+
+queue_sync : IsSync (ArrayQueue.the_row Placed.the_row Global.the_row ghosts)
+queue_sync = search (sendable, crosses, shared_sync, lease_sync, placed_send) depth 60 fits 100000
+
+-- the places of a sheet may be shared by threads
+pub places_sync : IsSync Places.the_row
+places_sync = search (sendable, crosses, queue_sync) depth 60 fits 100000
 
 -- a shared sheet, as it is served, may be shared by threads
 pub floor_sync : (κ : NamedLft) → IsSync (SharedFloor.the_row κ)
-floor_sync κ = search (sendable, references_sync, seats_sync) depth 60
+floor_sync κ = search (sendable, references_sync, places_sync) depth 60

@@ -1,5 +1,5 @@
 -- What the calls of a session over a shared sheet do to its seat.
-use Rattle.std.proofs.Common.{◌≡◌, ◌∙◌, ◌⊎◌, ◌<◌, ◌≤◌, ◌+◌, ◌*◌, arith, inl, inr, refl, sym, ap, subst, ℕ, Option, Some, Result, Ok, Err, IfOk, IfErr}
+use Rattle.std.proofs.Common.{◌≡◌, ◌∙◌, ◌⊎◌, ◌<◌, ◌≤◌, ◌+◌, ◌*◌, arith, inl, inr, refl, sym, ap, subst, ℕ, List, Option, Some, Result, Ok, Err, IfOk, IfErr}
 use Rattle.std.specs.Prelude.{Vec}
 use Rattle.std.proofs.Math.Nat.{mul-le-mul_right}
 use Rattle.std.specs.Result.{IsErrAnd, IsOkAnd}
@@ -17,7 +17,7 @@ use Rattle.ds_shared.specs.declared.ended.Ended.TheVariants.{Answered, Stopped}
 use Rattle.ds_shared.specs.declared.ended.Ended.TheVariants as ended
 use Rattle.ds_shared.specs.declared.pass.Pass.{Pass}
 use Rattle.ds_shared.specs.declared.sheet.SharedSheet.{SharedSheet}
-use Rattle.ds_shared_seats.specs.Calls.{Recovers, Reports, Works, last_of}
+use Rattle.ds_shared_seats.specs.Calls.{Edits, Recovers, Reports, Works, last_of}
 use Rattle.ds_shared_seats.specs.Sheets.{IsSeatOf, LacksCell}
 use Rattle.ds_shared_seats.specs.declared.fault.Fault.{Fault}
 use Rattle.ds_shared_seats.specs.declared.fault.Fault.TheVariants.{NoProcess, NoCell, SeatTaken, ShortChoice, NoMemory}
@@ -25,7 +25,13 @@ use Rattle.ds_shared_seats.specs.declared.seat.Seat.{Seat}
 use Rattle.ds_server.specs.declared.desk.CallRefusal.{CallRefusal}
 use Rattle.ds_server.specs.declared.desk.Reported.{Reported}
 use Rattle.ds_server.specs.Replies.{Said, Refused, report_view}
-use Rattle.ds_net.specs.SharedDesks.{BreaksOff, FitsCause, HasReported, HasWorked, STEPS_MOST, goes_on, last_said, report_said, rests, sheet_of}
+use Rattle.ds_server.specs.declared.desk.CallRefusal.TheVariants.{ProcessTaken}
+use Rattle.ds_server.specs.declared.desk.Reported.TheVariants as reports
+use Rattle.ds_state.specs.declared.answer.EditEnd.{EditEnd}
+use Rattle.ds_net.specs.declared.numbering.Numbering.{Numbering}
+use Rattle.ds_net.specs.Counting.{seen_by}
+use Rattle.ds_net.specs.StoredDesks.{Heard, StoredSet}
+use Rattle.ds_net.specs.SharedDesks.{BreaksOff, FitsCause, HasReported, HasSet, HasWorked, STEPS_MOST, goes_on, last_said, report_said, rests, set_said, sheet_of}
 
 -- one work more, or none
 pub one_more : (s : SharedSheet) (first seat new : Seat) (cell : Cell) (r : Result (Ended WorkEnd) Fault) → HasWorked s first seat → IsSeatOf s seat
@@ -112,10 +118,29 @@ recovery_is_answered s old new Stopped why h is =
     let low : n ≤ 1024 = s.board.layout.shape.within.cells_to_1024 in
     omega (arith, h.goes.steps, h.goes.all, h.short, few n low)
 
+-- an edit leaves the process of a seat
+pub set_process : (seat new : Seat) (cell : Cell) (text : List ℕ) (what : Said) → HasSet seat cell text what new → new.pass.process ≡ seat.pass.process
+set_process seat new cell text what h = go h.edits where
+  go : ((how : Ended EditEnd) × Edits (sheet_of seat) cell text STEPS_MOST seat.pass new.pass how × (what ≡ set_said how)) ⊎ ((new ≡ seat) × (IsInside (sheet_of seat).board.layout.shape cell → ⊥) × (what ≡ Refused ProcessTaken))
+      → new.pass.process ≡ seat.pass.process
+  go (inl k) = k.1.goes.process
+  go (inr k) = ap (λ (s : Seat). s.pass.process) k.0
+
+-- so does one of which the keeper of a store may hear
+pub stored_process : (before after : Heard) (seat new : Seat) (cell : Cell) (text : List ℕ) (what : Said) → StoredSet before cell text after seat what new → new.pass.process ≡ seat.pass.process
+stored_process before after seat new cell text what (inl h, heard) = set_process seat new cell text what h
+stored_process before after seat new cell text what (inr h, heard) = ap (λ (s : Seat). s.pass.process) h.0
+
 -- a report leaves the process of a seat
-pub reported_process : (seat new : Seat) (what : Said) → HasReported seat what (Some new) → new.pass.process ≡ seat.pass.process
-reported_process seat new what h = let is : Some new ≡ Some h.after = h.new_is in let same : new ≡ h.after = cc in ap (λ (s : Seat). s.pass.process) same ∙ (go h.reports ∙ same_process (sheet_of seat) seat h.worked h.works) where
-  go : ((how : Ended ShowEnd) × (values : Option (Vec Value Global)) × Reports (sheet_of seat) STEPS_MOST h.worked.pass h.after.pass how values × (what ≡ report_said how (last_of h.worked.last values).items)) ⊎ ((h.after ≡ h.worked) × ((why : CallRefusal) × (what ≡ Refused why) × BreaksOff (sheet_of seat) seat h.worked why))
-      → h.after.pass.process ≡ h.worked.pass.process
+pub reported_process : (seat new : Seat) (what : Said) → HasReported seat what new → new.pass.process ≡ seat.pass.process
+reported_process seat new what h = go h.reports ∙ same_process (sheet_of seat) seat h.worked h.works where
+  go : ((how : Ended ShowEnd) × (values : Option (Vec Value Global)) × Reports (sheet_of seat) STEPS_MOST h.worked.pass new.pass how values × (what ≡ report_said how (last_of h.worked.last values).items)) ⊎ ((new ≡ h.worked) × ((why : CallRefusal) × (what ≡ Refused why) × BreaksOff (sheet_of seat) seat h.worked why))
+      → new.pass.process ≡ h.worked.pass.process
   go (inl k) = k.2.goes.process
   go (inr k) = ap (λ (s : Seat). s.pass.process) k.0
+
+-- what is said to a report has no number of an edit
+pub report_seen : (numberings : List Numbering) (process : ℕ) (r : Result Reported CallRefusal) → report_view r ≡ seen_by numberings process (report_view r)
+report_seen numberings process (Ok (reports.Settled values)) = refl
+report_seen numberings process (Ok (reports.Unsettled place word)) = refl
+report_seen numberings process (Err why) = refl

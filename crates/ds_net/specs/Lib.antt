@@ -1,5 +1,6 @@
 pub mod Accepting
 pub mod Counting
+pub mod Numberings
 pub mod Permits
 pub mod PlacedDesks
 pub mod PlacesHeld

@@ -1,6 +1,7 @@
 //! The keeper of a store: it keeps the edits that the sessions of a server have made.
 
 use crate::door::Door;
+use crate::going_over::Household;
 use crate::keeping::{Drained, Keeping, News};
 use ds_store::fault::StoreFault;
 use ds_store::store::Store;
@@ -15,12 +16,14 @@ pub trait Attendant {
     fn attend(&mut self);
 }
 
-// Keeps the edits that it hears of, as many at once as have come, until no more come and all are kept.
+// Keeps the edits that it hears of, as many at once as have come, until no more come and all are kept. Where a process has
+// few left, it goes over to a new sheet.
 fn keep_on<S: Alter + Drop, R: Wait + Clock, T: Attendant>(
     rt: &R,
     alloc: Global,
     keeping: &Keeping,
     store: &mut Store<S>,
+    household: &mut Household<'_>,
     attendant: &mut T,
 ) -> Result<Drained, StoreFault> {
     for _ in rt.forever() {
@@ -29,6 +32,9 @@ fn keep_on<S: Alter + Drop, R: Wait + Clock, T: Attendant>(
             News::Edits(edits) => {
                 let committed = store.keep_all(alloc, edits)?;
                 keeping.count(rt, &committed);
+                if store.is_short() {
+                    household.go_over(rt, alloc, keeping, store)?;
+                }
             }
             News::Nothing => {}
             News::Over => break,
@@ -40,16 +46,18 @@ fn keep_on<S: Alter + Drop, R: Wait + Clock, T: Attendant>(
 
 /// Keeps the edits that the sessions of a server make in its store, as many at once as have come, until the server has
 /// ended and all are kept. Where some cannot be kept, nothing is kept any more: whoever waits for it hears so, and the
-/// door asks the server to stop. The attendant has its turn between two commits.
+/// door asks the server to stop. Where a process has few edits left, it goes over to a new sheet. The attendant has its turn
+/// between two commits.
 pub(crate) fn keep<S: Alter + Drop, R: Wait + Clock, T: Attendant>(
     rt: &R,
     alloc: Global,
     keeping: &Keeping,
     door: &Door,
     store: &mut Store<S>,
+    household: &mut Household<'_>,
     attendant: &mut T,
 ) -> Result<Drained, StoreFault> {
-    let kept = keep_on(rt, alloc, keeping, store, attendant);
+    let kept = keep_on(rt, alloc, keeping, store, household, attendant);
     if kept.is_err() {
         keeping.fail(rt);
         door.tell();

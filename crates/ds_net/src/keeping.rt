@@ -136,7 +136,7 @@ impl Backlog {
     }
 
     // All edits that have come, which the keeper has in hand then.
-    fn take(&mut self, alloc: Global) -> Vec<AnsweredEdit>
+    pub(crate) fn take(&mut self, alloc: Global) -> Vec<AnsweredEdit>
         ensures edits { result.items ≡ self.old.edits.items }
         ensures taken { self.new.taken ≡ self.old.taken + length self.old.edits.items }
         ensures heard { (self.new.heard ≡ self.old.heard) × (self.new.kept ≡ self.old.kept) }
@@ -147,7 +147,7 @@ impl Backlog {
     }
 
     // The edits of a commit are kept. Where they are more than the keeper has in hand, nothing is kept any more.
-    fn keep(&mut self, committed: &Committed)
+    pub(crate) fn keep(&mut self, committed: &Committed)
         ensures kept { (self.new.kept.count ≡ self.old.kept.count + length committed.now.edits.items) ⊎ (self.new.phase ≡ Phase.Failed) }
         ensures at_most { self.new.kept.count ≤ self.old.kept.count + length committed.now.edits.items }
         ensures heard { (self.new.heard ≡ self.old.heard) × (self.new.edits ≡ self.old.edits) }
@@ -204,6 +204,11 @@ impl Keeping {
     /// Wakes the keeper, which has heard of something.
     pub(crate) fn wake(&self) {
         self.news.notify_one();
+    }
+
+    /// Wakes all that wait for edits to be kept.
+    pub(crate) fn wake_all(&self) {
+        self.done.notify_all();
     }
 
     /// Waits until all edits are kept that the keeper has heard of, also that which is being made. None where they cannot

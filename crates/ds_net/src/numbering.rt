@@ -1,11 +1,20 @@
 //! How the edits of a process are numbered for its clients.
 
-ghost use Rattle.std.specs.Prelude.{◌≡◌, Some};
+ghost use Rattle.std.specs.Prelude.{◌≡◌, List, IfOk, Some, map};
+ghost use Rattle.std.specs.String.{string_bytes};
+ghost use Rattle.ds_store_journal.specs.Journals.{KeptEdit};
+ghost use Rattle.ds_store.specs.Stores.{GoesOn};
 ghost use Rattle.ds_net.specs.Counting.{last_by, number_by};
+ghost use Rattle.ds_net.specs.Numberings.{AreNumberings, Numbers};
 
 use ds_formula::cells::Shape;
 use ds_state::recovery::LastEdit;
+use ds_store::fault::StoreFault;
+use ds_store::store::Store;
 use ds_store_journal::standing::Standing;
+use ds_store_journal::standings::standings_of;
+use sqlite::Alter;
+use std::alloc::Global;
 
 /// How the edits of a process are numbered for its clients: those of the sheets that the server has gone over from come
 /// first.
@@ -20,24 +29,17 @@ pub struct Numbering {
 }
 
 impl Numbering {
-    /// Of a sheet with no other before it.
-    pub fn new() -> Numbering {
-        Numbering {
-            edits: 0,
-            last: None,
-            made: 0,
-        }
-    }
-
     /// Of a process that stood so, and has made that number of edits of a sheet of this shape.
-    pub fn of(shape: Shape, standing: Standing, made: usize) -> Numbering {
+    pub fn of(shape: Shape, standing: &Standing, made: usize) -> Numbering
+        ensures { Numbers shape standing.now made result }
+    {
         let last = match standing.last {
-            Some(cell) => Some(LastEdit {
+            Some(cell) if shape.contains(cell) => Some(LastEdit {
                 number: standing.edits.saturating_sub(1),
                 cell: shape.index(cell),
                 counts: true,
             }),
-            None => None,
+            Some(_) | None => None,
         };
         Numbering {
             edits: standing.edits,
@@ -65,4 +67,23 @@ impl Numbering {
             Some(_) | None => self.last,
         }
     }
+}
+
+/// How each process is numbered for its clients, of a store of which these are the lines.
+pub fn numberings<S: Alter + Drop>(
+    alloc: Global,
+    store: &Store<S>,
+    lines: &[String],
+) -> Result<Vec<Numbering>, StoreFault>
+    ensures { IfOk result (λ numberings. (edits : List KeptEdit) → GoesOn store.now.layout store.now.counts.counts.items (map string_bytes lines.now) edits
+        → AreNumberings store.now.layout (map string_bytes lines.now) edits numberings.items) }
+{
+    let layout = store.layout();
+    let standings = standings_of(alloc, &layout, lines)?;
+    let mut numberings = Vec::with_capacity(alloc, layout.processes)?;
+    for process in 0..layout.processes {
+        let made = store.edits_of(process);
+        numberings.push_reserved(Numbering::of(layout.shape, &standings[process], made));
+    }
+    Ok(numberings)
 }

@@ -1,8 +1,8 @@
 //! What acts for a process of a sheet that is served.
 
-ghost use Rattle.std.specs.Prelude.{◌≡◌};
-ghost use Rattle.ds_server.specs.Replies.{last_view, set_view};
-ghost use Rattle.ds_net.specs.Counting.{number_seen, other_seen};
+ghost use Rattle.std.specs.Prelude.{◌≡◌, ◌<◌, All, IfOk};
+ghost use Rattle.ds_server.specs.Replies.{set_view};
+ghost use Rattle.ds_net.specs.Counting.{last_seen, number_seen, other_seen};
 ghost use Rattle.ds_net.specs.Placing.{seen_at};
 
 use crate::numbering::Numbering;
@@ -10,9 +10,10 @@ use ds_server::desk::CallRefusal;
 use ds_shared_seats::seat::Seat;
 use ds_state::answer::{EditEnd, Other};
 use ds_state::recovery::LastEdit;
+use std::alloc::{AllocError, Global};
 
-/// What acts for a process: its seat, by which numbers clients know the edits of each process, and of the how manieth
-/// sheet of the server these are.
+/// What acts for a process: its seat, by which numbers clients know the edits of each process, and of which of the
+/// server's sheets these are, from 0.
 #[derive(Drop)]
 pub struct Placed {
     pub(crate) seat: Seat,
@@ -76,17 +77,13 @@ impl Placed {
         }
     }
 
-    // The last edit of its process, as clients know it.
-    pub(crate) fn last_seen(
-        &self,
-        last: Result<Option<LastEdit>, CallRefusal>,
-    ) -> Result<Option<LastEdit>, CallRefusal>
-        ensures { last_view result ≡ seen_at self.now (last_view last) }
+    // The last edit of its process, as clients know it, where its sheet tells of this one.
+    pub(crate) fn last_seen(&self, last: Option<LastEdit>) -> Option<LastEdit>
+        ensures { result ≡ last_seen self.now.numberings.items self.now.seat.pass.process last }
     {
-        let told = last?;
         match self.numberings.get(self.process()) {
-            Some(numbering) => Ok(numbering.last(told)),
-            None => Ok(told),
+            Some(numbering) => numbering.last(last),
+            None => last,
         }
     }
 
@@ -95,4 +92,36 @@ impl Placed {
         let Placed { seat, .. } = self;
         seat.give_back();
     }
+}
+
+/// What acts for each process of a sheet that has none before it, of which these are the seats.
+pub fn placed_first(alloc: Global, seats: Vec<Seat>) -> Result<Vec<Placed>, AllocError> {
+    let mut all = Vec::with_capacity(alloc, seats.len())?;
+    for seat in seats {
+        all.push(Placed::new(seat, Vec::new(alloc), 0))?;
+    }
+    Ok(all)
+}
+
+/// What acts for each of the first processes, this number of them, of a sheet of which these are the seats, with these
+/// numberings; it is of the server's sheet with that number, from 0. The other seats go back to the sheet.
+pub fn placed_all(
+    alloc: Global,
+    seats: Vec<Seat>,
+    joins: usize,
+    numberings: &[Numbering],
+    era: u64,
+) -> Result<Vec<Placed>, AllocError>
+    ensures { IfOk result (λ all. All (λ placed. (placed.numberings.items ≡ numberings.now) × (placed.era ≡ era) × (placed.seat.pass.process < joins)) all.items) }
+{
+    let mut all = Vec::with_capacity(alloc, joins)?;
+    for seat in seats {
+        if seat.process() >= joins {
+            seat.give_back();
+            continue;
+        }
+        let copy = Vec::from_slice(alloc, numberings)?;
+        all.push(Placed::new(seat, copy, era))?;
+    }
+    Ok(all)
 }

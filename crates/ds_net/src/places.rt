@@ -1,6 +1,7 @@
 //! Where what acts for the processes of a server's sheet lies.
 
 ghost use Rattle.std.specs.Prelude.{◌≡◌, IfSome};
+ghost use Rattle.ds_net.specs.PlacesHeld.{count_of};
 ghost use Rattle.ds_net.specs.Placing.{Renews};
 
 use crate::placed::Placed;
@@ -48,6 +49,7 @@ impl Places {
 
     /// How many processes there are.
     pub fn len(&self) -> usize
+        ensures { result ≡ count_of self.now }
     {
         self.resting.len()
     }

@@ -8,13 +8,12 @@ use crate::connection::served;
 use crate::counts::{Counts, Taken};
 use crate::door::Door;
 use crate::floor::Floor;
-use crate::queues::queues as own_queues;
+use crate::placed::placed_first;
+use crate::places::Places;
 use crate::shared_floor::SharedFloor;
 use crate::wire::ticks_of;
-use crossbeam_queue::ArrayQueue;
 use ds_layout::layout::Layout;
 use ds_order::known::KnownReferences;
-use ds_shared_seats::seat::Seat;
 use ds_shared_seats::sheet::OpenSheet;
 use ds_store::fault::StoreFault;
 use ds_store::seated::SeatedSheet;
@@ -209,44 +208,34 @@ pub(crate) fn sum_up<R: Log>(rt: &R, taken: &Taken, door: &Door) {
         taken.connections(), taken.refused(), totals.joined, totals.done, totals.overtaken, totals.refused, totals.reports);
 }
 
-// Gives the seats of all processes back to their sheet.
-fn give_back<R: Wait>(rt: &R, queues: &[ArrayQueue<Seat>]) {
-    for queue in queues {
-        if let Some(seat) = queue.pop(rt) {
-            seat.give_back();
-        }
-    }
-}
-
 // Closes the sheet. Whether it could be closed.
 fn is_closed(alloc: Global, sheet: OpenSheet) -> bool {
     sheet.close(alloc).is_ok()
 }
 
-// Closes the sheet with the seats of all its processes, and says in the log where one is lost.
-pub(crate) fn close<R: Wait + Log>(
-    rt: &R,
-    alloc: Global,
-    sheet: OpenSheet,
-    queues: &[ArrayQueue<Seat>],
-) {
-    give_back(rt, queues);
+// Closes the newest sheet with the seats of all its processes, and says in the log where one is lost.
+pub(crate) fn close<R: Wait + Log>(rt: &R, alloc: Global, sheet: OpenSheet, places: &Places) {
+    for process in 0..places.len() {
+        if let Some(placed) = places.take(rt, process) {
+            placed.give_back();
+        }
+    }
     if !is_closed(alloc, sheet) {
         error!(rt; "a process was lost");
     }
 }
 
-// A new sheet of this layout, a queue for the seat of each process, and what is known of its references. None where an
+// A new sheet of this layout, the places of what acts for its processes, and what is known of its references. None where an
 // allocation fails.
 fn opened<R: Wait>(
     rt: &R,
     alloc: Global,
     layout: Layout,
-) -> Option<(OpenSheet, Vec<ArrayQueue<Seat>>, KnownReferences)> {
+) -> Option<(OpenSheet, Places, KnownReferences)> {
     let references = KnownReferences::new(alloc, layout.shape).ok()?;
     let (sheet, seats) = SeatedSheet::make(alloc, layout).ok()?.into_parts();
-    let queues = own_queues(rt, alloc, seats).ok()?;
-    Some((sheet, queues, references))
+    let places = Places::new(rt, alloc, placed_first(alloc, seats).ok()?).ok()?;
+    Some((sheet, places, references))
 }
 
 // Closes the sheet of a server that has ended well, and sums up in the log what its sessions came to.
@@ -254,12 +243,12 @@ fn end<R: Wait + Log>(
     rt: &R,
     alloc: Global,
     sheet: OpenSheet,
-    queues: &[ArrayQueue<Seat>],
+    places: &Places,
     taken: &Result<Taken, ServeError>,
     door: &Door,
 ) {
     if let Ok(taken) = taken {
-        close(rt, alloc, sheet, queues);
+        close(rt, alloc, sheet, places);
         sum_up(rt, taken, door);
     }
 }
@@ -279,12 +268,11 @@ pub fn serve<R: Threads + Wait + Clock + Log + Sync>(
     ensures served { IfOk result (IsServed service.sessions) }
     ensures lasting { IfErr result IsLasting }
 {
-    let Some((sheet, queues, references)) = opened(rt, alloc, layout) else {
+    let Some((sheet, places, references)) = opened(rt, alloc, layout) else {
         return Err(ServeError::NoMemory);
     };
-    let queues = queues.as_slice();
-    let floor = SharedFloor::new(&references, queues, service.workers);
+    let floor = SharedFloor::new(&references, &places, service.workers);
     let taken = serve_floor(rt, alloc, listener, &floor, door, service);
-    end(rt, alloc, sheet, queues, &taken, door);
+    end(rt, alloc, sheet, &places, &taken, door);
     taken
 }

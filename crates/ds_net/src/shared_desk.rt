@@ -199,8 +199,10 @@ fn placed_last<R: Wait>(
     ensures process { placed.new.seat.pass.process ≡ placed.old.seat.pass.process }
 {
     places.renew(rt, placed);
-    let last = recovered(alloc, &mut placed.seat);
-    placed.last_seen(last)
+    match recovered(alloc, &mut placed.seat) {
+        Ok(last) => Ok(placed.last_seen(last)),
+        Err(why) => Err(why),
+    }
 }
 
 /// A session over a shared sheet has what acts for the process that it has joined.
@@ -232,10 +234,10 @@ impl<'a, R: Wait + Clock> Desk for SharedDesk<'a, R> {
         };
         match recovered(alloc, &mut placed.seat) {
             Ok(last) => {
-                let seen = placed.last_seen(Ok(last));
+                let seen = placed.last_seen(last);
                 self.placed = Some(placed);
                 self.visit.joins(process);
-                seen
+                Ok(seen)
             }
             Err(why) => {
                 self.places.put_back(self.rt, placed);

@@ -2,11 +2,11 @@
 
 use crate::floor::Floor;
 use crate::permit::Permit;
-use crate::queues::put_back;
+use crate::placed::Placed;
+use crate::places::Places;
 use crate::shared_desk::SharedDesk;
 use crate::shared_settle::{REST, Round, STEPS_MOST, shared_round};
 use crate::visit::Visit;
-use crossbeam_queue::ArrayQueue;
 use ds_formula::cells::Shape;
 use ds_order::course::Course;
 use ds_order::known::KnownReferences;
@@ -20,26 +20,26 @@ use std::sync::{Mutex, Wait};
 use std::thread;
 use std::time::{Clock, Duration};
 
-/// A shared sheet, with a queue for the seat of each process, and what is known of its references.
+/// A shared sheet, with the places of what acts for its processes, and what is known of its references.
 #[derive(Drop)]
 pub struct SharedFloor<'a> {
     shape: Shape,
-    queues: &'a [ArrayQueue<Seat>],
+    places: &'a Places,
     open: usize,
     references: &'a KnownReferences,
 }
 
 impl<'a> SharedFloor<'a> {
-    /// A sheet with these references and these queues, of which the last ones, this number of them, are for workers.
+    /// A sheet with these references and these places, of which the last ones, this number of them, are for workers.
     pub fn new(
         references: &'a KnownReferences,
-        queues: &'a [ArrayQueue<Seat>],
+        places: &'a Places,
         workers: usize,
     ) -> SharedFloor<'a> {
         SharedFloor {
             shape: references.shape(),
-            queues,
-            open: queues.len().saturating_sub(workers),
+            places,
+            open: places.len().saturating_sub(workers),
             references,
         }
     }
@@ -58,11 +58,12 @@ fn round(alloc: Global, seat: &mut Seat, course: &Course) -> bool {
     }
 }
 
-// Goes round the cells until it is asked to stop, and rests where there was no work.
+// Goes round the cells of the newest sheet until it is asked to stop, and rests where there was no work.
 fn go_round<R: Wait + Clock>(
     rt: &R,
     alloc: Global,
-    seat: &mut Seat,
+    places: &Places,
+    placed: &mut Placed,
     references: &KnownReferences,
     stop: &Mutex<bool>,
 ) {
@@ -71,8 +72,9 @@ fn go_round<R: Wait + Clock>(
         if *stop.lock(rt) {
             break;
         }
+        places.renew(rt, placed);
         course.renew(alloc, references);
-        if !round(alloc, seat, &course) {
+        if !round(alloc, &mut placed.seat, &course) {
             thread::sleep(rt, Duration::from_millis(REST));
         }
     }
@@ -90,7 +92,7 @@ impl<'a> SharedFloor<'a> {
             rt,
             alloc,
             self.shape,
-            self.queues,
+            self.places,
             self.open,
             visit,
             self.references,
@@ -104,7 +106,7 @@ impl<'a> Floor for SharedFloor<'a> {
     ghost keeps = { false };
 
     fn processes(&self) -> usize {
-        self.queues.len()
+        self.places.len()
     }
 
     fn permit<R: Wait>(&self, _rt: &R) -> Option<Permit> {
@@ -124,13 +126,10 @@ impl<'a> Floor for SharedFloor<'a> {
     }
 
     fn work<R: Wait + Clock>(&self, rt: &R, alloc: Global, process: usize, stop: &Mutex<bool>) {
-        let Some(queue) = self.queues.get(process) else {
+        let Some(mut placed) = self.places.take(rt, process) else {
             return;
         };
-        let Some(mut seat) = queue.pop(rt) else {
-            return;
-        };
-        go_round(rt, alloc, &mut seat, self.references, stop);
-        put_back(rt, self.queues, process, seat);
+        go_round(rt, alloc, self.places, &mut placed, self.references, stop);
+        self.places.put_back(rt, placed);
     }
 }

@@ -6,15 +6,16 @@ ghost use Rattle.ds_net.specs.Accepting.{IsLasting, IsServed, IsStoredLasting};
 use crate::counts::Taken;
 use crate::door::Door;
 use crate::floor::Floor;
+use crate::going_over::Household;
 use crate::keeper::{Attendant, keep};
 use crate::keeping::{Drained, Keeping};
-use crate::queues::queues as own_queues;
+use crate::numbering::numberings;
+use crate::placed::placed_all;
+use crate::places::Places;
 use crate::server::{ServeError, Service, close, serve_floor, sum_up};
 use crate::shared_floor::SharedFloor;
 use crate::stored_floor::StoredFloor;
-use crossbeam_queue::ArrayQueue;
 use ds_order::known::KnownReferences;
-use ds_shared_seats::seat::Seat;
 use ds_shared_seats::sheet::OpenSheet;
 use ds_store::seated::SeatedSheet;
 use ds_store::store::{Opened, Store};
@@ -108,6 +109,7 @@ fn serve_beside<
     door: &Door,
     service: Service,
     store: &mut Store<S>,
+    household: &mut Household<'_>,
     attendant: &mut T,
 ) -> Result<StoredEnd, ServeError>
     ensures served { IfOk result (λ end. IsServed service.sessions end.taken) }
@@ -124,7 +126,7 @@ fn serve_beside<
             else {
                 return Err(ServeError::NoMemory);
             };
-            let kept = keep(rt, alloc, keeping, door, store, attendant);
+            let kept = keep(rt, alloc, keeping, door, store, household, attendant);
             let taken = server.join(rt)?;
             sum_up(rt, &taken, door);
             let drained = kept.map_err(ServeError::Store)?;
@@ -145,29 +147,38 @@ fn references(alloc: Global, sheet: &SeatedSheet, lines: &[String]) -> Option<Kn
     Some(references)
 }
 
-// The sheet of a store, a queue for the seat of each process, and what is known of its references.
+// The sheet of a store, where what acts for its processes lies, and what is known of its references.
 #[derive(Drop)]
 struct Housed {
     sheet: OpenSheet,
-    queues: Vec<ArrayQueue<Seat>>,
+    places: Places,
     references: KnownReferences,
 }
 
 // So of the sheet that the store's edits have made. None where an allocation fails.
-fn put_up<R: Wait>(rt: &R, alloc: Global, sheet: SeatedSheet, lines: &[String]) -> Option<Housed> {
+fn put_up<S: Alter + Drop, R: Wait>(
+    rt: &R,
+    alloc: Global,
+    store: &Store<S>,
+    sheet: SeatedSheet,
+    lines: &[String],
+) -> Option<Housed> {
     let references = references(alloc, &sheet, lines)?;
+    let numberings = numberings(alloc, store, lines).ok()?;
     let (sheet, seats) = sheet.into_parts();
-    let queues = own_queues(rt, alloc, seats).ok()?;
+    let all = placed_all(alloc, seats, store.joins(), &numberings, 0).ok()?;
+    let places = Places::new(rt, alloc, all).ok()?;
     Some(Housed {
         sheet,
-        queues,
+        places,
         references,
     })
 }
 
 /// Serves the sheet of an open store, which its threads share, as `server::serve_floor` says, while the calling thread
 /// keeps in the store each edit that its sessions have done. Edits take turns; nothing else takes a lock. No answer leaves
-/// before the edits are committed that it could tell of. The attendant has its turn between two commits, four times a
+/// before the edits are committed that it could tell of. Where a process has few edits left in the sheet, the server goes
+/// over to a new one, of which clients see nothing: numbers go on. The attendant has its turn between two commits, four times a
 /// second at least. An error is that of `server::serve_floor`, or that an allocation failed; or the store has failed, and
 /// the server was stopped: what was committed stands, and no answer has left after it. The store comes back.
 pub fn serve<S: Alter + Drop, T: Attendant, R: Threads + Wait + Clock + Log + Sync>(
@@ -190,23 +201,32 @@ pub fn serve<S: Alter + Drop, T: Attendant, R: Threads + Wait + Clock + Log + Sy
     let Some(
         Housed {
             sheet,
-            queues,
+            places,
             references,
         },
-    ) = put_up(rt, alloc, sheet, &lines)
+    ) = put_up(rt, alloc, &store, sheet, &lines)
     else {
         return (Err(ServeError::NoMemory), store);
     };
     drop(lines);
-    let queues = queues.as_slice();
+    let mut household = Household::new(sheet, &places);
     let keeping = Keeping::new(alloc);
-    let shared = SharedFloor::new(&references, queues, service.workers);
+    let shared = SharedFloor::new(&references, &places, service.workers);
     let floor = StoredFloor::new(&shared, &keeping);
     let ended = serve_beside(
-        rt, alloc, listener, &floor, &keeping, door, service, &mut store, attendant,
+        rt,
+        alloc,
+        listener,
+        &floor,
+        &keeping,
+        door,
+        service,
+        &mut store,
+        &mut household,
+        attendant,
     );
     if ended.is_ok() {
-        close(rt, alloc, sheet, queues);
+        close(rt, alloc, household.into_sheet(), &places);
     }
     (ended, store)
 }

@@ -1,10 +1,13 @@
 //! A desk that is a shared sheet whose edits are kept in a store.
 
-ghost use Rattle.std.specs.Prelude.{◌≡◌, Some};
+ghost use Rattle.std.specs.Prelude.{◌≡◌};
 ghost use Rattle.ds_server.specs.Replies.{set_view};
+ghost use Rattle.ds_net.specs.PlacedDesks.{Uses};
 ghost use Rattle.ds_net.specs.StoredDesks.{StoredSet};
 
-use crate::keeping::Keeping;
+use crate::keeping::{Backlog, Keeping};
+use crate::placed::Placed;
+use crate::places::Places;
 use crate::shared_desk::{SharedDesk, edited};
 use ds_formula::cells::{Cell, Shape};
 use ds_server::desk::{CallRefusal, Desk, Reported};
@@ -37,55 +40,90 @@ impl<'a, R: Wait + Clock> StoredDesk<'a, R> {
     }
 }
 
-// A whole edit, which nobody else's overlaps; the keeper of the store hears of it before the next one begins, if it is
-// done. Where memory is short for that, nothing is done.
-fn edited_in_turn<R: Wait>(
-    rt: &R,
+// An edit of what acts for a process, which nobody else's overlaps, with room for the keeper to hear of it.
+fn edited_alone(
     alloc: Global,
-    keeping: &Keeping,
+    backlog: &mut Backlog,
     heard: &mut Log<usize, AnsweredEdit>,
     seat: &mut Seat,
     cell: Cell,
-    text: &[u8],
+    text: Vec<u8>,
 ) -> Result<EditEnd, CallRefusal>
-    ensures { StoredSet seat.old heard.old.items cell text.now (set_view result) (Some seat.new) heard.new.items }
+    ensures { StoredSet heard.old.items cell text.items heard.new.items seat.old (set_view result) seat.new }
 {
-    let Ok(copy) = Vec::from_slice(alloc, text) else {
-        return Err(CallRefusal::NoMemory);
-    };
-    let mut backlog = keeping.take_turn(rt);
     if backlog.make_room().is_err() {
         return Err(CallRefusal::NoMemory);
     }
     let process = seat.process();
-    match edited(alloc, seat, cell, text) {
+    match edited(alloc, seat, cell, text.as_slice()) {
         Ok(EditEnd::Done(number)) => {
             let edit = AnsweredEdit {
                 process,
                 number,
                 cell,
-                text: copy,
+                text,
             };
             backlog.hear(heard, edit);
-            keeping.wake();
             Ok(EditEnd::Done(number))
         }
         other => other,
     }
 }
 
+// A whole edit of what acts for a process, in the newest sheet, which nobody else's overlaps; the keeper of the store hears
+// of it before the next one begins, if it is done. Where memory is short for that, nothing is done.
+fn edited_in_turn<R: Wait>(
+    rt: &R,
+    alloc: Global,
+    places: &Places,
+    keeping: &Keeping,
+    heard: &mut Log<usize, AnsweredEdit>,
+    placed: &mut Placed,
+    cell: Cell,
+    text: Vec<u8>,
+) -> Result<EditEnd, CallRefusal>
+    ensures uses { Uses (StoredSet heard.old.items cell text.items heard.new.items) placed.old (set_view result) placed.new }
+    ensures process { placed.new.seat.pass.process ≡ placed.old.seat.pass.process }
+{
+    let mut backlog = keeping.take_turn(rt);
+    places.renew(rt, placed);
+    let end = edited_alone(alloc, &mut backlog, heard, &mut placed.seat, cell, text);
+    keeping.wake();
+    placed.set_seen(end)
+}
+
+// The same of this text, where there is room for a copy of it.
+fn placed_edit<R: Wait>(
+    rt: &R,
+    alloc: Global,
+    places: &Places,
+    keeping: &Keeping,
+    heard: &mut Log<usize, AnsweredEdit>,
+    placed: &mut Placed,
+    cell: Cell,
+    text: &[u8],
+) -> Result<EditEnd, CallRefusal>
+    ensures uses { Uses (StoredSet heard.old.items cell text.now heard.new.items) placed.old (set_view result) placed.new }
+    ensures process { placed.new.seat.pass.process ≡ placed.old.seat.pass.process }
+{
+    match Vec::from_slice(alloc, text) {
+        Ok(copy) => edited_in_turn(rt, alloc, places, keeping, heard, placed, cell, copy),
+        Err(_) => Err(CallRefusal::NoMemory),
+    }
+}
+
 /// As the shared sheet's desk; and the keeper of the store hears of each edit that is answered Done, of no other, and in
 /// the order in which they count.
 impl<'a, R: Wait + Clock> Desk for StoredDesk<'a, R> {
-    ghost use Rattle.ds_net.specs.SharedDesks.{IsSeatAt};
+    ghost use Rattle.ds_net.specs.PlacedDesks.{IsPlacedAt};
+    ghost use Rattle.ds_net.specs.PlacesHeld.{count_of};
     ghost use Rattle.ds_net.specs.StoredDesks.{StoredDeals};
-    ghost use Rattle.std.specs.Prelude.{length};
 
     ghost rules = { record {
       shape = λ d. d.shared.shape;
-      processes = λ d. length d.shared.queues.now;
-      sits = λ d p. IsSeatAt d.shared.seat p;
-      does = λ old call said new. StoredDeals old.shared.seat old.heard.items call said new.shared.seat new.heard.items;
+      processes = λ d. count_of d.shared.places.now;
+      sits = λ d p. IsPlacedAt d.shared.placed p;
+      does = λ old call said new. StoredDeals old.shared.placed old.heard.items call said new.shared.placed new.heard.items;
     } };
 
     fn shape(&self) -> Shape {
@@ -107,11 +145,20 @@ impl<'a, R: Wait + Clock> Desk for StoredDesk<'a, R> {
         cell: Cell,
         text: &[u8],
     ) -> Result<EditEnd, CallRefusal> {
-        let (rt, keeping) = (self.shared.rt, self.keeping);
-        let Some(seat) = &mut self.shared.seat else {
+        let (rt, places, keeping) = (self.shared.rt, self.shared.places, self.keeping);
+        let Some(placed) = &mut self.shared.placed else {
             return Err(CallRefusal::ProcessTaken);
         };
-        let end = edited_in_turn(rt, alloc, keeping, &mut self.heard, seat, cell, text);
+        let end = placed_edit(
+            rt,
+            alloc,
+            places,
+            keeping,
+            &mut self.heard,
+            placed,
+            cell,
+            text,
+        );
         self.shared.noted(alloc, cell, text, &end);
         end
     }

@@ -7,8 +7,6 @@ use Rattle.ds_net.proofs.shared_desk.reported.Goals as goal
 pub returns-in_err-shared_settle : goal.returns-in_err-shared_settle
 returns-in_err-shared_settle g c = record {
   worked = c.shared_settle.new.seat;
-  after = c.shared_settle.new.seat;
-  new_is = refl;
   works = c.shared_settle.ensures.works;
   reports = inr (refl, refused_is (sheet_of c.args.seat.now) c.args.seat.now c.shared_settle.new.seat c.from_residual.result _ c.from_residual.ensures.1 c.in_err-shared_settle.ensures.err);
 }
@@ -22,8 +20,6 @@ returns g c =
     let pass : c.show-how.new.self.pass ≡ c.reported_as.new.seat.pass = sym c.reported_as.ensures.seat.1 in
     record {
       worked = worked;
-      after = c.reported_as.new.seat;
-      new_is = refl;
       works = c.shared_settle.ensures.works;
       reports = inl (
         c.show-how.result,
