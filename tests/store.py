@@ -28,6 +28,10 @@ SHAPE = ["--columns", str(COLUMNS), "--rows", str(ROWS), "--processes", str(PROC
 
 # How many kills and cuts there are, and of an unproved program.
 NUMBERS, QUICK = ("200", "100"), ("10", "20")
+# After how many edits of a process a server goes over to a new sheet.
+SHORT = 240
+# How many edits one process makes in each of two lives of a server, and with an unproved program.
+MANY, MANY_QUICK = 10000, 600
 # How many edits of each process come after the last kill: a store has some, however slow the program is.
 MORE = 3
 passed = 0
@@ -44,9 +48,9 @@ def pass_rows(what, count=1):
     print(f"store: {what} ... ok", flush=True)
 
 
-def start(program, store, limit=None):
+def start(program, store, limit=None, shape=None):
     """Starts a server with this store; returns it and its port."""
-    words = [program, "serve", "--listen", "127.0.0.1:0", "--forever", *SHAPE, "--store", store]
+    words = [program, "serve", "--listen", "127.0.0.1:0", "--forever", *(shape or SHAPE), "--store", store]
     bound = None
     if limit is not None:
         def bound():
@@ -68,7 +72,6 @@ class Client:
         self.process = process
         self.told = []
         self.asked = None
-        self.full = False
         self.wrong = None
 
     def call(self, stream, **call):
@@ -95,18 +98,14 @@ class Client:
             raise Failed(f"process {self.process}: {last}, after {len(self.told)} edits")
 
     def edit(self, stream, draw):
-        """Makes an edit, which has to be answered done; false where the process has spent its edits."""
+        """Makes an edit, which has to be answered done with the next number."""
         cell, text = f"{chr(65 + self.process)}{draw.randint(1, ROWS)}", str(draw.randint(0, 10**9))
         self.asked = (cell, text)
         answer = self.call(stream, op="set", cell=cell, text=text)
-        if answer.get("error") == "records-full":
-            self.asked, self.full = None, True
-            return False
         if answer.get("ok") != "done" or answer["number"] != len(self.told):
             raise Failed(f"process {self.process}: {answer}, after {len(self.told)} edits")
         self.told.append(self.asked)
         self.asked = None
-        return True
 
     def life(self, port, draw):
         """Joins, and edits until the server dies."""
@@ -116,8 +115,8 @@ class Client:
                 joined = self.call(stream, op="join", process=self.process)
                 self.check_last(joined["last"])
                 self.asked = None
-                while self.edit(stream, draw):
-                    pass
+                while True:
+                    self.edit(stream, draw)
         except (OSError, ConnectionError, json.JSONDecodeError):
             pass
         except Failed as wrong:
@@ -135,8 +134,7 @@ def check_values(port, clients, draw):
             client.check_last(client.call(stream, op="join", process=client.process)["last"])
             client.asked = None
             for _ in range(MORE):
-                if not client.edit(stream, draw):
-                    break
+                client.edit(stream, draw)
             if client.process + 1 < len(clients):
                 continue
             report = client.call(stream, op="report")
@@ -156,18 +154,43 @@ def stop(server):
         raise Failed(f"a server that was told to stop ended with status {server.returncode}")
 
 
+def edits_left(program, store):
+    """How many edits the busiest process has left until the server goes over to a new sheet."""
+    if not os.path.exists(store):
+        return SHORT
+    said = run(program, "check", store)
+    if said.returncode != 0:
+        raise Failed(f"check says: {said.stdout}{said.stderr}")
+    made = [int(line.split()[2]) for line in said.stdout.splitlines() if line.startswith("process ")]
+    return max(1, SHORT - max(made))
+
+
+def live(port, clients, left, draw):
+    """The clients' edits go on until it is time to kill: at a drawn moment, or, where so many edits are left, about when
+    the server goes over to a new sheet."""
+    threads = [threading.Thread(target=client.life, args=(port, draw)) for client in clients]
+    first = [len(client.told) for client in clients]
+    for thread in threads:
+        thread.start()
+    if left is not None:
+        end = time.monotonic() + 10
+        while max(len(client.told) - told for client, told in zip(clients, first)) < left - 1 and time.monotonic() < end:
+            time.sleep(0.0002)
+        time.sleep(draw.uniform(0, 0.02))
+    else:
+        time.sleep(draw.uniform(0.002, 0.12))
+    return threads
+
+
 def one_store(program, folder, kills, draw):
-    """Kills servers over one store until its processes have spent their edits; returns how many kills there were, how
-    many edits were answered, and the store."""
+    """Kills servers over one store, every second time about when they go over to a new sheet; returns how many edits were
+    answered, and the store."""
     store = os.path.join(folder, f"store{draw.randint(0, 10**9)}.db")
     clients = [Client(process) for process in range(PROCESSES)]
-    done = 0
-    while done < kills and not all(client.full for client in clients):
+    for kill in range(kills):
+        left = edits_left(program, store) if kill % 2 else None
         server, port = start(program, store)
-        threads = [threading.Thread(target=client.life, args=(port, draw)) for client in clients]
-        for thread in threads:
-            thread.start()
-        time.sleep(draw.uniform(0.002, 0.12))
+        threads = live(port, clients, left, draw)
         server.send_signal(signal.SIGTERM if draw.random() < 0.1 else signal.SIGKILL)
         server.wait()
         server.stderr.close()
@@ -177,7 +200,6 @@ def one_store(program, folder, kills, draw):
         for client in clients:
             if client.wrong:
                 raise client.wrong
-        done += 1
     server, port = start(program, store)
     check_values(port, clients, draw)
     stop(server)
@@ -185,7 +207,41 @@ def one_store(program, folder, kills, draw):
     said = run(program, "check", store)
     if said.returncode != 0 or f"{told} edits count" not in said.stdout:
         raise Failed(f"check says: {said.stdout}{said.stderr}, of {told} edits")
-    return done, told, store
+    return told, store
+
+
+def check_one_process(program, folder, edits):
+    """One process makes many more edits than a sheet has room for, of a full sheet: numbers go on, also after a restart,
+    and nothing else is seen of it."""
+    store = os.path.join(folder, "many.db")
+    shape = ["--columns", "26", "--rows", "39", "--processes", "1"]
+    texts, number, slowest = {}, 0, 0.0
+    for life in range(2):
+        server, port = start(program, store, shape=shape)
+        with socket.create_connection(("127.0.0.1", port), timeout=20) as link:
+            client, stream = Client(0), link.makefile("rw")
+            last = client.call(stream, op="join", process=0)["last"]
+            if (last["number"] if last else -1) != number - 1 or (last and last["outcome"] != "done"):
+                raise Failed(f"the last edit is told as {last}, after {number} edits")
+            for _ in range(edits):
+                cell, text = f"{chr(65 + number % 26)}{number // 26 % 39 + 1}", str(number)
+                begun = time.monotonic()
+                answer = client.call(stream, op="set", cell=cell, text=text)
+                slowest = max(slowest, time.monotonic() - begun)
+                if answer != {"number": number, "ok": "done"}:
+                    raise Failed(f"edit {number} of one process: {answer}")
+                texts[cell], number = text, number + 1
+            last = client.call(stream, op="last")["last"]
+            if last != {"cell": cell, "number": number - 1, "outcome": "done"}:
+                raise Failed(f"the last edit is told as {last}, after {number} edits")
+            rows = client.call(stream, op="report")["rows"]
+            if any(rows[row][column] != texts.get(f"{chr(65 + column)}{row + 1}", "") for row in range(39) for column in range(26)):
+                raise Failed("a report after many edits shows other values")
+        stop(server)
+    said = run(program, "check", store)
+    if said.returncode != 0 or f"{number} edits count" not in said.stdout or not said.stdout.startswith("sheet 26 39 1\n"):
+        raise Failed(f"check says: {said.stdout}{said.stderr}, of {number} edits")
+    pass_rows(f"one process makes {number} edits, the slowest in {slowest * 1000:.0f} ms")
 
 
 def run(program, *words, **more):
@@ -212,7 +268,7 @@ def check_commands(program, folder, store):
     if kept != lines.splitlines() or len(kept) + 1 != len(rows):
         raise Failed("another SQLite reads other lines")
     answers = run(program, "run", input=lines).stdout.splitlines()
-    if len(answers) != len(kept) - 1 or not all(answer.endswith(" done") for answer in answers):
+    if len(answers) != sum(line.startswith("set ") for line in kept) or not all(answer.endswith(" done") for answer in answers):
         raise Failed("run does not answer each exported edit done")
     new = os.path.join(folder, "new.db")
     expect("compact", run(program, "compact", store, new), 0, "")
@@ -343,16 +399,14 @@ def check_cuts(program, folder, store, cuts, draw):
     pass_rows(f"{cuts} cut files, {refused} refused", cuts)
 
 
-def check_all(program, kills, cuts, draw):
+def check_all(program, kills, cuts, many, draw):
     """All rows; the first that is not as it has to be is a Failed."""
-    left, told, stores, begun = kills, 0, 0, time.monotonic()
+    begun = time.monotonic()
     with tempfile.TemporaryDirectory() as folder:
-        store = None
-        while left > 0:
-            done, edits, store = one_store(program, folder, left, draw)
-            left, told, stores = left - done, told + edits, stores + 1
+        told, store = one_store(program, folder, kills, draw)
         seconds = time.monotonic() - begun
-        pass_rows(f"{kills} kills over {stores} stores, {told} edits answered, 0 lost, in {seconds:.0f} s", kills)
+        pass_rows(f"{kills} kills, {told} edits answered, 0 lost, in {seconds:.0f} s", kills)
+        check_one_process(program, folder, many)
         check_commands(program, folder, store)
         check_files(program, folder, store)
         check_full(program, folder)
@@ -366,7 +420,7 @@ def main(*words):
     kills, cuts, *seeds = [*numbers, *(QUICK if is_quick else NUMBERS)[len(numbers):]]
     seed, failed = int(seeds[0]) if seeds else random.randrange(10**6), 0
     try:
-        check_all(os.path.realpath(program), int(kills), int(cuts), random.Random(seed))
+        check_all(os.path.realpath(program), int(kills), int(cuts), MANY_QUICK if is_quick else MANY, random.Random(seed))
     except Failed as wrong:
         frames = [it for it in traceback.extract_tb(wrong.__traceback__) if it.name != "expect"]
         print(f"tests/store.py:{frames[-1].lineno}: seed {seed}: {wrong}", file=sys.stderr)

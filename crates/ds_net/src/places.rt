@@ -108,4 +108,13 @@ impl Places {
             let _ = queue.push(rt, placed);
         }
     }
+
+    /// Gives back the seats of the newest sheet that nobody has.
+    pub fn give_back<R: Wait>(&self, rt: &R) {
+        for process in 0..self.len() {
+            if let Some(placed) = self.take(rt, process) {
+                placed.give_back();
+            }
+        }
+    }
 }

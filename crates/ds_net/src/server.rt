@@ -215,11 +215,7 @@ fn is_closed(alloc: Global, sheet: OpenSheet) -> bool {
 
 // Closes the newest sheet with the seats of all its processes, and says in the log where one is lost.
 pub(crate) fn close<R: Wait + Log>(rt: &R, alloc: Global, sheet: OpenSheet, places: &Places) {
-    for process in 0..places.len() {
-        if let Some(placed) = places.take(rt, process) {
-            placed.give_back();
-        }
-    }
+    places.give_back(rt);
     if !is_closed(alloc, sheet) {
         error!(rt; "a process was lost");
     }

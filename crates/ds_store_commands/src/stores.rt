@@ -12,6 +12,8 @@ use ds_store::fault::StoreFault;
 use ds_store::open::Databases;
 use ds_store::store::{Opened, Store, is_bare};
 use ds_store::summing::with_sum;
+use ds_store_journal::standing::Standing;
+use ds_store_journal::standings::standings_of;
 use ds_store_sums::sums::is_sum;
 use sqlite::{Connection, FileFrom, FileStore, Wary};
 use std::alloc::{AllocError, Global};
@@ -85,15 +87,25 @@ fn written<R: Eprint>(rt: &R, out: io::Result<()>) -> u8 {
     }
 }
 
-// Writes what a store has: the shape of its sheet, and how many edits of each process.
-fn write_summary<W: Write>(out: &mut W, store: &Store<Disk>) -> io::Result<()> {
-    let layout = store.layout();
-    let (columns, rows) = (layout.shape.columns, layout.shape.rows);
-    writeln!(out, "sheet {columns} {rows} {}", layout.processes)?;
+// Writes what a store has: the shape of its sheet, how many edits each process has made of that sheet, and how many edits
+// count in all, also those of the sheets before.
+fn write_summary<W: Write>(
+    out: &mut W,
+    store: &Store<Disk>,
+    standings: &[Standing],
+) -> io::Result<()> {
+    let shape = store.layout().shape;
+    writeln!(
+        out,
+        "sheet {} {} {}",
+        shape.columns,
+        shape.rows,
+        store.joins()
+    )?;
     let mut all = 0usize;
-    for process in 0..layout.processes {
+    for (process, standing) in standings.iter().enumerate().take(store.joins()) {
+        all = all.saturating_add(standing.edits);
         let edits = store.edits_of(process);
-        all = all.saturating_add(edits);
         writeln!(out, "process {process}: {edits} edits of 256")?;
     }
     writeln!(out, "{all} edits count, none is in doubt")?;
@@ -128,12 +140,17 @@ pub fn check<R: AllocGlobal + Print + Eprint + Files<File = File> + Databases>(
         Ok(opened) => opened,
         Err(status) => return status,
     };
+    let Opened { store, lines, .. } = opened;
+    let standings = match standings_of(rt.alloc(), &store.layout(), &lines) {
+        Ok(standings) => standings,
+        Err(fault) => return tell_fault(rt, path, &StoreFault::from(fault)),
+    };
     let Ok(mut out) = BufWriter::new(rt.alloc(), io::writer(rt)) else {
         return tell_fault(rt, path, &StoreFault::NoMemory);
     };
-    let status = written(rt, write_summary(&mut out, &opened.store));
+    let status = written(rt, write_summary(&mut out, &store, &standings));
     if status == 0 {
-        close(rt, path, opened.store)
+        close(rt, path, store)
     } else {
         status
     }

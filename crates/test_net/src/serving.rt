@@ -3,7 +3,8 @@
 use ds_layout::layout::Layout;
 use ds_net::door::Door;
 use ds_net::floor::Floor;
-use ds_net::queues::{gathered, queues};
+use ds_net::placed::placed_first;
+use ds_net::places::Places;
 use ds_net::server::{Service, serve_floor};
 use ds_net::shared_floor::SharedFloor;
 use ds_order::known::KnownReferences;
@@ -233,12 +234,10 @@ pub fn serve_shared<
     clients: Clients,
 ) -> Result<Served, Fail> {
     let (sheet, seats) = SeatedSheet::make(alloc, layout)?.into_parts();
-    let queues = queues(rt, alloc, seats)?;
-    let floor = SharedFloor::new(references, queues.as_slice(), workers);
+    let places = Places::new(rt, alloc, placed_first(alloc, seats)?)?;
+    let floor = SharedFloor::new(references, &places, workers);
     let answers = run(rt, alloc, &floor, workers, clients)?;
-    for seat in gathered(rt, alloc, queues.as_slice())? {
-        seat.give_back();
-    }
+    places.give_back(rt);
     let end = match sheet.close(alloc) {
         Ok(closed) => End::Shared(closed),
         Err(_) => End::Lost,
