@@ -22,7 +22,7 @@ number_seen numberings process number = number_by (slice_get numberings process)
 abbrev pub other_seen : List Numbering → Other → Other
 other_seen numberings by = record { process = by.process; number = number_seen numberings by.process by.number }
 
--- the last edit of a process as its clients know it: that which its sheet tells of, or the last one of the sheets before where
+-- the last edit of a process as its clients know it: that which its sheet reports, or the last one of the sheets before where
 -- the process has made none of its own in this one
 abbrev pub last_by : Option Numbering → Option LastEdit → Option LastEdit
 last_by None last = last

@@ -25,7 +25,7 @@ pub record Uses (used : Seat → said.Said → Seat → Type 0) (old : Placed) (
   pub rest : Keeps now new
 
 -- the session has taken what acts for the process, in the newest sheet then, and all that it has used its seat for is a recovery,
--- which tells of this last edit by the numbers that clients know
+-- which reports this last edit by the numbers that clients know
 pub record HasJoined (process : ℕ) (last : Option LastEdit) (new : Placed) : Type 0 where
   pub now : Placed
   pub plain : said.Said

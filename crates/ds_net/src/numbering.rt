@@ -55,7 +55,7 @@ impl Numbering {
         self.edits.saturating_add(number.saturating_sub(self.made))
     }
 
-    // The last edit as clients know it, where this is the last one that the sheet tells of.
+    // The last edit as clients know it, where this is the last one that the sheet reports.
     pub(crate) fn last(&self, last: Option<LastEdit>) -> Option<LastEdit>
         ensures { result ≡ last_by (Some self.now) last }
     {

@@ -77,7 +77,7 @@ impl Placed {
         }
     }
 
-    // The last edit of its process, as clients know it, where its sheet tells of this one.
+    // The last edit of its process, as clients know it, where its sheet reports this one.
     pub(crate) fn last_seen(&self, last: Option<LastEdit>) -> Option<LastEdit>
         ensures { result ≡ last_seen self.now.numberings.items self.now.seat.pass.process last }
     {
