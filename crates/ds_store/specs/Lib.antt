@@ -1,3 +1,4 @@
 pub mod Stores
 pub mod Opened
 pub mod Texts
+pub mod Sound
