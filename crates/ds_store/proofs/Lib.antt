@@ -1,4 +1,5 @@
 mod Apart
+mod Firsts
 mod Growing
 mod Taking
 mod Texting

@@ -1,4 +1,5 @@
 pub mod Stores
 pub mod Opened
+pub mod Sound
 pub mod Texts
 pub mod Renewals

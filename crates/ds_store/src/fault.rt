@@ -87,6 +87,22 @@ impl StoreFault {
             fault => StoreFault::Line { number, fault },
         }
     }
+
+    /// How many lines are before the one that it is of; 0 where it is of none.
+    pub fn before(&self) -> usize {
+        match self {
+            StoreFault::Missing(number)
+            | StoreFault::Line { number, .. }
+            | StoreFault::Sum(number)
+            | StoreFault::NoSum(number) => number.saturating_sub(1),
+            StoreFault::Database(_)
+            | StoreFault::Busy
+            | StoreFault::Foreign
+            | StoreFault::Edit(_)
+            | StoreFault::OtherSheet { .. }
+            | StoreFault::NoMemory => 0,
+        }
+    }
 }
 
 impl fmt::Display for StoreFault {

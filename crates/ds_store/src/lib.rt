@@ -1,6 +1,7 @@
 //! The store of a sheet: its journal in a database, from which the sheet is made again.
 #![tactic(auto)]
 
+pub mod backup;
 pub mod committed;
 pub mod compact;
 pub mod fault;
@@ -8,6 +9,8 @@ pub mod open;
 pub mod renewal;
 mod replay;
 pub mod seated;
+pub mod snapshot;
+pub mod sound;
 pub mod store;
 pub mod summing;
 pub mod texts;

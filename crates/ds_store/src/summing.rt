@@ -9,8 +9,12 @@ use crate::fault::StoreFault;
 use ds_store_sums::sums::{LineSums, SumFault, Tail, is_sum};
 use std::alloc::Global;
 
-// Adds lines, and says where the last one stands that has a sum; 0 for none.
-fn add_all(alloc: Global, sums: &mut LineSums, lines: &[String]) -> Result<usize, StoreFault>
+/// Adds lines, and says where the last one stands that has a sum; 0 for none.
+pub(crate) fn add_all(
+    alloc: Global,
+    sums: &mut LineSums,
+    lines: &[String],
+) -> Result<usize, StoreFault>
     ensures { IfOk result (λ _. (before : List (List ℕ)) → IsAt sums.old before → IsAt sums.new (before ++ map string_bytes lines.now)) }
 {
     let mut number = 0usize;
