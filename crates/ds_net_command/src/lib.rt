@@ -3,3 +3,4 @@
 
 mod control;
 pub mod serve;
+mod watching;

@@ -3,6 +3,7 @@
 ghost use Rattle.ds_cli.specs.Servings.{IsWithinLimits};
 
 use crate::control::{Control, Listening, listen};
+use crate::watching::Watching;
 use ds_batch::run::no_memory;
 use ds_batch::status::STREAM_FAILED;
 use ds_cli::serving::Serving;
@@ -15,6 +16,7 @@ use ds_store::open::Databases;
 use ds_store::store::{Opened, Store, open_or_make};
 use ds_store_commands::stores::{Disk, close, tell_fault};
 use log::{LevelFilter, Log, Logged};
+use std::fs::Files;
 use std::net::{Net, SocketAddr, TcpListener, TcpStream};
 use std::sync::Wait;
 use std::thread;
@@ -129,7 +131,17 @@ pub fn serve<
     ended(rt, serving.listen, "", &served)
 }
 
-// Serves the sheet of a store, which keeps the edits that are made; standard input is read between two commits.
+// How a server with a store has ended, with its store.
+#[derive(Drop)]
+struct KeptEnd {
+    served: Result<StoredEnd, ServeError>,
+    store: Store<Disk>,
+    // Whether the file of the store was removed or replaced meanwhile.
+    is_lost: bool,
+}
+
+// Serves the sheet of the store at this path, which keeps the edits that are made; between two commits standard input is
+// read, and the file is looked for.
 fn serve_kept<
     R: AllocGlobal
         + Input
@@ -138,25 +150,27 @@ fn serve_kept<
         + Clock
         + Log
         + Net<Stream = TcpStream, Listener = TcpListener>
+        + Files
         + Sync,
->(
-    rt: &R,
-    listener: &TcpListener,
-    opened: Opened<Disk>,
-    serving: Serving,
-) -> (Result<StoredEnd, ServeError>, Store<Disk>) {
+>(rt: &R, listener: &TcpListener, opened: Opened<Disk>, serving: Serving, path: &str) -> KeptEnd {
     let door = Door::new();
-    let mut listening = Listening::new(Control::new(rt), rt.reader(), &door);
+    let listening = Listening::new(Control::new(rt), rt.reader(), &door);
+    let mut watching = Watching::new(listening, rt, path, &door);
     let logged = Logged::new(rt, serving.log, rt);
-    stored::serve(
+    let (served, store) = stored::serve(
         &logged,
         rt.alloc(),
         listener,
         opened,
         &door,
         service_of(serving),
-        &mut listening,
-    )
+        &mut watching,
+    );
+    KeptEnd {
+        served,
+        store,
+        is_lost: watching.is_lost(),
+    }
 }
 
 // Opens the store at this path, or makes it. An error is the status, when standard error has the reason.
@@ -182,7 +196,8 @@ fn opened<R: AllocGlobal + Eprint + Databases>(
 }
 
 /// Serves so the sheet of the store at this path; the store is made where there is none. Each answer waits until the edits
-/// are committed that it could tell of. Where they cannot be, the server stops, and its status says why.
+/// are committed that it could tell of. Where they cannot be, or where the file is removed or replaced, the server stops, and
+/// its status says why.
 pub fn serve_store<
     R: AllocGlobal
         + Eprint
@@ -193,6 +208,7 @@ pub fn serve_store<
         + Log
         + Net<Stream = TcpStream, Listener = TcpListener>
         + Databases
+        + Files
         + Sync,
 >(rt: &R, serving: Serving, path: &str) -> u8
     requires { IsWithinLimits serving }
@@ -205,9 +221,19 @@ pub fn serve_store<
         Ok(listener) => listener,
         Err(status) => return status,
     };
-    let (served, store) = serve_kept(rt, &listener, opened, serving);
+    let KeptEnd {
+        served,
+        store,
+        is_lost,
+    } = serve_kept(rt, &listener, opened, serving, path);
     let taken = served.map(|end| end.taken);
     match ended(rt, serving.listen, path, &taken) {
+        0 if is_lost => {
+            let _reported = eprintln!(rt;
+                "dsheet: {path}: it was removed or replaced while it was served"
+            );
+            STREAM_FAILED
+        }
         0 => close(rt, path, store),
         status => status,
     }
