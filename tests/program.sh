@@ -114,8 +114,12 @@ passed "run --stops --from 19 --to 20"
 # What is said of a text, beside its fault.
 shows 'set 0 A1 =[.B1]+B2*A1\n' 'line 1: UnknownFunction 7\n    set 0 A1 =[.B1]+B2*A1\n                    ^ references are written [.A1]; --a1 reads A1\n'
 shows 'set 0 A1 1\nset 0 A1 =B1+[.B2]\n' 'line 2: BadToken 4\n    set 0 A1 =B1+[.B2]\n                 ^ with --a1 references are written A1\n' 'run --a1'
-shows '1,=A1\n' 'cell B1: UnknownFunction 1\n    =A1\n     ^ references are written [.A1]; --a1 reads A1\n' report
-shows '1,=A1*FOO(1)\n' 'cell B1: UnknownFunction 7\n    =[.A1]*FOO(1)\n           ^ in the text as it is read\n' 'report --a1'
+shows '1,=A1\n' 'cell B1: UnknownFunction 1\n  line 1, column 3\n    =A1\n     ^ references are written [.A1]; --a1 reads A1\n' report
+shows '1,=A1*FOO(1)\n' 'cell B1: UnknownFunction 7\n  line 1, column 3\n    =[.A1]*FOO(1)\n           ^ in the text as it is read\n' 'report --a1'
+
+# All fields that are refused are told, each with its place in the file.
+shows '\n"Rent\n(flat)",7.5\n\r\n"a""b",\n' 'cell A1: BadToken 0\n  line 2, column 1\n    Rent?(flat)\n    ^\ncell B1: NotWhole 1\n  line 3, column 9\n    7.5\n     ^\ncell A2: BadToken 0\n  line 5, column 1\n    a"b\n    ^\n3 fields are refused\nno number and no formula: 2; with --labels they pass through\n' report
+shows 'Rent,7.5\n' 'cell B1: NotWhole 1\n  line 1, column 6\n    7.5\n     ^\n' 'report --labels'
 
 # A store of lines in A1 notation is that of the lines in OpenFormula.
 printf 'sheet 2 2 1\nset 0 A1 =SUM($B$1:B2,1)\n# =A1\nset 0 B1 7\n' >"$room/lines"

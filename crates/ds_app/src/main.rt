@@ -13,7 +13,9 @@ use ds_batch::run::{no_memory, run, run_stops, stops_between};
 use ds_batch::status::{NO_MEMORY, STREAM_FAILED};
 use ds_cli::command_line::{Action, OptionsFault, options};
 use ds_cli::connecting::Stopping;
+use ds_cli::reporting::Reporting;
 use ds_client_command::connect::connect;
+use ds_grid::form::GridForm;
 use ds_net_command::serve::{serve, serve_store};
 use ds_store::open::Databases;
 use ds_store_commands::stores::{check, compact, export, import};
@@ -85,7 +87,15 @@ fn dispatch<
             let range = stops_between(from as u64, to as u64);
             run_stops(rt, range, notation, terminals.error)
         }
-        Ok(Action::Report(notation)) => report(rt, notation),
+        Ok(Action::Report(Reporting { notation, labels })) => {
+            report(
+                rt,
+                GridForm {
+                    notation,
+                    keeps_labels: labels,
+                },
+            )
+        }
         Ok(Action::Explore(exploring)) => explore(rt, exploring, terminals.error),
         Ok(Action::Trace) => trace(rt),
         Ok(Action::Serve(serving)) => serve(rt, serving),

@@ -4,6 +4,7 @@
 
 mod copying;
 pub mod faults;
+mod fields;
 pub mod lines;
 mod progress;
 pub mod report;

@@ -13,6 +13,7 @@ use Rattle.ds_cli.specs.declared.command_line.OptionsFault.TheVariants.{CommandL
 use Rattle.ds_cli.specs.Connectings.{IsConnecting, IsStopping}
 use Rattle.ds_cli.specs.Notations.{IsNotation}
 use Rattle.ds_cli.specs.Explorings.{IsExploring}
+use Rattle.ds_cli.specs.Reportings.{IsReporting}
 use Rattle.ds_cli.specs.Servings.{IsOutOfLimits, IsServing}
 
 -- `clap`'s command is this one, with no global argument
@@ -55,9 +56,9 @@ explore_command = with_rule (with_rule (with_rule (with_rule (new_app (codes "ex
 abbrev pub trace_command : App
 trace_command = new_app (codes "trace")
 
--- `dsheet report [--a1]`
+-- `dsheet report [--labels] [--a1]`
 abbrev pub report_command : App
-report_command = with_rule (new_app (codes "report")) (flag (codes "a1"))
+report_command = with_rule (with_rule (new_app (codes "report")) (flag (codes "labels"))) (flag (codes "a1"))
 
 -- `dsheet serve --listen ADDRESS [--columns N] [--rows N]`
 abbrev pub sheet_command : App
@@ -131,7 +132,7 @@ Names rows name value = first_of name rows ≡ Some value
 abbrev pub Asks : Text → List Row → Action → Type 0
 Asks name rows (Run notation) = (name ≡ codes "run") × (one_of (codes "stops") rows ≡ Some (codes "true") → ⊥) × IsNotation rows notation
 Asks name rows (Stops stopping notation) = (name ≡ codes "run") × (one_of (codes "stops") rows ≡ Some (codes "true")) × IsStopping rows stopping × IsNotation rows notation
-Asks name rows (Report notation) = (name ≡ codes "report") × IsNotation rows notation
+Asks name rows (Report reporting) = (name ≡ codes "report") × IsReporting rows reporting
 Asks name rows Trace = name ≡ codes "trace"
 Asks name rows (Explore exploring) = (name ≡ codes "explore") × IsExploring rows exploring
 Asks name rows (Serve serving) = (name ≡ codes "serve") × IsServing rows serving × (first_of (codes "store") rows ≡ None)

@@ -3,3 +3,4 @@ pub mod CommandLines
 pub mod Explorings
 pub mod Connectings
 pub mod Notations
+pub mod Reportings

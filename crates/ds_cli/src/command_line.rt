@@ -9,6 +9,7 @@ ghost use Rattle.ds_cli.specs.CommandLines.{Asks, AsksNothing, AsksOfStore, IsAs
 use crate::connecting::{Connecting, Stopping, read_connecting, read_stopping};
 use crate::exploring::{Exploring, is_set, read_exploring};
 use crate::notations::notation_of;
+use crate::reporting::{Reporting, read_reporting};
 use crate::serving::{OutOfLimits, Serving, read_serving};
 use clap::{Arg, ArgAction, ArgMatches, Command, Error, value_parser};
 use ds_a1::notation::Notation;
@@ -21,8 +22,8 @@ pub enum Action<'a> {
     Run(Notation),
     /// `dsheet run --stops`: the same, crashed after each of its steps.
     Stops(Stopping, Notation),
-    /// `dsheet report`: a grid on standard input, with formulas in this notation.
-    Report(Notation),
+    /// `dsheet report`: a grid on standard input.
+    Report(Reporting),
     /// `dsheet explore`: all orders of the steps of a script's calls.
     Explore(Exploring),
     /// `dsheet trace`: a picture of the run of a script.
@@ -146,15 +147,19 @@ Calc and Excel, =A1*2 or =SUM(A1:B3,7) (a field with a comma stands in quotes), 
 Functions: SUM MIN MAX COUNT AND OR of one argument or more, ranges among them;
 ABS and NOT of one; MOD and QUOTIENT of two; IF of two or three.
 Limits: 26 columns, 64 rows, 1024 cells; 240 bytes a text, 1048576 the grid.
-What is written is the values, as CSV. Nothing is written where a fault is told:
+What is written is the values, as CSV. With --labels a field is written as it is, and counts as blank, that begins
+neither as a number nor as a formula does (=, a digit, or these behind spaces, tabs, signs or points): headings and names.
+Nothing is written where a fault is told:
   empty grid        no record
   bad csv           a record has another number of fields than the first
   grid too large    more columns, rows or cells than the limits
-  cell A1: KIND N   the text of this cell is refused at its byte N, from 0; with --a1 at that of the text with brackets
+  cell A1: KIND N   the text of this cell is refused at its byte N, from 0; with --a1 at that of the text with brackets;
+                    below it stand the line and the column of the field and its text; all such fields are told
 
-Example:
+Examples:
   printf '1,=[.A1]*20\\n2,=SUM([.A1:.A2])\\n' | dsheet report
   printf '1,=A1*20\\n' | dsheet report --a1
+  printf 'Rent,900\\nFood,350\\nAll,=SUM(B1:B2)\\n' | dsheet report --labels --a1
 
 Exit status: 0 ended; 1 a fault in the grid; 2 wrong words on the command line;
 3 a failed read or write, or a grid over 1048576 bytes; 4 no memory.";
@@ -413,8 +418,11 @@ fn trace_command<'a>(alloc: Global) -> Command<'a>
 fn report_command<'a>(alloc: Global) -> Result<Command<'a>, AllocError>
     ensures { IfOk result (IsCommand report_app) }
 {
-    let one = with_argument(Ok(report_alone(alloc)), a1_flag(alloc));
-    called(one, "dsheet report")
+    let labels_help = "Headings and names pass through as they are, and count as blank";
+    let labels = flag(alloc, "labels", labels_help);
+    let one = with_argument(Ok(report_alone(alloc)), labels);
+    let two = with_argument(one, a1_flag(alloc));
+    called(two, "dsheet report")
 }
 
 // An option with a number from 0 to 65,535.
@@ -703,7 +711,7 @@ fn asked<'a>(name: &str, found: &ArgMatches<'a>) -> Result<Action<'a>, OptionsFa
     match name {
         "run" => ran(found),
         "connect" => connected(found),
-        "report" => Ok(Action::Report(notation_of(found))),
+        "report" => Ok(Action::Report(read_reporting(found))),
         "trace" => Ok(Action::Trace),
         "serve" => served(found),
         "explore" => explored(found),

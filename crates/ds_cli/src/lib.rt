@@ -5,4 +5,5 @@ pub mod command_line;
 pub mod connecting;
 pub mod exploring;
 mod notations;
+pub mod reporting;
 pub mod serving;

@@ -56,13 +56,16 @@ pub fn note_of(notation: Notation, text: &[u8], fault: TextFault) -> Option<Text
 pub struct TextExcerpt<'a> {
     line: &'a [u8],
     offset: usize,
-    note: TextNote,
+    note: Option<TextNote>,
 }
 
 impl fmt::Display for TextExcerpt<'_> {
     fn fmt<W: fmt::Write>(&self, f: &mut fmt::Formatter<W>) -> fmt::Result {
         write_marked(self.line, self.offset, f)?;
-        write!(f, " {}", self.note)
+        match &self.note {
+            Some(note) => write!(f, " {note}"),
+            None => Ok(()),
+        }
     }
 }
 
@@ -78,7 +81,7 @@ pub fn excerpt_of_text<'a>(
     Some(TextExcerpt {
         line,
         offset: front.saturating_add(fault.offset).min(line.len()),
-        note,
+        note: Some(note),
     })
 }
 
@@ -96,7 +99,16 @@ pub fn opened_excerpt(text: &[u8], fault: TextFault) -> TextExcerpt<'_> {
     TextExcerpt {
         line: text,
         offset: fault.offset.min(text.len()),
-        note: TextNote::AsRead,
+        note: Some(TextNote::AsRead),
+    }
+}
+
+/// The excerpt of a text with this fault, of which there is nothing else to say.
+pub fn plain_excerpt(text: &[u8], fault: TextFault) -> TextExcerpt<'_> {
+    TextExcerpt {
+        line: text,
+        offset: fault.offset.min(text.len()),
+        note: None,
     }
 }
 
@@ -107,7 +119,7 @@ pub struct BareLine<'a> {
     pub number: usize,
     /// The fault of its text.
     pub fault: TextFault,
-    /// The line, with what there is to say.
+    /// The line, with what there is to say of it.
     pub excerpt: TextExcerpt<'a>,
 }
 
