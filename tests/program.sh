@@ -88,6 +88,36 @@ status=0
 "$program" run </ >/dev/null 2>&- || status=$?
 expect "standard error is closed: a read that fails" "$status" 3 ""
 
+# A script or a grid is read from a file that is named; `-` is standard input.
+answers() {
+    local name=$1 wanted=$2 input=$3
+    shift 3
+    "$program" "$@" <"$input" 2>"$said" | cmp - "$wanted" || fail "$name: another answer"
+    [ ! -s "$said" ] || fail "$name: it says something, and should not"
+    passed "$name"
+}
+answers "run of a file" examples/sum.stdout /dev/null run examples/sum
+answers "run of standard input by its name" examples/sum.stdout examples/sum run -
+answers "run --stops of a file" examples/stops.stdout /dev/null run --stops examples/stops
+answers "report of a file" examples/grid.stdout /dev/null report examples/grid
+answers "report of standard input by its name" examples/grid.stdout examples/grid report -
+mkfifo "$room/pipe"
+cat examples/grid >"$room/pipe" &
+answers "report of a pipe" examples/grid.stdout /dev/null report "$room/pipe"
+printf 'set 0 A1 =1+B1\npeek A1\n' >"$room/script"
+printf '0 0 done\nA1 dirty blank =1+[.B1]\n' >"$room/answers"
+answers "run --a1 of a file" "$room/answers" /dev/null run "$room/script" --a1
+for words in run "run --a1" "run --stops" report "report --a1"; do
+    # shellcheck disable=SC2086
+    on /dev/null $words "$room/nothing"
+    expect "$words: no such file" "$status" 3 "dsheet: $room/nothing: No such file or directory (os error 2)"
+    # shellcheck disable=SC2086
+    on /dev/null $words "$room"
+    expect "$words: a folder" "$status" 3 "dsheet: $room: it is a folder"
+done
+on /dev/null run examples/sum examples/sum
+expect "two files" "$status" 2 "error: unexpected argument 'examples/sum' found"
+
 # Below a fault stand the line, and a caret below the word that is wrong.
 shows() {
     local script=$1 wanted=$2 words=${3:-run}

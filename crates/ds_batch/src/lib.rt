@@ -1,5 +1,5 @@
-//! `dsheet run`, `dsheet run --stops` and `dsheet report`: scripts and grids from standard input to standard output, with
-//! their exit statuses. Nothing here reads the command line, a file or a socket.
+//! `dsheet run`, `dsheet run --stops` and `dsheet report`: scripts and grids from a file or standard input to standard
+//! output, with their exit statuses. Nothing here reads the command line or a socket.
 #![tactic(auto)]
 
 mod copying;
@@ -9,4 +9,5 @@ pub mod lines;
 mod progress;
 pub mod report;
 pub mod run;
+pub mod source;
 pub mod status;

@@ -3,6 +3,7 @@
 use crate::copying::Copying;
 use crate::fields::field_places;
 use crate::run::no_memory;
+use crate::source::{Source, open};
 use crate::status::grid_status;
 use ds_a1::notation::Notation;
 use ds_a1::texts::{read_text, to_open};
@@ -15,7 +16,8 @@ use ds_grid::report::report_grid;
 use ds_sched::{Reading, Writing};
 use ds_script_hints::texts::{excerpt_of_text, opened_excerpt, plain_excerpt};
 use std::alloc::{AllocError, Global};
-use std::io::{self, BufWriter};
+use std::fs::{File, Files};
+use std::io::{self, BufWriter, Read};
 
 // A record that has another number of fields than the first one.
 #[derive(Clone, Copy)]
@@ -133,19 +135,38 @@ fn print_end<R: AllocGlobal + Eprint>(rt: &R, form: GridForm, end: &GridEnd, gri
     };
 }
 
-/// `dsheet report`: a grid in this form from standard input, of at most 1,048,576 bytes, its values to standard output. A
-/// fault of the grid is reported on standard error, of its fields each that is refused, and then nothing is written. Gives
-/// the exit status, `grid_status` of how it ended.
-pub fn report<R: AllocGlobal + Input + Print + Eprint>(rt: &R, form: GridForm) -> u8 {
+// A grid from a reader, as `report`.
+fn report_from<R: AllocGlobal + Print + Eprint, I: Read + Drop>(
+    rt: &R,
+    input: I,
+    form: GridForm,
+) -> u8 {
     let Ok(buffered) = BufWriter::new(rt.alloc(), io::writer(rt)) else {
         return no_memory(rt);
     };
     let mut grid = Vec::new(rt.alloc());
     let end = {
-        let mut reader = Reading::new(Copying::new(rt.reader(), &mut grid));
+        let mut reader = Reading::new(Copying::new(input, &mut grid));
         let mut writer = Writing::new(buffered);
         report_grid(rt.alloc(), form, &mut reader, &mut writer)
     };
     print_end(rt, form, &end, &grid);
     grid_status(&end)
+}
+
+/// `dsheet report`: a grid in this form, of at most 1,048,576 bytes, its values to standard output. A fault of the grid is
+/// reported on standard error, of its fields each that is refused, and then nothing is written. Gives the exit status,
+/// `grid_status` of how it ended, or 3 where the file cannot be opened.
+pub fn report<R: AllocGlobal + Input + Print + Eprint + Files<File = File>>(
+    rt: &R,
+    source: Source<'_>,
+    form: GridForm,
+) -> u8 {
+    match source {
+        Source::StandardInput => report_from(rt, rt.reader(), form),
+        Source::File(path) => match open(rt, path) {
+            Ok(file) => report_from(rt, file, form),
+            Err(status) => status,
+        },
+    }
 }

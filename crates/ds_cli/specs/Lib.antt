@@ -4,3 +4,5 @@ pub mod Explorings
 pub mod Connectings
 pub mod Notations
 pub mod Reportings
+pub mod Inputs
+pub mod Runnings

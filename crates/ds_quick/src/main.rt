@@ -7,8 +7,10 @@ mod words;
 use crate::words::{Options, options_of};
 use ds_batch::report::report;
 use ds_batch::run::{no_memory, run, run_stops, stops_between};
+use ds_batch::source::Source;
 use ds_grid::form::GridForm;
 use std::env;
+use std::fs::{File, Files};
 use std::io::IsTerminal;
 use std::process::ExitCode;
 use std::rt::Env;
@@ -17,37 +19,43 @@ use std::rt::Env;
 const WRONG_WORDS: u8 = 2;
 
 // Carries out a command with these options; none where this program does not know it.
-fn carry_out<R: AllocGlobal + Input + Print + Eprint>(
+fn carry_out<R: AllocGlobal + Input + Print + Eprint + Files<File = File>>(
     rt: &R,
     command: &str,
-    options: Options,
+    options: Options<'_>,
     shows: bool,
 ) -> Option<u8> {
     let Options {
+        file,
         notation,
         labels: keeps_labels,
         stops,
         from,
         to,
+        ..
     } = options;
+    let source = Source::of(file);
     match command {
         "run" if stops => {
             let range = stops_between(from as u64, to as u64);
-            Some(run_stops(rt, range, notation, shows))
+            Some(run_stops(rt, source, range, notation, shows))
         }
-        "run" => Some(run(rt, notation)),
+        "run" => Some(run(rt, source, notation)),
         "report" => {
             let form = GridForm {
                 notation,
                 keeps_labels,
             };
-            Some(report(rt, form))
+            Some(report(rt, source, form))
         }
         _ => None,
     }
 }
 
-fn answer<R: AllocGlobal + Env + Input + Print + Eprint>(rt: &R, shows: bool) -> u8 {
+fn answer<R: AllocGlobal + Env + Input + Print + Eprint + Files<File = File>>(
+    rt: &R,
+    shows: bool,
+) -> u8 {
     let Some(words) = env::args(rt).ok() else {
         return no_memory(rt);
     };

@@ -4,7 +4,11 @@ use ds_a1::notation::Notation;
 
 /// The options of `run` and `report`: each as in the whole program, but a value is a word of its own.
 #[derive(Clone, Copy, Debug)]
-pub struct Options {
+pub struct Options<'a> {
+    /// The file that is named, and not `-`.
+    pub file: Option<&'a str>,
+    // Whether a file is named.
+    named: bool,
     /// How formulas are written.
     pub notation: Notation,
     /// `--labels`.
@@ -17,10 +21,12 @@ pub struct Options {
     pub to: u16,
 }
 
-impl Options {
+impl<'a> Options<'a> {
     // Those of a call with no options.
-    fn none() -> Options {
+    fn none() -> Options<'a> {
         Options {
+            file: None,
+            named: false,
             notation: Notation::OpenFormula,
             labels: false,
             stops: false,
@@ -29,8 +35,18 @@ impl Options {
         }
     }
 
+    // The file that a word names beside these, none in it for `-`; none where the word names none.
+    fn first_file(self, name: &'a str) -> Option<Option<&'a str>> {
+        match name {
+            _ if self.named => None,
+            "-" => Some(None),
+            _ if name.is_empty() || name.starts_with('-') => None,
+            _ => Some(Some(name)),
+        }
+    }
+
     // These and the one at the front of the words, and what is after it; none where it is no option.
-    fn with<'a>(self, words: &'a [String]) -> Option<(Options, &'a [String])> {
+    fn with(self, words: &'a [String]) -> Option<(Options<'a>, &'a [String])> {
         let (name, behind) = words.split_first()?;
         let mut options = self;
         match name.as_str() {
@@ -45,14 +61,17 @@ impl Options {
                 options.to = behind.first()?.parse().ok()?;
                 return Some((options, behind.get(1..)?));
             }
-            _ => return None,
+            _ => {
+                options.file = self.first_file(name)?;
+                options.named = true;
+            }
         }
         Some((options, behind))
     }
 }
 
 /// The options that the words name; none where a word is no option.
-pub fn options_of(words: &[String]) -> Option<Options> {
+pub fn options_of(words: &[String]) -> Option<Options<'_>> {
     let mut options = Options::none();
     let mut rest = words;
     for _ in 0..words.len() {
