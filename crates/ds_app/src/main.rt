@@ -10,10 +10,14 @@ use ds_analyze::explore::explore;
 use ds_analyze::trace::trace;
 use ds_batch::report::report;
 use ds_batch::run::{no_memory, run, run_stops, stops_between};
+use ds_batch::source::Source;
 use ds_batch::status::{NO_MEMORY, STREAM_FAILED};
 use ds_cli::command_line::{Action, OptionsFault, options};
 use ds_cli::connecting::Stopping;
+use ds_cli::reporting::Reporting;
+use ds_cli::running::Running;
 use ds_client_command::connect::connect;
+use ds_grid::form::GridForm;
 use ds_net_command::serve::{serve, serve_store};
 use ds_store::open::Databases;
 use ds_store_commands::stores::{check, compact, export, import};
@@ -80,12 +84,18 @@ fn dispatch<
         return no_memory(rt);
     };
     match options(rt.alloc(), words.as_slice()) {
-        Ok(Action::Run(notation)) => run(rt, notation),
-        Ok(Action::Stops(Stopping { from, to }, notation)) => {
+        Ok(Action::Run(Running { file, notation })) => run(rt, Source::of(file), notation),
+        Ok(Action::Stops(Stopping { from, to }, Running { file, notation })) => {
             let range = stops_between(from as u64, to as u64);
-            run_stops(rt, range, notation, terminals.error)
+            run_stops(rt, Source::of(file), range, notation, terminals.error)
         }
-        Ok(Action::Report(notation)) => report(rt, notation),
+        Ok(Action::Report(reporting)) => {
+            let form = GridForm {
+                notation: reporting.notation,
+                keeps_labels: reporting.labels,
+            };
+            report(rt, Source::of(reporting.file), form)
+        }
         Ok(Action::Explore(exploring)) => explore(rt, exploring, terminals.error),
         Ok(Action::Trace) => trace(rt),
         Ok(Action::Serve(serving)) => serve(rt, serving),

@@ -1,11 +1,14 @@
-//! `dsheet run`, `dsheet run --stops` and `dsheet report`: scripts and grids from standard input to standard output, with
-//! their exit statuses. Nothing here reads the command line, a file or a socket.
+//! `dsheet run`, `dsheet run --stops` and `dsheet report`: scripts and grids from a file or standard input to standard
+//! output, with their exit statuses. Nothing here reads the command line or a socket.
 #![tactic(auto)]
 
 mod copying;
 pub mod faults;
+mod fields;
 pub mod lines;
 mod progress;
+mod refusals;
 pub mod report;
 pub mod run;
+pub mod source;
 pub mod status;

@@ -3,18 +3,20 @@
 ghost use Rattle.std.specs.Prelude.{◌≡◌, ◌≢◌, None, Some};
 
 use crate::copying::Copying;
-use crate::faults::{show_line, show_refused};
+use crate::faults::{show_answered, show_line, show_refusals, show_refused};
 use crate::progress::Progress;
+use crate::refusals::{Refusals, Watching};
+use crate::source::{Source, open};
 use crate::status::{NO_MEMORY, REFUSED, script_status};
 use ds_a1::notation::Notation;
 use ds_a1_script::lines::Commands;
-use ds_a1_script::script::{OpenScript, open_script};
+use ds_a1_script::script::{OpenScript, RefusedLine, open_script};
 use ds_sched::{Reading, ScriptEnd, StopRange, Writing, run_script, stop_in_range};
 use ds_script_hints::hint::line_at;
-use ds_script_hints::texts::first_bare;
 use ds_script_io::input::{InputEnd, read_input};
 use ds_script_io::line::INPUT_LIMIT;
-use std::io::{self, BufWriter};
+use std::fs::{File, Files};
+use std::io::{self, BufWriter, Read};
 
 // Reports on standard error how a script ended, where that is not as it should; of a fault with its line.
 fn print_end(rt: &impl Eprint, end: &ScriptEnd, script: &[u8]) {
@@ -38,24 +40,13 @@ pub fn no_memory(rt: &impl Eprint) -> u8
     NO_MEMORY
 }
 
-// Says of the first line of a script that was carried out and whose text was refused where a reference has no brackets how
-// it is written.
-fn print_bare<R: AllocGlobal + Eprint>(rt: &R, end: &ScriptEnd, script: &[u8]) {
-    let lines = match end {
-        ScriptEnd::Fault { line, kind: _ } => line.saturating_sub(1),
-        _ => usize::MAX,
-    };
-    if let Some(bare) = first_bare(rt.alloc(), script, lines) {
-        let _reported = eprintln!(rt; "line {}: {}\n{}", bare.number, bare.fault, bare.excerpt);
-    }
-}
-
-// A script from standard input. An error is the status.
-fn read_script<R: AllocGlobal + Input + Eprint>(
+// A script from a reader. An error is the status.
+fn read_script<R: AllocGlobal + Eprint, I: Read + Drop>(
     rt: &R,
+    input: I,
     notation: Notation,
 ) -> Result<ReadScript, u8> {
-    let mut reader = Reading::new(rt.reader());
+    let mut reader = Reading::new(input);
     let Ok(input) = read_input(rt.alloc(), &mut reader, INPUT_LIMIT) else {
         return Err(no_memory(rt));
     };
@@ -100,71 +91,116 @@ impl ReadScript {
         }
     }
 
-    // Reports how a run of the script ended, and gives the status. Where it ended well before a line whose text is refused
-    // as one in A1 notation, that line is reported.
-    fn conclude<R: AllocGlobal + Eprint>(&self, rt: &R, end: &ScriptEnd) -> u8 {
-        match (end, &self.open) {
-            (
-                ScriptEnd::Ended,
-                Some(
-                    OpenScript {
-                        refused: Some(refused),
-                        ..
-                    },
-                ),
-            ) => {
-                let line = line_at(&self.script, refused.line).unwrap_or(&[]);
-                let number = refused.line as u64;
-                show_refused(rt, Commands::OfScript, number, line, refused.fault);
-                REFUSED
-            }
-            _ => {
-                print_end(rt, end, &self.script);
-                script_status(end)
-            }
+    // The notation that it was in.
+    fn notation(&self) -> Notation {
+        match &self.open {
+            Some(_) => Notation::A1,
+            None => Notation::OpenFormula,
         }
+    }
+
+    // The line whose text was refused as one in A1 notation, where the script ended well before it.
+    fn refused(&self, end: &ScriptEnd) -> Option<RefusedLine> {
+        match (end, &self.open) {
+            (ScriptEnd::Ended, Some(open)) => open.refused,
+            _ => None,
+        }
+    }
+
+    // The lines that were carried out.
+    fn lines(&self, end: &ScriptEnd) -> usize {
+        match end {
+            ScriptEnd::Ended => match self.refused(end) {
+                Some(refused) => refused.line.saturating_sub(1),
+                None => usize::MAX,
+            },
+            ScriptEnd::Fault { line, kind: _ } => line.saturating_sub(1),
+            _ => 0,
+        }
+    }
+
+    // Reports how a run of the script ended, and gives the status.
+    fn conclude<R: AllocGlobal + Eprint>(&self, rt: &R, end: &ScriptEnd) -> u8 {
+        let Some(refused) = self.refused(end) else {
+            print_end(rt, end, &self.script);
+            return script_status(end);
+        };
+        let line = line_at(&self.script, refused.line).unwrap_or(&[]);
+        show_refused(
+            rt,
+            Commands::OfScript,
+            refused.line as u64,
+            line,
+            refused.fault,
+        );
+        REFUSED
     }
 }
 
-// A script in A1 notation from standard input, as `run`.
-fn run_a1<R: AllocGlobal + Input + Print + Eprint>(rt: &R) -> u8 {
+// A script in A1 notation from a reader, as `run`.
+fn run_a1<R: AllocGlobal + Print + Eprint, I: Read + Drop>(rt: &R, input: I) -> u8 {
     let Ok(buffered) = BufWriter::new(rt.alloc(), io::writer(rt)) else {
         return no_memory(rt);
     };
-    let script = match read_script(rt, Notation::A1) {
+    let script = match read_script(rt, input, Notation::A1) {
         Ok(script) => script,
         Err(status) => return status,
     };
-    let mut reader = Reading::new(script.text());
-    let mut writer = Writing::new(buffered);
-    let end = run_script(rt.alloc(), &mut reader, &mut writer);
-    script.conclude(rt, &end)
+    let mut refusals = Refusals::new(rt.alloc());
+    let end = {
+        let mut reader = Reading::new(script.text());
+        let mut writer = Writing::new(Watching::new(buffered, &mut refusals));
+        run_script(rt.alloc(), &mut reader, &mut writer)
+    };
+    let status = script.conclude(rt, &end);
+    show_answered(rt, Notation::A1, &script.script, refusals.faults());
+    status
 }
 
-// A script in OpenFormula from standard input, as `run`.
-fn run_open<R: AllocGlobal + Input + Print + Eprint>(rt: &R) -> u8 {
+// A script in OpenFormula from a reader, as `run`.
+fn run_open<R: AllocGlobal + Print + Eprint, I: Read + Drop>(rt: &R, input: I) -> u8 {
     let Ok(buffered) = BufWriter::new(rt.alloc(), io::writer(rt)) else {
         return no_memory(rt);
     };
     let mut script = Vec::new(rt.alloc());
+    let mut refusals = Refusals::new(rt.alloc());
     let end = {
-        let mut reader = Reading::new(Copying::new(rt.reader(), &mut script));
-        let mut writer = Writing::new(buffered);
+        let mut reader = Reading::new(Copying::new(input, &mut script));
+        let mut writer = Writing::new(Watching::new(buffered, &mut refusals));
         run_script(rt.alloc(), &mut reader, &mut writer)
     };
     print_end(rt, &end, &script);
-    print_bare(rt, &end, &script);
+    show_answered(rt, Notation::OpenFormula, &script, refusals.faults());
     script_status(&end)
 }
 
-/// `dsheet run`: a script with formulas in this notation from standard input, of at most 1,048,576 bytes, its answers to
-/// standard output. A line with a fault ends it and is reported on standard error, and so does one whose text is none in
-/// A1 notation; the answers of the lines before it are written. Gives the exit status, `script_status` of how the script
-/// ended.
-pub fn run<R: AllocGlobal + Input + Print + Eprint>(rt: &R, notation: Notation) -> u8 {
+// A script from a reader, as `run`.
+fn run_from<R: AllocGlobal + Print + Eprint, I: Read + Drop>(
+    rt: &R,
+    input: I,
+    notation: Notation,
+) -> u8 {
     match notation {
-        Notation::OpenFormula => run_open(rt),
-        Notation::A1 => run_a1(rt),
+        Notation::OpenFormula => run_open(rt, input),
+        Notation::A1 => run_a1(rt, input),
+    }
+}
+
+/// `dsheet run`: a script with formulas in this notation, of at most 1,048,576 bytes, its answers to standard output. A
+/// line with a fault ends it and is reported on standard error, and so does one whose text is none in A1 notation; the
+/// answers of the lines before it are written. Gives the exit status, `script_status` of how the script ended, or 3 where
+/// the file cannot be opened.
+pub fn run<R: AllocGlobal + Input + Print + Eprint + Files<File = File>>(
+    rt: &R,
+    source: Source<'_>,
+    notation: Notation,
+) -> u8 {
+    match source {
+        Source::StandardInput => run_from(rt, rt.reader(), notation),
+        Source::File(path) => match open(rt, path) {
+            Ok(file) => run_from(rt, file, notation),
+            Err(status) => status,
+        },
     }
 }
 
@@ -180,12 +216,10 @@ pub fn stops_between(from: u64, to: u64) -> StopRange
     }
 }
 
-/// `dsheet run --stops`: a script with formulas in this notation from standard input, of at most 1,048,576 bytes, and to
-/// standard output what is reported of a crash after each of its steps that is in the range. A line with a fault ends it
-/// and is reported on standard error, as by `run`. Where `shows` is true, it shows there how far it is. Gives the exit
-/// status, `script_status` of how the script ended.
-pub fn run_stops<R: AllocGlobal + Input + Print + Eprint>(
+// The crashes of a script from a reader, as `run_stops`.
+fn stops_from<R: AllocGlobal + Print + Eprint, I: Read + Drop>(
     rt: &R,
+    input: I,
     range: StopRange,
     notation: Notation,
     shows: bool,
@@ -193,11 +227,33 @@ pub fn run_stops<R: AllocGlobal + Input + Print + Eprint>(
     let Ok(buffered) = BufWriter::new(rt.alloc(), io::writer(rt)) else {
         return no_memory(rt);
     };
-    let script = match read_script(rt, notation) {
+    let script = match read_script(rt, input, notation) {
         Ok(script) => script,
         Err(status) => return status,
     };
     let mut writer = Writing::new(Progress::new(buffered, rt, shows));
     let end = stop_in_range(rt.alloc(), script.text(), range, &mut writer);
-    script.conclude(rt, &end)
+    let status = script.conclude(rt, &end);
+    show_refusals(rt, script.notation(), &script.script, script.lines(&end));
+    status
+}
+
+/// `dsheet run --stops`: a script with formulas in this notation, of at most 1,048,576 bytes, and to standard output what
+/// is reported of a crash after each of its steps that is in the range. A line with a fault ends it and is reported on
+/// standard error, as by `run`. Where `shows` is true, it shows there how far it is. Gives the exit status, `script_status`
+/// of how the script ended, or 3 where the file cannot be opened.
+pub fn run_stops<R: AllocGlobal + Input + Print + Eprint + Files<File = File>>(
+    rt: &R,
+    source: Source<'_>,
+    range: StopRange,
+    notation: Notation,
+    shows: bool,
+) -> u8 {
+    match source {
+        Source::StandardInput => stops_from(rt, rt.reader(), range, notation, shows),
+        Source::File(path) => match open(rt, path) {
+            Ok(file) => stops_from(rt, file, range, notation, shows),
+            Err(status) => status,
+        },
+    }
 }

@@ -13,6 +13,8 @@ use Rattle.ds_cli.specs.declared.command_line.OptionsFault.TheVariants.{CommandL
 use Rattle.ds_cli.specs.Connectings.{IsConnecting, IsStopping}
 use Rattle.ds_cli.specs.Notations.{IsNotation}
 use Rattle.ds_cli.specs.Explorings.{IsExploring}
+use Rattle.ds_cli.specs.Reportings.{IsReporting}
+use Rattle.ds_cli.specs.Runnings.{IsRunning}
 use Rattle.ds_cli.specs.Servings.{IsOutOfLimits, IsServing}
 
 -- `clap`'s command is this one, with no global argument
@@ -41,10 +43,14 @@ number_option name default = record (new_rule name) {
 abbrev pub flag : Text → Rule
 flag name = record (new_rule name) { long = Some name; action = Some SetTrue }
 
--- `dsheet run [--stops] [--from K] [--to K] [--a1]`
+-- the argument that names the file of a script or a grid, where that is not standard input
+abbrev pub input : Rule
+input = record (new_rule (codes "file")) { value_names = 1 }
+
+-- `dsheet run [FILE] [--stops] [--from K] [--to K] [--a1]`
 abbrev pub run_command : App
-run_command = with_rule (with_rule (with_rule (with_rule (new_app (codes "run")) stops) (number_option (codes "from") (codes "1"))) (number_option (codes "to") (codes "0")))
-    (flag (codes "a1"))
+run_command = with_rule (with_rule (with_rule (with_rule (with_rule (new_app (codes "run")) input) stops) (number_option (codes "from") (codes "1")))
+    (number_option (codes "to") (codes "0"))) (flag (codes "a1"))
 
 -- `dsheet explore [--crashes] [--stops] [--evictions] [--most N]`
 abbrev pub explore_command : App
@@ -55,9 +61,9 @@ explore_command = with_rule (with_rule (with_rule (with_rule (new_app (codes "ex
 abbrev pub trace_command : App
 trace_command = new_app (codes "trace")
 
--- `dsheet report [--a1]`
+-- `dsheet report [FILE] [--labels] [--a1]`
 abbrev pub report_command : App
-report_command = with_rule (new_app (codes "report")) (flag (codes "a1"))
+report_command = with_rule (with_rule (with_rule (new_app (codes "report")) input) (flag (codes "labels"))) (flag (codes "a1"))
 
 -- `dsheet serve --listen ADDRESS [--columns N] [--rows N]`
 abbrev pub sheet_command : App
@@ -129,9 +135,9 @@ Names rows name value = first_of name rows ≡ Some value
 
 -- a subcommand of this name with these matches asks for this
 abbrev pub Asks : Text → List Row → Action → Type 0
-Asks name rows (Run notation) = (name ≡ codes "run") × (one_of (codes "stops") rows ≡ Some (codes "true") → ⊥) × IsNotation rows notation
-Asks name rows (Stops stopping notation) = (name ≡ codes "run") × (one_of (codes "stops") rows ≡ Some (codes "true")) × IsStopping rows stopping × IsNotation rows notation
-Asks name rows (Report notation) = (name ≡ codes "report") × IsNotation rows notation
+Asks name rows (Run running) = (name ≡ codes "run") × (one_of (codes "stops") rows ≡ Some (codes "true") → ⊥) × IsRunning rows running
+Asks name rows (Stops stopping running) = (name ≡ codes "run") × (one_of (codes "stops") rows ≡ Some (codes "true")) × IsStopping rows stopping × IsRunning rows running
+Asks name rows (Report reporting) = (name ≡ codes "report") × IsReporting rows reporting
 Asks name rows Trace = name ≡ codes "trace"
 Asks name rows (Explore exploring) = (name ≡ codes "explore") × IsExploring rows exploring
 Asks name rows (Serve serving) = (name ≡ codes "serve") × IsServing rows serving × (first_of (codes "store") rows ≡ None)

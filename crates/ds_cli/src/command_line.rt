@@ -4,11 +4,13 @@ ghost use Rattle.std.specs.Prelude.{◌≡◌, ◌↔◌, IfErr, IfOk, IsTrue, N
 ghost use Rattle.std.specs.String.{string_bytes};
 ghost use Rattle.clap.specs.Words.{App, Rule, app_of, fault_of, new_app, first_of, found_of, one_of, rows_of, rule_of, with_rule, with_subcommand};
 ghost use Rattle.ds_cli.specs.declared.command_line.OptionsFault.TheVariants.{CommandLine, NoFile};
-ghost use Rattle.ds_cli.specs.CommandLines.{Asks, AsksNothing, AsksOfStore, IsAskedBy, IsCommand, IsRefusedFor, IsWanting, Names, compact_command as compact_app, connect_command as connect_app, dsheet, dsheet_alone, explore_command as explore_app, file as file_rule, flag as flag_rule, file_command as file_app, import_command as import_app, listen as listen_rule, log_option as log_rule, number_option as number_rule, report_command as report_app, run_command as run_app, serve_command as serve_app, shared_command as shared_app, sheet_command as sheet_app, store as store_rule, trace_command as trace_app, with_stores};
+ghost use Rattle.ds_cli.specs.CommandLines.{Asks, AsksNothing, AsksOfStore, IsAskedBy, IsCommand, IsRefusedFor, IsWanting, Names, compact_command as compact_app, connect_command as connect_app, dsheet, dsheet_alone, explore_command as explore_app, file as file_rule, input as input_rule, flag as flag_rule, file_command as file_app, import_command as import_app, listen as listen_rule, log_option as log_rule, number_option as number_rule, report_command as report_app, run_command as run_app, serve_command as serve_app, shared_command as shared_app, sheet_command as sheet_app, store as store_rule, trace_command as trace_app, with_stores};
 
 use crate::connecting::{Connecting, Stopping, read_connecting, read_stopping};
 use crate::exploring::{Exploring, is_set, read_exploring};
 use crate::notations::notation_of;
+use crate::reporting::{Reporting, read_reporting};
+use crate::running::{Running, read_running};
 use crate::serving::{OutOfLimits, Serving, read_serving};
 use clap::{Arg, ArgAction, ArgMatches, Command, Error, value_parser};
 use ds_a1::notation::Notation;
@@ -17,12 +19,12 @@ use std::alloc::{AllocError, Global};
 /// What the words ask for.
 #[derive(Clone, Copy, Debug, PartialEq, Eq)]
 pub enum Action<'a> {
-    /// `dsheet run`: a script on standard input, with formulas in this notation.
-    Run(Notation),
+    /// `dsheet run`: a script.
+    Run(Running<'a>),
     /// `dsheet run --stops`: the same, crashed after each of its steps.
-    Stops(Stopping, Notation),
-    /// `dsheet report`: a grid on standard input, with formulas in this notation.
-    Report(Notation),
+    Stops(Stopping, Running<'a>),
+    /// `dsheet report`: a grid.
+    Report(Reporting<'a>),
     /// `dsheet explore`: all orders of the steps of a script's calls.
     Explore(Exploring),
     /// `dsheet trace`: a picture of the run of a script.
@@ -67,10 +69,10 @@ const VERSION: &str = "0.1.0";
 const ABOUT: &str = "The calculator of a shared spreadsheet that survives crashes";
 
 const RUN_ABOUT: &str =
-    "Runs a script from standard input and writes its answers to standard output";
+    "Runs a script, from a file or standard input, and writes its answers to standard output";
 
 const REPORT_ABOUT: &str =
-    "Reads a grid of texts from standard input and writes its values to standard output";
+    "Reads a grid of texts, from a file or standard input, and writes its values to standard output";
 
 const EXPLORE_ABOUT: &str = "Goes through all orders of the steps of a script's calls";
 
@@ -134,6 +136,7 @@ Examples:
   printf 'set 0 A1 =1+2\\nsettle 0\\nreport 0\\n' | dsheet run
   printf 'set 0 A1 7\\n' | dsheet run --stops
   printf 'set 0 A1 =B1+1\\nsettle 0\\nreport 0\\n' | dsheet run --a1
+  dsheet run budget.script
 
 Exit status: 0 ended; 1 a fault in a line, which is named; 2 wrong words on the
 command line; 3 a failed read or write, or a script over 1048576 bytes; 4 no memory.";
@@ -146,15 +149,20 @@ Calc and Excel, =A1*2 or =SUM(A1:B3,7) (a field with a comma stands in quotes), 
 Functions: SUM MIN MAX COUNT AND OR of one argument or more, ranges among them;
 ABS and NOT of one; MOD and QUOTIENT of two; IF of two or three.
 Limits: 26 columns, 64 rows, 1024 cells; 240 bytes a text, 1048576 the grid.
-What is written is the values, as CSV. Nothing is written where a fault is told:
+What is written is the values, as CSV. With --labels a field is written as it is, and counts as blank, that begins
+neither as a number nor as a formula does (=, a digit, or these behind spaces, tabs, signs or points): headings and names.
+Nothing is written where a fault is told:
   empty grid        no record
   bad csv           a record has another number of fields than the first
   grid too large    more columns, rows or cells than the limits
-  cell A1: KIND N   the text of this cell is refused at its byte N, from 0; with --a1 at that of the text with brackets
+  cell A1: KIND N   the text of this cell is refused at its byte N, from 0; with --a1 at that of the text with brackets;
+                    below it stand the line and the column of the field and its text; all such fields are told
 
-Example:
+Examples:
   printf '1,=[.A1]*20\\n2,=SUM([.A1:.A2])\\n' | dsheet report
   printf '1,=A1*20\\n' | dsheet report --a1
+  dsheet report budget.csv --labels --a1
+  printf 'Rent,900\\nFood,350\\nAll,=SUM(B1:B2)\\n' | dsheet report --labels --a1
 
 Exit status: 0 ended; 1 a fault in the grid; 2 wrong words on the command line;
 3 a failed read or write, or a grid over 1048576 bytes; 4 no memory.";
@@ -362,13 +370,15 @@ fn run_command<'a>(alloc: Global) -> Result<Command<'a>, AllocError>
     ensures { IfOk result (IsCommand run_app) }
 {
     let stops_help = "Crashes the sheet behind each step, and writes what is told then";
-    let one = with_argument(Ok(run_alone(alloc)), flag(alloc, STOPS, stops_help));
+    let file = input_argument(alloc, "The file of the script; - or none: standard input");
+    let one = with_argument(Ok(run_alone(alloc)), file);
+    let two = with_argument(one, flag(alloc, STOPS, stops_help));
     let from_help = "With --stops: the first step behind which it is crashed";
-    let two = with_argument(one, number_option(alloc, "from", "1", from_help));
+    let three = with_argument(two, number_option(alloc, "from", "1", from_help));
     let to_help = "With --stops: the last one; 0: to the end";
-    let three = with_argument(two, number_option(alloc, "to", "0", to_help));
-    let four = with_argument(three, a1_flag(alloc));
-    called(four, "dsheet run")
+    let four = with_argument(three, number_option(alloc, "to", "0", to_help));
+    let five = with_argument(four, a1_flag(alloc));
+    called(five, "dsheet run")
 }
 
 // A flag.
@@ -413,8 +423,13 @@ fn trace_command<'a>(alloc: Global) -> Command<'a>
 fn report_command<'a>(alloc: Global) -> Result<Command<'a>, AllocError>
     ensures { IfOk result (IsCommand report_app) }
 {
-    let one = with_argument(Ok(report_alone(alloc)), a1_flag(alloc));
-    called(one, "dsheet report")
+    let labels_help = "Headings and names pass through as they are, and count as blank";
+    let labels = flag(alloc, "labels", labels_help);
+    let file = input_argument(alloc, "The file of the grid; - or none: standard input");
+    let one = with_argument(Ok(report_alone(alloc)), file);
+    let two = with_argument(one, labels);
+    let three = with_argument(two, a1_flag(alloc));
+    called(three, "dsheet report")
 }
 
 // An option with a number from 0 to 65,535.
@@ -476,6 +491,14 @@ fn file_argument<'a>(alloc: Global, name: &'a str, value_name: &'a str, help: &'
         .value_name(value_name)
         .required(true)
         .help(help)
+}
+
+// An argument that names what is read, where that is not standard input.
+fn input_argument<'a>(alloc: Global, help: &'a str) -> Arg<'a>
+    ensures rule { rule_of result ≡ input_rule }
+    ensures local { result.global ≡ false }
+{
+    Arg::new(alloc, "file").value_name("FILE").help(help)
 }
 
 // A command on a file.
@@ -649,12 +672,12 @@ fn ran<'a>(found: &ArgMatches<'a>) -> Result<Action<'a>, OptionsFault>
     ensures action { IfOk result (Asks (codes "run") (rows_of (found_of found.now))) }
     ensures fault { IfErr result (AsksNothing (codes "run") (rows_of (found_of found.now))) }
 {
-    let notation = notation_of(found);
+    let running = read_running(found);
     if !is_set(found, STOPS) {
-        return Ok(Action::Run(notation));
+        return Ok(Action::Run(running));
     }
     match read_stopping(found) {
-        Ok(stopping) => Ok(Action::Stops(stopping, notation)),
+        Ok(stopping) => Ok(Action::Stops(stopping, running)),
         Err(limit) => Err(OptionsFault::OutOfLimits(limit)),
     }
 }
@@ -703,7 +726,7 @@ fn asked<'a>(name: &str, found: &ArgMatches<'a>) -> Result<Action<'a>, OptionsFa
     match name {
         "run" => ran(found),
         "connect" => connected(found),
-        "report" => Ok(Action::Report(notation_of(found))),
+        "report" => Ok(Action::Report(read_reporting(found))),
         "trace" => Ok(Action::Trace),
         "serve" => served(found),
         "explore" => explored(found),

@@ -4,5 +4,8 @@
 pub mod command_line;
 pub mod connecting;
 pub mod exploring;
+mod inputs;
 mod notations;
+pub mod reporting;
+pub mod running;
 pub mod serving;

@@ -1,2 +1,3 @@
-pub mod GridEndings
 pub mod Grids
+pub mod GridEndings
+pub mod Labels

@@ -4,11 +4,12 @@ ghost use Rattle.std.specs.Prelude.{◌≡◌, ◌<◌, IfOk, IfErr, length, map
 ghost use Rattle.csv.specs.Reading.{AreRecords, default_config, strip_bom};
 ghost use Rattle.csv.specs.Records.{fields_of};
 ghost use Rattle.csv.specs.declared.parser.State.TheVariants as state;
-ghost use Rattle.ds_grid.specs.Grids.{text_at, IsGridOf, HasFault, AllRead, FailsAt};
+ghost use Rattle.ds_grid.specs.Labels.{held_text};
+ghost use Rattle.ds_grid.specs.Grids.{cell_field, text_at, IsGridOf, HasFault, AllRead, FailsAt};
 
 use crate::ending::{GridEnd, GridFault};
+use crate::form::GridForm;
 use csv::{ByteRecord, ReaderBuilder};
-use ds_a1::notation::Notation;
 use ds_a1::texts::read_text;
 use ds_formula::cells::{Cell, Shape};
 use ds_formula::content::Content;
@@ -54,10 +55,10 @@ pub fn shape_of(records: &[ByteRecord]) -> Result<Shape, GridFault>
     }
 }
 
-// The text of a cell; it is empty where the grid has none.
-fn text<'a>(records: &'a [ByteRecord], cell: Cell) -> &'a [u8]
+// The field of a cell; it is empty where the grid has none.
+fn field<'a>(records: &'a [ByteRecord], cell: Cell) -> &'a [u8]
     requires { cell.row < length records.now }
-    ensures { result.now ≡ text_at (map fields_of records.now) cell }
+    ensures { result.now ≡ cell_field (map fields_of records.now) cell }
 {
     match records[cell.row].get(cell.column) {
         Some(field) => field,
@@ -65,21 +66,29 @@ fn text<'a>(records: &'a [ByteRecord], cell: Cell) -> &'a [u8]
     }
 }
 
-/// The content of each cell, row by row from the left, of texts in this notation.
+// The text that a cell holds by its field.
+fn held_text(form: GridForm, field: &[u8]) -> &[u8]
+    ensures { result.now ≡ held_text form field.now }
+{
+    if form.passes(field) { &[] } else { field }
+}
+
+/// The content of each cell, row by row from the left, of a grid in this form.
 pub fn contents(
     alloc: Global,
-    notation: Notation,
+    form: GridForm,
     shape: &Shape,
     records: &[ByteRecord],
 ) -> Result<Vec<Content>, GridEnd>
     requires { length records.now ≡ shape.now.rows }
-    ensures all { IfOk result (λ contents. AllRead notation shape.now (map fields_of records.now) contents.items) }
-    ensures fails { IfErr result (λ end. FailsAt notation shape.now (map fields_of records.now) end) }
+    ensures all { IfOk result (λ contents. AllRead form shape.now (map fields_of records.now) contents.items) }
+    ensures fails { IfErr result (λ end. FailsAt form shape.now (map fields_of records.now) end) }
 {
     let mut contents = Vec::new(alloc);
     for index in 0..shape.count() {
         let cell = shape.cell(index);
-        match read_text(alloc, notation, shape, text(records, cell)) {
+        let text = held_text(form, field(records, cell));
+        match read_text(alloc, form.notation, shape, text) {
             Ok(content) => contents.push(content)?,
             Err(fault) => {
                 return Err(match fault.kind {

@@ -1,4 +1,8 @@
 use Rattle.ds_cli.proofs.command_line.report_command.Goals as goal
 
 pub returns : goal.returns
-returns c = c.called.ensures _ (c.with_argument-one.ensures _ _ c.report_alone.ensures c.a1_flag.ensures.rule c.a1_flag.ensures.local)
+returns c =
+    let one = c.with_argument-one.ensures _ _ c.report_alone.ensures c.input_argument-file.ensures.rule c.input_argument-file.ensures.local in
+    let two = c.with_argument-two.ensures _ _ one c.flag-labels.ensures.rule c.flag-labels.ensures.local in
+    let three = c.with_argument-three.ensures _ _ two c.a1_flag.ensures.rule c.a1_flag.ensures.local in
+    c.called.ensures _ three

@@ -2,8 +2,9 @@ use Rattle.ds_cli.proofs.command_line.run_command.Goals as goal
 
 pub returns : goal.returns
 returns c =
-    let one = c.with_argument-one.ensures _ _ c.run_alone.ensures c.flag.ensures.rule c.flag.ensures.local in
-    let two = c.with_argument-two.ensures _ _ one c.number_option.ensures.rule c.number_option.ensures.local in
-    let three = c.with_argument-three.ensures _ _ two c.number_option-2.ensures.rule c.number_option-2.ensures.local in
-    let four = c.with_argument-four.ensures _ _ three c.a1_flag.ensures.rule c.a1_flag.ensures.local in
-    c.called.ensures _ four
+    let one = c.with_argument-one.ensures _ _ c.run_alone.ensures c.input_argument-file.ensures.rule c.input_argument-file.ensures.local in
+    let two = c.with_argument-two.ensures _ _ one c.flag.ensures.rule c.flag.ensures.local in
+    let three = c.with_argument-three.ensures _ _ two c.number_option.ensures.rule c.number_option.ensures.local in
+    let four = c.with_argument-four.ensures _ _ three c.number_option-2.ensures.rule c.number_option-2.ensures.local in
+    let five = c.with_argument-five.ensures _ _ four c.a1_flag.ensures.rule c.a1_flag.ensures.local in
+    c.called.ensures _ five

@@ -14,7 +14,7 @@ returns-clause-outcome g c = λ no_failure. (
   inl (record {
     end = c.in-Ok.input.end;
     ends_with = c.in-Ok.ensures.end;
-    ran = subst (λ (e : InputEnd). Ran c.args.notation e c.in-Ok.input.bytes.items [] c.in-Err.end) (sym c.in-Ended.is)
-        (ran_of c.args.notation c.in-Ok.input.bytes.items c.in-Err.end (subst (λ (bytes : List ℕ). Fails c.args.notation bytes c.in-Err.end) c.deref.ensures.value c.in-Err.ensures.fails));
+    ran = subst (λ (e : InputEnd). Ran c.args.form e c.in-Ok.input.bytes.items [] c.in-Err.end) (sym c.in-Ended.is)
+        (ran_of c.args.form c.in-Ok.input.bytes.items c.in-Err.end (subst (λ (bytes : List ℕ). Fails c.args.form bytes c.in-Err.end) c.deref.ensures.value c.in-Err.ensures.fails));
   }),
 )
