@@ -10,7 +10,9 @@ line counts the rows, each kill and each cut one of them.
 import json
 import os
 import random
+import re
 import resource
+import shlex
 import shutil
 import signal
 import socket
@@ -379,6 +381,44 @@ def check_full(program, folder):
     pass_rows(f"no room after {len(client.told)} edits")
 
 
+def check_lost_file(program, folder):
+    """A server whose file is removed or replaced ends, and says so."""
+    for name, lose in (
+        ("removed", lambda path: os.remove(path)),
+        ("replaced", lambda path: os.replace(shutil.copy(path, f"{path}.copy"), path)),
+    ):
+        path = os.path.join(folder, f"{name}.db")
+        server, port = start(program, path)
+        with socket.create_connection(("127.0.0.1", port), timeout=20) as link:
+            client, stream = Client(0), link.makefile("rw")
+            client.call(stream, op="join", process=0)
+            client.edit(stream, random.Random(1))
+            lose(path)
+            said = server.stderr.read()
+        server.wait(timeout=30)
+        server.stdin.close()
+        if server.returncode != 3 or "it was removed or replaced while it was served" not in said:
+            raise Failed(f"a file that was {name}: status {server.returncode}: {said}")
+        pass_rows(f"a file that is {name} while it is served")
+
+
+def check_unit(program, folder):
+    """The unit of systemd starts a server, and stops it."""
+    lines = open(os.path.join(os.path.dirname(__file__), "../examples/serve/dsheet.service"), encoding="utf-8").read()
+    for path, here in (("/usr/local/bin/dsheet", program), ("/run/dsheet", folder), ("/var/lib/dsheet", folder), (":8080", ":0")):
+        lines = lines.replace(path, here)
+    said = dict(re.findall(r"(?m)^(Exec\w+)=(.+)$", lines))
+    subprocess.run(shlex.split(said["ExecStartPre"]), check=True)
+    server = subprocess.Popen(shlex.split(said["ExecStart"]), stderr=subprocess.PIPE, text=True)
+    listening = server.stderr.readline()
+    subprocess.run(shlex.split(said["ExecStop"]), check=True, timeout=10)
+    rest = server.stderr.read()
+    server.wait(timeout=10)
+    if server.returncode != 0 or "listening on" not in listening:
+        raise Failed(f"the unit of systemd: status {server.returncode}: {listening}{rest}")
+    pass_rows("the unit of systemd starts a server, and stops it")
+
+
 def check_cuts(program, folder, store, cuts, draw):
     """A file that is cut is refused, or has the first of the lines."""
     whole = run(program, "export", store).stdout.splitlines()
@@ -410,6 +450,8 @@ def check_all(program, kills, cuts, many, draw):
         check_commands(program, folder, store)
         check_files(program, folder, store)
         check_full(program, folder)
+        check_lost_file(program, folder)
+        check_unit(program, folder)
         check_cuts(program, folder, store, cuts, draw)
         check_sums(program, folder, store, cuts, draw)
 
