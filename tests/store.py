@@ -2,8 +2,9 @@
 """Tries the store of a server: kills it (-9) at drawn moments while four clients edit, starts it again, and holds what
 each client is answered against what it was answered before: each edit that was answered done is there, each last edit is
 reported as it ended, no number comes twice, none is left out. Then what a store may meet beside that: no room on the
-disk, a file that may not be written, is another database, is cut at many places, or is open in another server. The last
-line counts the rows, each kill and each cut one of them.
+disk, a file that may not be written, is another database, is damaged or cut at many places, or is open in another server;
+what is saved of a damaged one, and copies of one, also beside a server. The last line counts the rows, each kill and each
+cut one of them.
     tests/store.py [--quick] PROGRAM [KILLS [CUTS [SEED]]]      200 kills and 100 cuts by a drawn seed, where no numbers
                                                                 are given (10 and 20 of an unproved program, by --quick)
 """
@@ -50,14 +51,16 @@ def pass_rows(what, count=1):
     print(f"store: {what} ... ok", flush=True)
 
 
+def limited(limit):
+    """What a program is started with that may write no file beyond this length."""
+    signal.signal(signal.SIGXFSZ, signal.SIG_IGN)
+    resource.setrlimit(resource.RLIMIT_FSIZE, (limit, limit))
+
+
 def start(program, store, limit=None, shape=None):
     """Starts a server with this store; returns it and its port."""
     words = [program, "serve", "--listen", "127.0.0.1:0", "--forever", *(shape or SHAPE), "--store", store]
-    bound = None
-    if limit is not None:
-        def bound():
-            signal.signal(signal.SIGXFSZ, signal.SIG_IGN)
-            resource.setrlimit(resource.RLIMIT_FSIZE, (limit, limit))
+    bound = None if limit is None else lambda: limited(limit)
     server = subprocess.Popen(words, stdin=subprocess.PIPE, stderr=subprocess.PIPE, text=True, preexec_fn=bound)
     said = server.stderr.readline()
     if not said.startswith("dsheet: listening on "):
@@ -109,8 +112,8 @@ class Client:
         self.told.append(self.asked)
         self.asked = None
 
-    def life(self, port, draw):
-        """Joins, and edits until the server dies."""
+    def life(self, port, draw, enough=None):
+        """Joins, and edits until the server dies; or, with short rests, until there are enough edits."""
         try:
             with socket.create_connection(("127.0.0.1", port), timeout=20) as link:
                 stream = link.makefile("rw")
@@ -119,6 +122,8 @@ class Client:
                 self.asked = None
                 while True:
                     self.edit(stream, draw)
+                    if enough is not None and enough.wait(draw.uniform(0, 0.2)):
+                        break
         except (OSError, ConnectionError, json.JSONDecodeError):
             pass
         except Failed as wrong:
@@ -294,6 +299,155 @@ def check_commands(program, folder, store):
         expect(name, run(program, "import", os.path.join(folder, f"{name}.db"), input=text), 1, words)
 
 
+def lines_in(store):
+    """The lines of a store that is closed, those of sums too, as another SQLite reads them."""
+    link = sqlite3.connect(f"file:{store}?mode=ro", uri=True)
+    lines = [row[0] for row in link.execute("SELECT line FROM journal ORDER BY number")]
+    link.close()
+    return lines
+
+
+def damage(store, damaged, change):
+    """Makes a copy of a store that is closed, and changes it by this statement of SQL."""
+    for name in (damaged, damaged + "-wal"):
+        if os.path.exists(name):
+            os.remove(name)
+    shutil.copy(store, damaged)
+    link = sqlite3.connect(damaged)
+    link.execute(change)
+    link.commit()
+    link.close()
+
+
+def expect_until(program, folder, name, store, until, lines, status, *words):
+    """Exports the first lines of a store: these are to come, with a line on standard error that has all these words, or
+    with none, and are to make a store."""
+    said = run(program, "export", store, "--until", str(until))
+    wanted = "".join(line + "\n" for line in lines if not line.startswith("# sum "))
+    told = said.stderr.splitlines()
+    if said.returncode != status or said.stdout != wanted or len(told) != (words != ()) or not all(it in said.stderr for it in words):
+        came = f"came {said.returncode}, {len(said.stdout.splitlines())} lines, {said.stderr[:300]}"
+        raise Failed(f"{name}: wanted status {status}, {len(wanted.splitlines())} lines and {words}, {came}")
+    if lines:
+        saved = os.path.join(folder, f"saved {name}.db")
+        made = run(program, "import", saved, input=said.stdout)
+        if made.returncode != 0 or run(program, "export", saved).stdout != wanted:
+            raise Failed(f"{name}: what was exported makes another store: {made.stderr}")
+    pass_rows(name)
+
+
+def check_until(program, folder, store):
+    """Of a store that is damaged, the lines before the first one that is wrong are given."""
+    lines = lines_in(store)
+    sums = [number for number, line in enumerate(lines, 1) if line.startswith("# sum ")]
+    middle = sums[len(sums) // 2]
+    expect_until(program, folder, "all lines", store, 65535, lines, 0)
+    expect_until(program, folder, "the first line", store, 1, lines[:1], 0, "lines from 2 on are left out")
+    expect_until(program, folder, "the first lines", store, middle - 1, lines[: middle - 1], 0, f"lines from {middle} on are left out")
+    hurt = os.path.join(folder, "hurt.db")
+    for name, change, wrong, words in (
+        ("before a changed line", f"UPDATE journal SET line = 'set 0 A1 7' WHERE number = {middle - 1}", middle, "it has the sum of other lines than are before it"),
+        ("before a changed sum", f"UPDATE journal SET line = line || '1' WHERE number = {middle}", middle, "it has the sum of other lines than are before it"),
+        ("before a line with no sum", "INSERT INTO journal (line) VALUES ('# a note')", len(lines) + 1, "has no sum after it"),
+        ("before lines with no sum", f"DELETE FROM journal WHERE number = {len(lines)}", sums[-2] + 1, "has no sum after it"),
+        ("before a line that is missing", "DELETE FROM journal WHERE number = 5", 5, "line 5 is missing"),
+        ("before a text with a fault", f"UPDATE journal SET line = 'set 0 A1 =' WHERE number = {middle + 1}", middle + 1, "its text is refused"),
+        ("no line before the first", "UPDATE journal SET line = 'crash' WHERE number = 1", 1, "line 1"),
+    ):
+        damage(store, hurt, change)
+        left = (f"; lines from {wrong} on are left out",) if wrong > 1 else ()
+        said = run(program, "export", hurt)
+        if said.returncode != 1 or said.stdout:
+            raise Failed(f"{name}: without --until status {said.returncode}, {len(said.stdout)} bytes")
+        expect_until(program, folder, name, hurt, 65535, lines_in(hurt)[: wrong - 1], 1, words, *left)
+    damage(store, hurt, f"UPDATE journal SET line = line || '1' WHERE number = {middle}")
+    expect_until(program, folder, "some lines before a changed sum", hurt, 3, lines[:3], 1, "lines from 4 on are left out")
+
+
+def expect_no_copy(name, program, store, copy, status, words):
+    """A backup that is refused leaves no file."""
+    expect(name, run(program, "backup", store, copy), status, words)
+    for left in (copy, copy + "-wal"):
+        if os.path.exists(left):
+            raise Failed(f"{name}: {left} is there")
+
+
+def check_backup(program, folder, store):
+    """A copy of a store at rest has its lines; what is there is not written over, and a backup that fails leaves no file."""
+    copy = os.path.join(folder, "copy.db")
+    expect("backup", run(program, "backup", store, copy), 0, "")
+    if lines_in(copy) != lines_in(store):
+        raise Failed("the copy has other lines")
+    expect("check of a copy", run(program, "check", copy), 0, "edits count")
+    with open(copy, "rb") as it:
+        held = it.read()
+    expect("backup over a store", run(program, "backup", store, copy), 1, "already")
+    with open(copy, "rb") as it:
+        if it.read() != held:
+            raise Failed("a backup over a store has changed it")
+    empty = os.path.join(folder, "empty.db")
+    with open(empty, "wb"):
+        pass
+    expect("backup over an empty file", run(program, "backup", store, empty), 1, "already")
+    log = os.path.join(folder, "lone.db")
+    with open(log + "-wal", "wb"):
+        pass
+    expect("backup beside a log", run(program, "backup", store, log), 1, "already")
+    if os.path.exists(log) or not os.path.exists(log + "-wal"):
+        raise Failed("a backup beside a log has left a file, or has removed the log")
+    none = os.path.join(folder, "none.db")
+    expect_no_copy("backup of no file", program, none, os.path.join(folder, "none copy.db"), 3, "none.db")
+    if os.path.exists(none):
+        raise Failed("a backup has made the store")
+    expect_no_copy("backup of a folder", program, folder, os.path.join(folder, "folder copy.db"), 3, folder)
+    expect_no_copy("backup of another database", program, os.path.join(folder, "other.db"), os.path.join(folder, "other copy.db"), 1, "something else")
+    hurt = os.path.join(folder, "hurt.db")
+    damage(store, hurt, "UPDATE journal SET line = line || '1' WHERE number = 3")
+    expect_no_copy("backup of a damaged store", program, hurt, os.path.join(folder, "hurt copy.db"), 1, "hurt.db: line")
+    expect_no_copy("backup to no folder", program, store, os.path.join(folder, "no folder", "copy.db"), 3, "copy.db")
+
+
+def check_backup_beside(program, folder, backups, draw):
+    """Backups beside a server under edits: each opens, has every edit that was answered before it began, and has the first
+    lines of what the store has in the end."""
+    store, link = os.path.join(folder, "busy.db"), os.path.join(folder, "link.db")
+    os.symlink(store, link)
+    server, port = start(program, store)
+    clients = [Client(process) for process in range(PROCESSES)]
+    enough = threading.Event()
+    threads = [threading.Thread(target=client.life, args=(port, draw, enough)) for client in clients]
+    for thread in threads:
+        thread.start()
+    copies, busy = [], 0
+    while len(copies) < backups:
+        copy = os.path.join(folder, f"busy copy {len(copies)}.db")
+        answered = [len(client.told) for client in clients]
+        said = run(program, "backup", link if len(copies) % 2 else store, copy)
+        if said.returncode != 0:
+            raise Failed(f"a backup beside a server: status {said.returncode}: {said.stderr}")
+        busy += any(thread.is_alive() for thread in threads)
+        said = run(program, "check", copy)
+        counts = [int(line.split()[2]) for line in said.stdout.splitlines() if line.startswith("process ")]
+        if said.returncode != 0 or len(counts) != PROCESSES or any(has < told for has, told in zip(counts, answered)):
+            raise Failed(f"a backup beside a server: {counts} edits, {answered} were answered: {said.stderr}")
+        copies.append(copy)
+    enough.set()
+    for thread in threads:
+        thread.join()
+    stop(server)
+    for client in clients:
+        if client.wrong:
+            raise client.wrong
+    whole = lines_in(store)
+    for copy in copies:
+        lines = lines_in(copy)
+        if lines != whole[: len(lines)]:
+            raise Failed("a backup beside a server has lines that the store has not")
+    if busy == 0:
+        raise Failed("no backup was made while clients edited")
+    pass_rows(f"{backups} backups beside a server, {busy} under edits, {sum(len(client.told) for client in clients)} edits answered", backups)
+
+
 def check_files(program, folder, store):
     """Files that are none, may not be used, or are something else."""
     expect("no such file", run(program, "check", os.path.join(folder, "none.db")), 3, "none.db")
@@ -324,10 +478,6 @@ def check_files(program, folder, store):
     server, _port = start(program, store)
     expect("open in another server", run(program, "check", store), 3, "another program has it open")
     stop(server)
-    if os.getuid() != 0:
-        os.chmod(store, 0o444)
-        expect("read-only", run(program, "check", store), 3, "unable to open")
-        os.chmod(store, 0o644)
 
 
 def check_sums(program, folder, store, flips, draw):
@@ -335,8 +485,8 @@ def check_sums(program, folder, store, flips, draw):
     whole = run(program, "export", store).stdout
     changed = os.path.join(folder, "changed.db")
     for name, change, words in (
-        ("a line that was changed", "UPDATE journal SET line = line || '1' WHERE number = 3", "it has the sum of other lines"),
-        ("a sum that was changed", "UPDATE journal SET line = line || '1' WHERE number = (SELECT max(number) FROM journal)", "it has the sum of other lines"),
+        ("a line that was changed", "UPDATE journal SET line = line || '1' WHERE number = 3", "it has the sum of other lines than are before it"),
+        ("a sum that was changed", "UPDATE journal SET line = line || '1' WHERE number = (SELECT max(number) FROM journal)", "it has the sum of other lines than are before it"),
         ("a line after the last sum", "INSERT INTO journal (line) VALUES ('# a note')", "has no sum after it"),
     ):
         shutil.copy(store, changed)
@@ -360,6 +510,59 @@ def check_sums(program, folder, store, flips, draw):
         elif said.returncode != 0 or said.stdout != whole:
             raise Failed(f"a flipped bit: status {said.returncode}: {said.stderr}")
     pass_rows(f"{flips} flipped bits, {refused} refused, the others of what is not read", flips)
+
+
+def check_full_copy(program, folder, store):
+    """A disk with no room for a copy: it is told in one line, and no file is left."""
+    for limit in (0, 4096, 8192):
+        copy = os.path.join(folder, f"full copy {limit}.db")
+        said = run(program, "backup", store, copy, preexec_fn=lambda: limited(limit))
+        if said.returncode != 3 or said.stderr.count("\n") != 1:
+            raise Failed(f"a backup with room for {limit} bytes: status {said.returncode}: {said.stderr}")
+        if os.path.exists(copy) or os.path.exists(copy + "-wal"):
+            raise Failed(f"a backup with room for {limit} bytes has left a file")
+    pass_rows("3 backups with no room", 3)
+
+
+def check_read_only(program, folder, store):
+    """A store that may not be written is refused by what opens it for that, and can be copied. Root runs this as nobody."""
+    there, copies = os.path.join(folder, "read only"), os.path.join(folder, "copies")
+    os.mkdir(there)
+    os.mkdir(copies)
+    mine, more = os.path.join(there, "mine.db"), {}
+    shutil.copy(store, mine)
+    if os.getuid() == 0:
+        shutil.copy(program, os.path.join(there, "program"))
+        program, more = os.path.join(there, "program"), {"user": 65534}
+        os.chmod(program, 0o755)
+        os.chmod(folder, 0o755)
+        os.chown(copies, 65534, 65534)
+    os.chmod(mine, 0o444)
+    os.chmod(there, 0o555)
+    expect("check of a read-only store", run(program, "check", mine, **more), 3, "mine.db")
+    expect("backup of a read-only store", run(program, "backup", mine, os.path.join(copies, "copy.db"), **more), 0, "")
+    os.chmod(there, 0o755)
+    if lines_in(os.path.join(copies, "copy.db")) != lines_in(store):
+        raise Failed("the copy of a read-only store has other lines")
+
+
+def check_zeros(program, folder, store, most, draw):
+    """A page of zeros is refused in one line, where it is one that is read."""
+    whole = run(program, "export", store).stdout
+    pages = range(os.path.getsize(store) // 4096)
+    tried, refused = draw.sample(pages, min(most, len(pages))), 0
+    for page in tried:
+        zeros = os.path.join(folder, f"zeros {page}.db")
+        shutil.copy(store, zeros)
+        with open(zeros, "r+b") as it:
+            it.seek(4096 * page)
+            it.write(bytes(4096))
+        said = run(program, "export", zeros)
+        if said.returncode in (1, 3) and said.stdout == "" and said.stderr.count("\n") == 1:
+            refused += 1
+        elif said.returncode != 0 or said.stdout != whole:
+            raise Failed(f"zeros in page {page}: status {said.returncode}: {said.stderr}")
+    pass_rows(f"{len(tried)} pages of zeros, {refused} refused, the others of what is not read", len(tried))
 
 
 def check_full(program, folder):
@@ -449,9 +652,15 @@ def check_all(program, kills, cuts, many, draw):
         check_one_process(program, folder, many)
         check_commands(program, folder, store)
         check_files(program, folder, store)
+        check_until(program, folder, store)
+        check_backup(program, folder, store)
+        check_backup_beside(program, folder, max(5, cuts // 5), draw)
         check_full(program, folder)
         check_lost_file(program, folder)
         check_unit(program, folder)
+        check_full_copy(program, folder, store)
+        check_read_only(program, folder, store)
+        check_zeros(program, folder, store, cuts, draw)
         check_cuts(program, folder, store, cuts, draw)
         check_sums(program, folder, store, cuts, draw)
 

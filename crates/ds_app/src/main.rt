@@ -20,7 +20,8 @@ use ds_client_command::connect::connect;
 use ds_grid::form::GridForm;
 use ds_net_command::serve::{serve, serve_store};
 use ds_store::open::Databases;
-use ds_store_commands::stores::{check, compact, export, import};
+use ds_store_commands::backup::backup;
+use ds_store_commands::stores::{check, compact, export, export_until, import};
 use log::Log;
 use std::fs::{File, Files};
 use std::io::{self, IsTerminal};
@@ -105,8 +106,10 @@ fn dispatch<
         }
         Ok(Action::Check(path)) => check(rt, path),
         Ok(Action::Export(path)) => export(rt, path),
+        Ok(Action::ExportUntil(path, most)) => export_until(rt, path, most),
         Ok(Action::Import(path, notation)) => import(rt, path, notation),
         Ok(Action::Compact(path, new)) => compact(rt, path, new),
+        Ok(Action::Backup(path, copy)) => backup(rt, path, copy),
         Err(OptionsFault::CommandLine(error)) => explain(rt, &error),
         Err(OptionsFault::NoFile) => {
             let _reported = eprintln!(rt; "dsheet: no file");

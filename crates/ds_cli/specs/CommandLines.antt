@@ -1,5 +1,5 @@
 -- The command line of `dsheet`, and what its words ask for.
-use Rattle.std.specs.Prelude.{◌≡◌, ◌≢◌, ◌⊎◌, List, [], ◌∷◌, Option, Some, None, false, true, codes, pos}
+use Rattle.std.specs.Prelude.{◌≡◌, ◌≢◌, ◌≤◌, ◌⊎◌, List, [], ◌∷◌, Option, Some, None, false, true, codes, pos}
 use Rattle.clap.specs.Words.{App, app_of, Row, Rule, Text, HasKind, fault_of, first_of, kind_of, new_app, new_rule, one_of, subcommand_of, with_rule, with_subcommand}
 use Rattle.clap.specs.declared.error.kind.ErrorKind.TheVariants.{OutOfMemory}
 use Rattle.clap.specs.declared.builder.command.Command.{Command}
@@ -7,7 +7,7 @@ use Rattle.clap.specs.declared.builder.command.Command.TheViews.{out-Command as 
 use Rattle.clap.specs.declared.builder.action.ArgAction.TheVariants.{SetTrue}
 use Rattle.clap.specs.declared.builder.value_parser.ValueParser.TheVariants.{Signed}
 use Rattle.ds_cli.specs.declared.command_line.Action.{Action}
-use Rattle.ds_cli.specs.declared.command_line.Action.TheVariants.{Run, Stops, Report, Explore, Trace, Serve, Keep, Connect, Check, Export, Import, Compact}
+use Rattle.ds_cli.specs.declared.command_line.Action.TheVariants.{Run, Stops, Report, Explore, Trace, Serve, Keep, Connect, Check, Export, ExportUntil, Import, Compact, Backup}
 use Rattle.ds_cli.specs.declared.command_line.OptionsFault.{OptionsFault}
 use Rattle.ds_cli.specs.declared.command_line.OptionsFault.TheVariants.{CommandLine, NoCommand, NoFile, OutOfLimits}
 use Rattle.ds_cli.specs.Connectings.{IsConnecting, IsStopping}
@@ -15,7 +15,7 @@ use Rattle.ds_cli.specs.Notations.{IsNotation}
 use Rattle.ds_cli.specs.Explorings.{IsExploring}
 use Rattle.ds_cli.specs.Reportings.{IsReporting}
 use Rattle.ds_cli.specs.Runnings.{IsRunning}
-use Rattle.ds_cli.specs.Servings.{IsOutOfLimits, IsServing}
+use Rattle.ds_cli.specs.Servings.{IsNumberOf, IsOutOfLimits, IsServing}
 
 -- `clap`'s command is this one, with no global argument
 pub record IsCommand (app : App) (command : Command) : Type 0 where
@@ -101,6 +101,10 @@ connect_command = with_rule (with_rule (with_rule (new_app (codes "connect")) (f
 abbrev pub file_command : Text → App
 file_command name = with_rule (new_app name) (file (codes "file"))
 
+-- `dsheet export FILE [--until N]`
+abbrev pub export_command : App
+export_command = with_rule (file_command (codes "export")) (number_option (codes "until") (codes "0"))
+
 -- `dsheet import FILE [--a1]`
 abbrev pub import_command : App
 import_command = with_rule (file_command (codes "import")) (flag (codes "a1"))
@@ -109,10 +113,14 @@ import_command = with_rule (file_command (codes "import")) (flag (codes "a1"))
 abbrev pub compact_command : App
 compact_command = with_rule (file_command (codes "compact")) (file (codes "new"))
 
+-- `dsheet backup FILE COPY`
+abbrev pub backup_command : App
+backup_command = with_rule (file_command (codes "backup")) (file (codes "copy"))
+
 -- the program with the subcommands that work on a store
 abbrev pub with_stores : App → App
-with_stores app = with_subcommand (with_subcommand (with_subcommand (with_subcommand app (file_command (codes "check")).top)
-    (file_command (codes "export")).top) import_command.top) compact_command.top
+with_stores app = with_subcommand (with_subcommand (with_subcommand (with_subcommand (with_subcommand app (file_command (codes "check")).top)
+    export_command.top) import_command.top) compact_command.top) backup_command.top
 
 -- the program, which has a version and wants one of its subcommands
 abbrev pub dsheet_alone : App
@@ -144,9 +152,11 @@ Asks name rows (Serve serving) = (name ≡ codes "serve") × IsServing rows serv
 Asks name rows (Keep serving path) = (name ≡ codes "serve") × IsServing rows serving × Names rows (codes "store") path.now
 Asks name rows (Connect connecting notation) = (name ≡ codes "connect") × IsConnecting rows connecting × IsNotation rows notation
 Asks name rows (Check path) = (name ≡ codes "check") × Names rows (codes "file") path.now
-Asks name rows (Export path) = (name ≡ codes "export") × Names rows (codes "file") path.now
+Asks name rows (Export path) = (name ≡ codes "export") × Names rows (codes "file") path.now × IsNumberOf rows (codes "until") 0
+Asks name rows (ExportUntil path most) = (name ≡ codes "export") × Names rows (codes "file") path.now × IsNumberOf rows (codes "until") most × (1 ≤ most)
 Asks name rows (Import path notation) = (name ≡ codes "import") × Names rows (codes "file") path.now × IsNotation rows notation
 Asks name rows (Compact path new) = (name ≡ codes "compact") × Names rows (codes "file") path.now × Names rows (codes "new") new.now
+Asks name rows (Backup path copy) = (name ≡ codes "backup") × Names rows (codes "file") path.now × Names rows (codes "copy") copy.now
 
 -- the words of the command line ask for this, by the subcommand and the matches that `clap` reads from them
 abbrev pub IsAskedBy : List Text → Action → Type 0
@@ -154,11 +164,11 @@ IsAskedBy words action = (name : Text) × (rows : List Row) × (subcommand_of ds
 
 -- the subcommand of this name has options with limits
 abbrev pub HasLimits : Text → Type 0
-HasLimits name = ((name ≡ codes "serve") ⊎ (name ≡ codes "explore")) ⊎ ((name ≡ codes "connect") ⊎ (name ≡ codes "run"))
+HasLimits name = ((name ≡ codes "serve") ⊎ (name ≡ codes "explore")) ⊎ ((name ≡ codes "connect") ⊎ ((name ≡ codes "run") ⊎ (name ≡ codes "export")))
 
 -- the subcommands that want the file of a store
 abbrev pub WantsFile : Text → Type 0
-WantsFile name = ((name ≡ codes "check") ⊎ (name ≡ codes "export")) ⊎ ((name ≡ codes "import") ⊎ (name ≡ codes "compact"))
+WantsFile name = ((name ≡ codes "check") ⊎ (name ≡ codes "export")) ⊎ ((name ≡ codes "import") ⊎ ((name ≡ codes "compact") ⊎ (name ≡ codes "backup")))
 
 -- a subcommand of this name with these matches asks for nothing, for this fault: it is none of these, an argument is
 -- missing, or an option is out of its limits
@@ -166,16 +176,17 @@ abbrev pub AsksNothing : Text → List Row → OptionsFault → Type 0
 AsksNothing name rows (CommandLine error) = ⊥
 AsksNothing name rows NoCommand = (name ≢ codes "run") × (name ≢ codes "report") × (name ≢ codes "serve") × (name ≢ codes "explore") × (name ≢ codes "trace")
     × (name ≢ codes "connect") × (name ≢ codes "check")
-    × (name ≢ codes "export") × (name ≢ codes "import") × (name ≢ codes "compact")
-AsksNothing name rows NoFile = (WantsFile name × (first_of (codes "file") rows ≡ None)) ⊎ ((name ≡ codes "compact") × (first_of (codes "new") rows ≡ None))
+    × (name ≢ codes "export") × (name ≢ codes "import") × (name ≢ codes "compact") × (name ≢ codes "backup")
+AsksNothing name rows NoFile = (WantsFile name × (first_of (codes "file") rows ≡ None))
+    ⊎ (((name ≡ codes "compact") × (first_of (codes "new") rows ≡ None)) ⊎ ((name ≡ codes "backup") × (first_of (codes "copy") rows ≡ None)))
 AsksNothing name rows (OutOfLimits limit) = HasLimits name × IsOutOfLimits rows limit
 
 -- the same of a subcommand that none but those on a store can be
 abbrev pub AsksOfStore : Text → List Row → OptionsFault → Type 0
 AsksOfStore name rows (CommandLine error) = ⊥
-AsksOfStore name rows NoCommand = (name ≢ codes "check") × (name ≢ codes "export") × (name ≢ codes "import") × (name ≢ codes "compact")
+AsksOfStore name rows NoCommand = (name ≢ codes "check") × (name ≢ codes "export") × (name ≢ codes "import") × (name ≢ codes "compact") × (name ≢ codes "backup")
 AsksOfStore name rows NoFile = AsksNothing name rows NoFile
-AsksOfStore name rows (OutOfLimits limit) = ⊥
+AsksOfStore name rows (OutOfLimits limit) = (name ≡ codes "export") × IsOutOfLimits rows limit
 
 -- there is no subcommand, or it asks for nothing, for this fault
 abbrev pub NamesNothing : Option (Text × List Row) → OptionsFault → Type 0

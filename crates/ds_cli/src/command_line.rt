@@ -4,14 +4,14 @@ ghost use Rattle.std.specs.Prelude.{◌≡◌, ◌↔◌, IfErr, IfOk, IsTrue, N
 ghost use Rattle.std.specs.String.{string_bytes};
 ghost use Rattle.clap.specs.Words.{App, Rule, app_of, fault_of, new_app, first_of, found_of, one_of, rows_of, rule_of, with_rule, with_subcommand};
 ghost use Rattle.ds_cli.specs.declared.command_line.OptionsFault.TheVariants.{CommandLine, NoFile};
-ghost use Rattle.ds_cli.specs.CommandLines.{Asks, AsksNothing, AsksOfStore, IsAskedBy, IsCommand, IsRefusedFor, IsWanting, Names, compact_command as compact_app, connect_command as connect_app, dsheet, dsheet_alone, explore_command as explore_app, file as file_rule, input as input_rule, flag as flag_rule, file_command as file_app, import_command as import_app, listen as listen_rule, log_option as log_rule, number_option as number_rule, report_command as report_app, run_command as run_app, serve_command as serve_app, shared_command as shared_app, sheet_command as sheet_app, store as store_rule, trace_command as trace_app, with_stores};
+ghost use Rattle.ds_cli.specs.CommandLines.{Asks, AsksNothing, AsksOfStore, IsAskedBy, IsCommand, IsRefusedFor, IsWanting, Names, backup_command as backup_app, compact_command as compact_app, connect_command as connect_app, dsheet, dsheet_alone, explore_command as explore_app, export_command as export_app, file as file_rule, input as input_rule, flag as flag_rule, file_command as file_app, import_command as import_app, listen as listen_rule, log_option as log_rule, number_option as number_rule, report_command as report_app, run_command as run_app, serve_command as serve_app, shared_command as shared_app, sheet_command as sheet_app, store as store_rule, trace_command as trace_app, with_stores};
 
 use crate::connecting::{Connecting, Stopping, read_connecting, read_stopping};
 use crate::exploring::{Exploring, is_set, read_exploring};
 use crate::notations::notation_of;
 use crate::reporting::{Reporting, read_reporting};
 use crate::running::{Running, read_running};
-use crate::serving::{OutOfLimits, Serving, read_serving};
+use crate::serving::{OutOfLimits, Serving, number, read_serving};
 use clap::{Arg, ArgAction, ArgMatches, Command, Error, value_parser};
 use ds_a1::notation::Notation;
 use std::alloc::{AllocError, Global};
@@ -39,10 +39,15 @@ pub enum Action<'a> {
     Check(&'a str),
     /// `dsheet export FILE`: the lines of a store.
     Export(&'a str),
+    /// `dsheet export FILE --until N`: the first lines of a store, as far as they are sound, at most as many as this, from
+    /// 1 to 65,535.
+    ExportUntil(&'a str, usize),
     /// `dsheet import FILE`: a store of lines on standard input, with formulas in this notation.
     Import(&'a str, Notation),
     /// `dsheet compact FILE NEW`: a new store of the texts of an old one.
     Compact(&'a str, &'a str),
+    /// `dsheet backup FILE COPY`: a copy of a store.
+    Backup(&'a str, &'a str),
 }
 
 /// Why the words ask for nothing.
@@ -257,9 +262,14 @@ const EXPORT_ABOUT: &str =
     "Writes the lines of a store to standard output: a script, which run reads";
 
 const EXPORT_HELP: &str = "\
+Of a store that is damaged nothing is written, but with --until what can be saved: the lines before the one that check
+names. Standard error says from which line on they are left out. Lines are counted as in the store, with those of sums,
+which are not written. Where a sum is wrong, one of the lines since the sum before it was changed.
+
 Example:
   dsheet export sheet.db > sheet.script
   dsheet run < sheet.script
+  dsheet export damaged.db --until 65535 | dsheet import saved.db
 
 Exit status: as of check; 3 also where standard output can not be written.";
 
@@ -287,6 +297,17 @@ Example:
   dsheet compact sheet.db next.db
 
 Exit status: as of check.";
+
+const BACKUP_ABOUT: &str = "Makes a copy of a store, also while a server has it open";
+
+const BACKUP_HELP: &str = "\
+The copy has the lines that were committed at one moment: each edit that was answered done before the command began is
+there. The files of the store are read alone. There must be no file of the copy's name; where the copy fails, none stays.
+
+Example:
+  dsheet backup sheet.db copy.db
+
+Exit status: as of check; 1 also where there is a file already.";
 
 const HELP: &str = "\
 Examples:
@@ -523,6 +544,25 @@ fn compact_command<'a>(alloc: Global) -> Result<Command<'a>, AllocError>
     with_argument(command, new)
 }
 
+// `dsheet backup`.
+fn backup_command<'a>(alloc: Global) -> Result<Command<'a>, AllocError>
+    ensures { IfOk result (IsCommand backup_app) }
+{
+    let command = file_command(alloc, "backup", BACKUP_ABOUT, BACKUP_HELP);
+    let copy = file_argument(alloc, "copy", "COPY", "The file of the copy");
+    with_argument(command, copy)
+}
+
+// `dsheet export`.
+fn export_command<'a>(alloc: Global) -> Result<Command<'a>, AllocError>
+    ensures { IfOk result (IsCommand export_app) }
+{
+    let command = file_command(alloc, "export", EXPORT_ABOUT, EXPORT_HELP);
+    let until_help =
+        "The lines before the first that is wrong, N at most; 0: all, or none where one is wrong";
+    with_argument(command, number_option(alloc, "until", "0", until_help))
+}
+
 // `dsheet import`.
 fn import_command<'a>(alloc: Global) -> Result<Command<'a>, AllocError>
     ensures { IfOk result (IsCommand import_app) }
@@ -540,10 +580,10 @@ fn with_stores<'a>(
 {
     let check = file_command(alloc, "check", CHECK_ABOUT, CHECK_HELP);
     let one = with_command(command, check);
-    let export = file_command(alloc, "export", EXPORT_ABOUT, EXPORT_HELP);
-    let two = with_command(one, export);
+    let two = with_command(one, export_command(alloc));
     let three = with_command(two, import_command(alloc));
-    with_command(three, compact_command(alloc))
+    let four = with_command(three, compact_command(alloc));
+    with_command(four, backup_command(alloc))
 }
 
 // `dsheet serve` with its sheet.
@@ -704,6 +744,19 @@ fn explored<'a>(found: &ArgMatches<'a>) -> Result<Action<'a>, OptionsFault>
     }
 }
 
+// What the arguments of `dsheet export` ask for.
+fn exported<'a>(found: &ArgMatches<'a>) -> Result<Action<'a>, OptionsFault>
+    ensures action { IfOk result (Asks (codes "export") (rows_of (found_of found.now))) }
+    ensures fault { IfErr result (AsksOfStore (codes "export") (rows_of (found_of found.now))) }
+{
+    let path = value_of(found, "file")?;
+    match number(found, "until") {
+        Some(0) => Ok(Action::Export(path)),
+        Some(most) => Ok(Action::ExportUntil(path, most)),
+        None => Err(OptionsFault::OutOfLimits(OutOfLimits::Until)),
+    }
+}
+
 // What a subcommand on a store asks for.
 fn asked_of_store<'a>(name: &str, found: &ArgMatches<'a>) -> Result<Action<'a>, OptionsFault>
     ensures action { IfOk result (Asks name.now (rows_of (found_of found.now))) }
@@ -711,9 +764,10 @@ fn asked_of_store<'a>(name: &str, found: &ArgMatches<'a>) -> Result<Action<'a>, 
 {
     match name {
         "check" => Ok(Action::Check(value_of(found, "file")?)),
-        "export" => Ok(Action::Export(value_of(found, "file")?)),
+        "export" => exported(found),
         "import" => Ok(Action::Import(value_of(found, "file")?, notation_of(found))),
         "compact" => Ok(Action::Compact(value_of(found, "file")?, value_of(found, "new")?)),
+        "backup" => Ok(Action::Backup(value_of(found, "file")?, value_of(found, "copy")?)),
         _ => Err(OptionsFault::NoCommand),
     }
 }

@@ -77,6 +77,9 @@ pub enum OutOfLimits {
     /// The last step after which a script is crashed is none.
     #[error("--to: from 0 to 65535; 0: to the end")]
     To,
+    /// The number of lines that are exported at most is none.
+    #[error("--until: from 0 to 65535; 0: all lines")]
+    Until,
 }
 
 // The number of 16 bits that these digits are; none where they are none, as where a sign stands before them.

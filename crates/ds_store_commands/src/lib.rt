@@ -1,5 +1,6 @@
-//! `dsheet check`, `export`, `import` and `compact`: commands on the file of a store.
+//! `dsheet check`, `export`, `import`, `compact` and `backup`: commands on the file of a store.
 #![tactic(auto)]
 
+pub mod backup;
 pub mod status;
 pub mod stores;

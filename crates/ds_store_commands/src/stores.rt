@@ -10,6 +10,7 @@ use ds_script_io::streams::Reading;
 use ds_store::compact;
 use ds_store::fault::StoreFault;
 use ds_store::open::Databases;
+use ds_store::sound::{SoundLines, first_sound};
 use ds_store::store::{Opened, Store, is_bare};
 use ds_store::summing::with_sum;
 use ds_store_journal::standing::Standing;
@@ -30,23 +31,35 @@ pub fn tell_fault(rt: &impl Eprint, path: &str, fault: &StoreFault) -> u8 {
     store_status(fault)
 }
 
-// Reports on standard error what is wrong with the file at this path, and gives the status.
-fn tell_error(rt: &impl Eprint, path: &str, error: &io::Error) -> u8 {
+/// Reports on standard error what is wrong with the file at this path, and gives the status.
+pub(crate) fn tell_error(rt: &impl Eprint, path: &str, error: &io::Error) -> u8 {
     let _reported = eprintln!(rt; "dsheet: {path}: {error}");
     STREAM_FAILED
 }
 
-// Opens the store at this path, which is to be there. An error is the status, when standard error has the reason.
+// Opens the database of the store at this path, which is to be there. An error is the status, when standard error has the
+// reason.
+fn open_database<R: AllocGlobal + Eprint + Files<File = File> + Databases>(
+    rt: &R,
+    path: &str,
+) -> Result<Connection<Disk>, u8> {
+    if let Err(error) = fs::open(rt, path) {
+        return Err(tell_error(rt, path, &error));
+    }
+    match rt.open_database(path) {
+        Ok(conn) => Ok(conn),
+        Err(fault) => Err(tell_fault(rt, path, &fault)),
+    }
+}
+
+// Opens the store at this path, which is to be there. An error is as before.
 fn open_there<R: AllocGlobal + Eprint + Files<File = File> + Databases>(
     rt: &R,
     path: &str,
 ) -> Result<Opened<Disk>, u8> {
-    if let Err(error) = fs::open(rt, path) {
-        return Err(tell_error(rt, path, &error));
-    }
-    let conn = match rt.open_database(path) {
+    let conn = match open_database(rt, path) {
         Ok(conn) => conn,
-        Err(fault) => return Err(tell_fault(rt, path, &fault)),
+        Err(status) => return Err(status),
     };
     match Store::open(rt.alloc(), conn) {
         Ok(opened) => Ok(opened),
@@ -54,8 +67,9 @@ fn open_there<R: AllocGlobal + Eprint + Files<File = File> + Databases>(
     }
 }
 
-// Opens a database at this path that has nothing, and is made where there is none. An error is as before.
-fn open_new<R: AllocGlobal + Eprint + Databases>(
+/// Opens a database at this path that has nothing, and is made where there is none. An error is the status, when standard
+/// error has the reason.
+pub(crate) fn open_new<R: AllocGlobal + Eprint + Databases>(
     rt: &R,
     path: &str,
 ) -> Result<Connection<Disk>, u8> {
@@ -171,6 +185,46 @@ pub fn export<R: AllocGlobal + Print + Eprint + Files<File = File> + Databases>(
     let status = written(rt, write_lines(&mut out, &lines));
     if status == 0 {
         close(rt, path, store)
+    } else {
+        status
+    }
+}
+
+// Reports on standard error which lines were left out, and what is wrong, if anything is; and gives the status.
+fn tell_left_out<R: Eprint>(rt: &R, path: &str, sound: &SoundLines) -> u8 {
+    let given = sound.lines.len();
+    let next = given.saturating_add(1);
+    if let Some(fault) = sound.fault {
+        let _reported = eprintln!(rt; "dsheet: {path}: {fault}; lines from {next} on are left out");
+        return store_status(&fault);
+    }
+    if given < sound.count {
+        let _reported = eprintln!(rt; "dsheet: {path}: lines from {next} on are left out");
+    }
+    0
+}
+
+/// `dsheet export FILE --until N`: the same of a store that may be damaged: the lines before the first one that is not
+/// sound, N at most. Standard error says which are left out. The status is that of the store, as of `check`.
+pub fn export_until<R: AllocGlobal + Print + Eprint + Files<File = File> + Databases>(
+    rt: &R,
+    path: &str,
+    most: usize,
+) -> u8 {
+    let mut conn = match open_database(rt, path) {
+        Ok(conn) => conn,
+        Err(status) => return status,
+    };
+    let sound = match first_sound(rt.alloc(), &mut conn, most) {
+        Ok(sound) => sound,
+        Err(fault) => return tell_fault(rt, path, &fault),
+    };
+    let Ok(mut out) = BufWriter::new(rt.alloc(), io::writer(rt)) else {
+        return tell_fault(rt, path, &StoreFault::NoMemory);
+    };
+    let status = written(rt, write_lines(&mut out, &sound.lines));
+    if status == 0 {
+        tell_left_out(rt, path, &sound)
     } else {
         status
     }
