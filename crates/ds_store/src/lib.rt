@@ -5,6 +5,7 @@ pub mod backup;
 pub mod committed;
 pub mod compact;
 pub mod fault;
+pub mod laws;
 pub mod open;
 pub mod renewal;
 mod replay;
