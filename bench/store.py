@@ -1,6 +1,6 @@
 #!/usr/bin/env python3
-"""Prints how many edits a second a server makes with and without a store, by the number of clients, and how long a store
-with all its edits takes to open.
+"""Prints how many edits a second a server makes with and without a store, by the number of clients, how long a store
+with all its edits takes to open, and how long an edit waits while the server goes over to a new sheet.
 
 store.py PROGRAM CLIENTS RUNS     the program, the built clients.cpp, and how many runs of each, which take turns
 """
@@ -13,6 +13,9 @@ import tempfile
 import time
 
 EDITS = 256
+# The cells of the sheet, how many edits come once all have texts, and how many of them a new sheet has room for at least:
+# with 128 texts set by each process, until one has made 240.
+CELLS, MORE, ROOM = 1024, 2240, 112
 CLIENTS = (1, 2, 4, 8)
 SHAPE = ["--columns", "16", "--rows", "64", "--processes", "8"]
 
@@ -46,6 +49,24 @@ def seconds_to_open(program, store):
     return seconds
 
 
+def edit_times(program, store):
+    """How long each edit of one process takes, in a sheet whose cells all have texts, in seconds."""
+    server, port = serve(program, 1, store)
+    times = []
+    with socket.create_connection(("127.0.0.1", port)) as link:
+        stream = link.makefile("rw")
+        for number in range(-1, CELLS + MORE):
+            cell = f"{chr(65 + number % 16)}{number // 16 % 64 + 1}"
+            call = f'{{"op":"set","cell":"{cell}","text":"{number}"}}' if number >= 0 else '{"op":"join","process":0}'
+            start = time.perf_counter()
+            stream.write(f"{call}\n")
+            stream.flush()
+            stream.readline()
+            times.append(time.perf_counter() - start)
+    server.communicate(timeout=60)
+    return times[1 + CELLS:]
+
+
 def main():
     program, clients_program, runs = sys.argv[1], sys.argv[2], int(sys.argv[3])
     rates = {(clients, kept): [] for clients in CLIENTS for kept in (False, True)}
@@ -62,6 +83,11 @@ def main():
     for clients in CLIENTS:
         alone, kept = (statistics.median(rates[clients, it]) for it in (False, True))
         print(f"| {clients} | {alone:,.0f} | {kept:,.0f} | {kept / one:.1f} |")
+    with tempfile.TemporaryDirectory() as folder:
+        times = sorted(edit_times(program, os.path.join(folder, "full.db")))
+    changes = times[-(MORE // ROOM):]
+    print(f"\nAn edit that waits until the server has gone over to a new sheet with {CELLS:,} texts takes "
+          f"{statistics.median(changes) * 1000:.0f} ms, another one {statistics.median(times) * 1000:.1f} ms.")
     print(f"\nA store of {8 * EDITS:,} edits is open {statistics.median(opened) * 1000:.0f} ms behind the start of its server.")
 
 
