@@ -141,15 +141,56 @@ shows '1,2\n3\n' 'bad csv\nrecord 2 has 1 fields, the first one 2\n' report
 "$program" run --stops <examples/stops | sed -n '/^stop 19$/,/^stop 21$/p' | grep -v '^stop 21$' | cmp - "$said"
 passed "run --stops --from 19 --to 20"
 
-# What is said of a text, beside its fault.
+# What is said of a text, beside its fault: what could stand there, or what is near.
+known='known are SUM, MIN, MAX, COUNT, AND, OR, NOT, ABS, MOD, QUOTIENT and IF'
+notes() {
+    local text=$1 fault=$2 mark=$3 note=$4 words=${5:-run}
+    shows "set 0 A1 $text"'\n' "line 1: $fault"'\n'"    set 0 A1 $text"'\n'"             $mark $note"'\n' "$words"
+}
+notes '=AVERAGE(1)' 'UnknownFunction 1' ' ^' "AVERAGE is unknown: a mean is the QUOTIENT of a SUM and a COUNT; $known"
+notes '=sun(1)' 'UnknownFunction 1' ' ^' "sun is unknown: SUM is near; $known"
+notes '=QUOTEINT(4;2)' 'UnknownFunction 1' ' ^' "QUOTEINT is unknown: QUOTIENT is near; $known"
+notes '=IFS(1;2)' 'UnknownFunction 1' ' ^' "IFS is unknown: IF is near; $known"
+notes '=FOO(1)' 'UnknownFunction 1' ' ^' "FOO is unknown; $known"
+notes '=TRUE' 'UnknownFunction 1' ' ^' "TRUE is unknown: it is 1; $known"
+notes '=1/2' 'BadToken 2' '  ^' 'no / here: QUOTIENT(1;2), or MOD(1;2) for the remainder'
+notes '=1/2' 'BadToken 2' '  ^' 'no / here: QUOTIENT(1,2), or MOD(1,2) for the remainder' 'run --a1'
+notes '=SUM(1,2)' 'BadToken 6' '      ^' '; parts arguments; --a1 reads commas'
+notes '=SUM(1' 'Unfinished 6' '      ^' ') is missing'
+notes '=1+' 'Unfinished 3' '   ^' 'a number, a reference, a function or ( could stand here'
+notes '=(1 2)' 'BadToken 4' '    ^' 'an operator, ; or ) could stand here'
+notes '=SUM(A1:B2 1)' 'BadToken 15' '           ^' 'an operator, , or ) could stand here' 'run --a1'
+notes '=1)' 'BadToken 2' '  ^' 'an operator or the end could stand here'
+notes '=SUM 1' 'BadToken 5' '     ^' "( stands after a function's name"
+notes '=[A1]' 'BadToken 2' '  ^' 'a reference is written [.A1], a range [.A1:.B3]'
+notes '=[.A1' 'Unfinished 5' '     ^' 'a reference is written [.A1], a range [.A1:.B3]'
+notes '=1!=2' 'BadToken 2' '  ^' 'not equal is written <>'
+notes '=1==2' 'BadToken 3' '   ^' 'equal is written ='
+notes '=2^3' 'BadToken 2' '  ^' 'operators are + - * = <> < > <= and >='
+notes '="a"' 'BadToken 1' ' ^' 'formulas have no texts'
+notes '=1.5' 'NotWhole 2' '  ^' 'numbers are whole'
+notes '1,000' 'BadToken 1' ' ^' 'a number has nothing but digits after its sign'
+notes 'Rent' 'BadToken 0' '^' 'no number; a formula begins with ='
+notes '9223372036854775808' 'NumberTooLarge 0' '^' 'numbers are from -9223372036854775808 to 9223372036854775807'
+notes '=MOD(1)' 'WrongArguments 1' ' ^' 'MOD takes two arguments'
+notes '=A1+IF(A2)' 'WrongArguments 7' '    ^' 'IF takes two or three arguments' 'run --a1'
+notes '=[.C1]' 'OutsideSheet 1' ' ^' 'the sheet has no such cell'
+notes '=1+[.A1:.A2]' 'RangeNotAllowed 3' '   ^' 'a range is a whole argument of SUM, MIN, MAX, COUNT, AND or OR'
+notes '=----------------1' 'TooDeep 0' '^' 'a formula has at most 64 nodes and depth 16'
+notes '=1/2' 'BadToken 2' '  ^' 'no / here: QUOTIENT(1;2), or MOD(1;2) for the remainder' 'run --stops'
+
+# Each text that is refused is shown, and none of a call that is refused for something else.
+shows 'begin 0 set A1 1\nset 0 A1 =1.5\nset 1 A1 =1/2\nbegin 1 set B1 2.5\nrun 0\n' 'line 3: BadToken 2\n    set 1 A1 =1/2\n               ^ no / here: QUOTIENT(1;2), or MOD(1;2) for the remainder\nline 4: NotWhole 1\n    begin 1 set B1 2.5\n                    ^ numbers are whole\n'
+shows 'set 0 A1 x\nfly\nset 0 A1 y\n' 'line 2: unknown command\n    fly\n    ^ expected: a command, as set, work, report or crash\nline 1: BadToken 0\n    set 0 A1 x\n             ^ no number; a formula begins with =\n'
+
 shows 'set 0 A1 =[.B1]+B2*A1\n' 'line 1: UnknownFunction 7\n    set 0 A1 =[.B1]+B2*A1\n                    ^ references are written [.A1]; --a1 reads A1\n'
 shows 'set 0 A1 1\nset 0 A1 =B1+[.B2]\n' 'line 2: BadToken 4\n    set 0 A1 =B1+[.B2]\n                 ^ with --a1 references are written A1\n' 'run --a1'
 shows '1,=A1\n' 'cell B1: UnknownFunction 1\n  line 1, column 3\n    =A1\n     ^ references are written [.A1]; --a1 reads A1\n' report
-shows '1,=A1*FOO(1)\n' 'cell B1: UnknownFunction 7\n  line 1, column 3\n    =[.A1]*FOO(1)\n           ^ in the text as it is read\n' 'report --a1'
+shows '1,=A1*FOO(1)\n' 'cell B1: UnknownFunction 7\n  line 1, column 3\n    =A1*FOO(1)\n        ^ FOO is unknown; '"$known"'\n' 'report --a1'
 
 # All fields that are refused are told, each with its place in the file.
-shows '\n"Rent\n(flat)",7.5\n\r\n"a""b",\n' 'cell A1: BadToken 0\n  line 2, column 1\n    Rent?(flat)\n    ^\ncell B1: NotWhole 1\n  line 3, column 9\n    7.5\n     ^\ncell A2: BadToken 0\n  line 5, column 1\n    a"b\n    ^\n3 fields are refused\nno number and no formula: 2; with --labels they pass through\n' report
-shows 'Rent,7.5\n' 'cell B1: NotWhole 1\n  line 1, column 6\n    7.5\n     ^\n' 'report --labels'
+shows '\n"Rent\n(flat)",7.5\n\r\n"a""b",\n' 'cell A1: BadToken 0\n  line 2, column 1\n    Rent?(flat)\n    ^ no number; a formula begins with =\ncell B1: NotWhole 1\n  line 3, column 9\n    7.5\n     ^ numbers are whole\ncell A2: BadToken 0\n  line 5, column 1\n    a"b\n    ^ no number; a formula begins with =\n3 fields are refused\nno number and no formula: 2; with --labels they pass through\n' report
+shows 'Rent,7.5\n' 'cell B1: NotWhole 1\n  line 1, column 6\n    7.5\n     ^ numbers are whole\n' 'report --labels'
 
 # A store of lines in A1 notation is that of the lines in OpenFormula.
 printf 'sheet 2 2 1\nset 0 A1 =SUM($B$1:B2,1)\n# =A1\nset 0 B1 7\n' >"$room/lines"

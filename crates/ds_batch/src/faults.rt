@@ -1,10 +1,13 @@
 //! What is reported of a line with a fault.
 
+use ds_a1::notation::Notation;
 use ds_a1_script::lines::Commands;
 use ds_formula::fault::TextFault;
 use ds_sched::ScriptFault;
 use ds_script_hints::excerpt::excerpt_of;
-use ds_script_hints::texts::refused_excerpt;
+use ds_script_hints::hint::layout_of;
+use ds_script_hints::texts::{refused_excerpt, refused_text, refused_with};
+use ds_script_io::line::{NextLine, next_line};
 
 /// Shows on standard error the line of a script that has ended it, with what was expected in it.
 pub fn show_line(rt: &impl Eprint, script: &[u8], line: usize, fault: ScriptFault) {
@@ -15,15 +18,60 @@ pub fn show_line(rt: &impl Eprint, script: &[u8], line: usize, fault: ScriptFaul
 
 /// Reports on standard error a line of these commands in A1 notation, of this number, whose text is refused, with what is
 /// wrong in it.
-pub fn show_refused(
-    rt: &impl Eprint,
+pub fn show_refused<R: AllocGlobal + Eprint>(
+    rt: &R,
     commands: Commands,
     number: u64,
     line: &[u8],
     fault: TextFault,
 ) {
-    let _reported = match refused_excerpt(commands, line, fault) {
+    let excerpt = refused_excerpt(rt.alloc(), Notation::A1, commands, line, fault);
+    let _reported = match excerpt {
         Some(excerpt) => eprintln!(rt; "line {number}: {fault}\n{excerpt}"),
         None => eprintln!(rt; "line {number}: {fault}"),
     };
+}
+
+/// Reports on standard error the lines of a script in this notation whose texts its answers refuse with these faults, in
+/// their order, with what is wrong in each.
+pub fn show_answered<R: AllocGlobal + Eprint>(
+    rt: &R,
+    notation: Notation,
+    script: &[u8],
+    faults: &[TextFault],
+) {
+    let shape = layout_of(script).shape;
+    let (mut rest, mut left) = (script, faults);
+    for number in 1..=script.len() {
+        let (NextLine::Line(line, behind), [fault, others @ ..]) = (next_line(rest, true), left)
+        else {
+            return;
+        };
+        if let Some(excerpt) = refused_with(rt.alloc(), notation, &shape, line, *fault) {
+            let _reported = eprintln!(rt; "line {number}: {fault}\n{excerpt}");
+            left = others;
+        }
+        rest = behind;
+    }
+}
+
+/// Reports on standard error each of the first lines of a script in this notation, of as many as this, whose text is
+/// refused on the sheet that it makes, with what is wrong in it.
+pub fn show_refusals<R: AllocGlobal + Eprint>(
+    rt: &R,
+    notation: Notation,
+    script: &[u8],
+    lines: usize,
+) {
+    let shape = layout_of(script).shape;
+    let mut rest = script;
+    for number in 1..=script.len().min(lines) {
+        let NextLine::Line(line, left) = next_line(rest, true) else {
+            return;
+        };
+        if let Some((fault, excerpt)) = refused_text(rt.alloc(), notation, &shape, line) {
+            let _reported = eprintln!(rt; "line {number}: {fault}\n{excerpt}");
+        }
+        rest = left;
+    }
 }

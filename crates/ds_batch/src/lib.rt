@@ -7,6 +7,7 @@ pub mod faults;
 mod fields;
 pub mod lines;
 mod progress;
+mod refusals;
 pub mod report;
 pub mod run;
 pub mod source;

@@ -8,7 +8,7 @@ use ds_a1_script::lines::Commands;
 use ds_a1_script::opening::open_line;
 use ds_formula::fault::FaultKind;
 use ds_script_hints::hint::layout_of;
-use ds_script_hints::texts::bare_line;
+use ds_script_hints::texts::refused_text;
 
 /// A line of these commands, of this number, whose text is in this notation, with its text in OpenFormula. An error is the
 /// status, 1 where the text is refused, and then standard error has the reason.
@@ -59,15 +59,20 @@ pub fn opened_lines<R: AllocGlobal + Eprint>(
     Ok(opened)
 }
 
-/// Shows on standard error the first of these lines, of which the first makes the sheet, whose text is refused where a
-/// reference has no brackets, and says how it is written.
+/// Shows on standard error the first of these lines in OpenFormula, of which the first makes the sheet, whose text is
+/// refused, with what is wrong in it.
 pub fn show_bare<R: AllocGlobal + Eprint>(rt: &R, lines: &[String]) {
     let Some(first) = lines.first() else {
         return;
     };
     let shape = layout_of(first.as_bytes()).shape;
     for line in lines {
-        if let Some((_, excerpt)) = bare_line(rt.alloc(), &shape, line.as_bytes()) {
+        if let Some((_, excerpt)) = refused_text(
+            rt.alloc(),
+            Notation::OpenFormula,
+            &shape,
+            line.as_bytes(),
+        ) {
             let _reported = eprintln!(rt; "{excerpt}");
             return;
         }

@@ -5,16 +5,14 @@ use crate::fields::field_places;
 use crate::run::no_memory;
 use crate::source::{Source, open};
 use crate::status::grid_status;
-use ds_a1::notation::Notation;
-use ds_a1::texts::{read_text, to_open};
-use ds_formula::cells::Cell;
-use ds_formula::fault::{FaultKind, TextFault};
+use ds_a1::texts::read_text;
+use ds_formula::fault::FaultKind;
 use ds_grid::ending::{GridEnd, GridFault};
 use ds_grid::form::{GridForm, is_label};
 use ds_grid::grid::{records, shape_of};
 use ds_grid::report::report_grid;
 use ds_sched::{Reading, Writing};
-use ds_script_hints::texts::{excerpt_of_text, opened_excerpt, plain_excerpt};
+use ds_script_hints::texts::excerpt_of_text;
 use std::alloc::{AllocError, Global};
 use std::fs::{File, Files};
 use std::io::{self, BufWriter, Read};
@@ -38,17 +36,6 @@ fn odd_record(alloc: Global, grid: &[u8]) -> Option<OddRecord> {
         fields: records.get(place)?.len(),
         first,
     })
-}
-
-// Shows on standard error the text of a cell that is refused.
-fn show_text<R: AllocGlobal + Eprint>(rt: &R, notation: Notation, text: &[u8], fault: TextFault) {
-    let _reported = if let Some(excerpt) = excerpt_of_text(notation, text, text, fault) {
-        eprintln!(rt; "{excerpt}")
-    } else if let (Notation::A1, Ok(open)) = (notation, to_open(rt.alloc(), text)) {
-        eprintln!(rt; "{}", opened_excerpt(&open, fault))
-    } else {
-        eprintln!(rt; "{}", plain_excerpt(text, fault))
-    };
 }
 
 // The fields of a grid that are refused.
@@ -85,7 +72,8 @@ fn print_refused<R: AllocGlobal + Eprint>(
                 if let Some(place) = places.get(index) {
                     let _reported = eprintln!(rt; "  {place}");
                 }
-                show_text(rt, form.notation, field, fault);
+                let excerpt = excerpt_of_text(rt.alloc(), form.notation, field, field, fault);
+                let _reported = eprintln!(rt; "{excerpt}");
                 refused.all = refused.all.saturating_add(1);
                 refused.labels = refused.labels.saturating_add(is_label(field) as usize);
             }
@@ -102,7 +90,8 @@ fn print_count(rt: &impl Eprint, refused: Refused) {
     }
     if refused.labels > 0 {
         let _reported = eprintln!(rt;
-            "no number and no formula: {}; with --labels they pass through", refused.labels
+            "no number and no formula: {}; with --labels they pass through",
+            refused.labels
         );
     }
 }

@@ -3,16 +3,16 @@
 ghost use Rattle.std.specs.Prelude.{◌≡◌, ◌≢◌, None, Some};
 
 use crate::copying::Copying;
-use crate::faults::{show_line, show_refused};
+use crate::faults::{show_answered, show_line, show_refusals, show_refused};
 use crate::progress::Progress;
+use crate::refusals::{Refusals, Watching};
 use crate::source::{Source, open};
 use crate::status::{NO_MEMORY, REFUSED, script_status};
 use ds_a1::notation::Notation;
 use ds_a1_script::lines::Commands;
-use ds_a1_script::script::{OpenScript, open_script};
+use ds_a1_script::script::{OpenScript, RefusedLine, open_script};
 use ds_sched::{Reading, ScriptEnd, StopRange, Writing, run_script, stop_in_range};
 use ds_script_hints::hint::line_at;
-use ds_script_hints::texts::first_bare;
 use ds_script_io::input::{InputEnd, read_input};
 use ds_script_io::line::INPUT_LIMIT;
 use std::fs::{File, Files};
@@ -38,18 +38,6 @@ pub fn no_memory(rt: &impl Eprint) -> u8
 {
     let _reported = eprintln!(rt; "dsheet: out of memory");
     NO_MEMORY
-}
-
-// Says of the first line of a script that was carried out and whose text was refused where a reference has no brackets how
-// it is written.
-fn print_bare<R: AllocGlobal + Eprint>(rt: &R, end: &ScriptEnd, script: &[u8]) {
-    let lines = match end {
-        ScriptEnd::Fault { line, kind: _ } => line.saturating_sub(1),
-        _ => usize::MAX,
-    };
-    if let Some(bare) = first_bare(rt.alloc(), script, lines) {
-        let _reported = eprintln!(rt; "line {}: {}\n{}", bare.number, bare.fault, bare.excerpt);
-    }
 }
 
 // A script from a reader. An error is the status.
@@ -103,29 +91,49 @@ impl ReadScript {
         }
     }
 
-    // Reports how a run of the script ended, and gives the status. Where it ended well before a line whose text is refused
-    // as one in A1 notation, that line is reported.
-    fn conclude<R: AllocGlobal + Eprint>(&self, rt: &R, end: &ScriptEnd) -> u8 {
-        match (end, &self.open) {
-            (
-                ScriptEnd::Ended,
-                Some(
-                    OpenScript {
-                        refused: Some(refused),
-                        ..
-                    },
-                ),
-            ) => {
-                let line = line_at(&self.script, refused.line).unwrap_or(&[]);
-                let number = refused.line as u64;
-                show_refused(rt, Commands::OfScript, number, line, refused.fault);
-                REFUSED
-            }
-            _ => {
-                print_end(rt, end, &self.script);
-                script_status(end)
-            }
+    // The notation that it was in.
+    fn notation(&self) -> Notation {
+        match &self.open {
+            Some(_) => Notation::A1,
+            None => Notation::OpenFormula,
         }
+    }
+
+    // The line whose text was refused as one in A1 notation, where the script ended well before it.
+    fn refused(&self, end: &ScriptEnd) -> Option<RefusedLine> {
+        match (end, &self.open) {
+            (ScriptEnd::Ended, Some(open)) => open.refused,
+            _ => None,
+        }
+    }
+
+    // The lines that were carried out.
+    fn lines(&self, end: &ScriptEnd) -> usize {
+        match end {
+            ScriptEnd::Ended => match self.refused(end) {
+                Some(refused) => refused.line.saturating_sub(1),
+                None => usize::MAX,
+            },
+            ScriptEnd::Fault { line, kind: _ } => line.saturating_sub(1),
+            _ => 0,
+        }
+    }
+
+    // Reports how a run of the script ended, and gives the status.
+    fn conclude<R: AllocGlobal + Eprint>(&self, rt: &R, end: &ScriptEnd) -> u8 {
+        let Some(refused) = self.refused(end) else {
+            print_end(rt, end, &self.script);
+            return script_status(end);
+        };
+        let line = line_at(&self.script, refused.line).unwrap_or(&[]);
+        show_refused(
+            rt,
+            Commands::OfScript,
+            refused.line as u64,
+            line,
+            refused.fault,
+        );
+        REFUSED
     }
 }
 
@@ -138,10 +146,15 @@ fn run_a1<R: AllocGlobal + Print + Eprint, I: Read + Drop>(rt: &R, input: I) -> 
         Ok(script) => script,
         Err(status) => return status,
     };
-    let mut reader = Reading::new(script.text());
-    let mut writer = Writing::new(buffered);
-    let end = run_script(rt.alloc(), &mut reader, &mut writer);
-    script.conclude(rt, &end)
+    let mut refusals = Refusals::new(rt.alloc());
+    let end = {
+        let mut reader = Reading::new(script.text());
+        let mut writer = Writing::new(Watching::new(buffered, &mut refusals));
+        run_script(rt.alloc(), &mut reader, &mut writer)
+    };
+    let status = script.conclude(rt, &end);
+    show_answered(rt, Notation::A1, &script.script, refusals.faults());
+    status
 }
 
 // A script in OpenFormula from a reader, as `run`.
@@ -150,16 +163,18 @@ fn run_open<R: AllocGlobal + Print + Eprint, I: Read + Drop>(rt: &R, input: I) -
         return no_memory(rt);
     };
     let mut script = Vec::new(rt.alloc());
+    let mut refusals = Refusals::new(rt.alloc());
     let end = {
         let mut reader = Reading::new(Copying::new(input, &mut script));
-        let mut writer = Writing::new(buffered);
+        let mut writer = Writing::new(Watching::new(buffered, &mut refusals));
         run_script(rt.alloc(), &mut reader, &mut writer)
     };
     print_end(rt, &end, &script);
-    print_bare(rt, &end, &script);
+    show_answered(rt, Notation::OpenFormula, &script, refusals.faults());
     script_status(&end)
 }
 
+// A script from a reader, as `run`.
 fn run_from<R: AllocGlobal + Print + Eprint, I: Read + Drop>(
     rt: &R,
     input: I,
@@ -218,7 +233,9 @@ fn stops_from<R: AllocGlobal + Print + Eprint, I: Read + Drop>(
     };
     let mut writer = Writing::new(Progress::new(buffered, rt, shows));
     let end = stop_in_range(rt.alloc(), script.text(), range, &mut writer);
-    script.conclude(rt, &end)
+    let status = script.conclude(rt, &end);
+    show_refusals(rt, script.notation(), &script.script, script.lines(&end));
+    status
 }
 
 /// `dsheet run --stops`: a script with formulas in this notation, of at most 1,048,576 bytes, and to standard output what

@@ -199,13 +199,14 @@ fn call_anew<R: AllocGlobal + Print + Eprint + Clock + Net<Stream = TcpStream>>(
     }
 }
 
-// One call, its text in OpenFormula, on this connection, or on a new one where it is broken: what the new join says is shown then, and an edit
-// is not sent again. An error is the status.
+// One call, that of a line in this notation, on this connection, or on a new one where it is broken: what the new join says
+// is shown then, and an edit is not sent again. An error is the status.
 fn call<R: AllocGlobal + Print + Eprint + Clock + Net<Stream = TcpStream>>(
     rt: &R,
     connecting: Connecting,
     notation: Notation,
     stream: &mut TcpStream,
+    line: &str,
     ask: Ask<'_>,
 ) -> Result<(), u8> {
     let said = match exchange(rt.alloc(), stream, ask) {
@@ -213,9 +214,7 @@ fn call<R: AllocGlobal + Print + Eprint + Clock + Net<Stream = TcpStream>>(
         Err(_) => return call_anew(rt, connecting, stream, ask),
     };
     show(rt, connecting.process, &said)?;
-    if let Ask::Set { cell: _, text } = ask {
-        show_note(rt, notation, text, &said);
-    }
+    show_note(rt, notation, line, &said);
     Ok(())
 }
 
@@ -235,7 +234,7 @@ fn obey<R: AllocGlobal + Print + Eprint + Clock + Net<Stream = TcpStream>>(
 ) -> Result<(), u8> {
     let open = opened_line(rt, notation, Commands::OfClient, line.number, line.text)?;
     match read_ask(open.as_bytes()) {
-        Ok(ask) => call(rt, connecting, notation, stream, ask),
+        Ok(ask) => call(rt, connecting, notation, stream, line.text, ask),
         Err(fault) => {
             let _reported = eprintln!(rt; "line {}: {fault}", line.number);
             Err(REFUSED)

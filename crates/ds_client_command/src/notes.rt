@@ -1,33 +1,26 @@
 //! What a client says of a text that a server refuses.
 
 use ds_a1::notation::Notation;
-use ds_formula::fault::{FaultKind, TextFault};
-use ds_script_hints::texts::{excerpt_of_text, opened_excerpt};
+use ds_a1_script::lines::Commands;
+use ds_formula::fault::TextFault;
+use ds_script_hints::notes::kind_named;
+use ds_script_hints::texts::refused_excerpt;
 use serde_json::Value as Json;
 
-// The fault of a text that an answer refuses; of the kinds only those that a reference without brackets comes to are
-// distinguished.
+// The fault of a text that an answer refuses.
 fn fault_of(said: &Json) -> Option<TextFault> {
-    let kind = match said.get("fault")?.as_str()? {
-        "UnknownFunction" => FaultKind::UnknownFunction,
-        "BadToken" => FaultKind::BadToken,
-        _ => FaultKind::TooDeep,
-    };
+    let kind = kind_named(said.get("fault")?.as_str()?)?;
     let offset = usize::try_from(said.get("offset")?.as_u64()?).ok()?;
     Some(TextFault { kind, offset })
 }
 
-/// Shows on standard error a text that was sent and that this answer refuses, where there is something to say of it: a
-/// reference without brackets, or, where the formulas are in A1 notation, what they were sent as.
-pub fn show_note(rt: &impl Eprint, notation: Notation, text: &str, said: &Json) {
+/// Shows on standard error a line of a client in this notation whose text this answer refuses, with what is wrong in it.
+pub fn show_note<R: AllocGlobal + Eprint>(rt: &R, notation: Notation, line: &str, said: &Json) {
     let Some(fault) = fault_of(said) else {
         return;
     };
-    let text = text.as_bytes();
-    let excerpt = match notation {
-        Notation::OpenFormula => excerpt_of_text(notation, text, text, fault),
-        Notation::A1 => Some(opened_excerpt(text, fault)),
-    };
+    let line = line.as_bytes();
+    let excerpt = refused_excerpt(rt.alloc(), notation, Commands::OfClient, line, fault);
     if let Some(excerpt) = excerpt {
         let _reported = eprintln!(rt; "{excerpt}");
     }

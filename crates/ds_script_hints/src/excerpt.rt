@@ -34,7 +34,8 @@ fn shown(byte: u8) -> char {
     }
 }
 
-fn write_part<W: fmt::Write>(part: &[u8], f: &mut fmt::Formatter<W>) -> fmt::Result {
+/// Writes bytes as they are shown.
+pub(crate) fn write_part<W: fmt::Write>(part: &[u8], f: &mut fmt::Formatter<W>) -> fmt::Result {
     for byte in part {
         f.write_char(shown(*byte))?;
     }

@@ -3,6 +3,8 @@
 
 pub mod excerpt;
 mod forms;
+mod functions;
 pub mod hint;
+pub mod notes;
 pub mod texts;
 pub mod wanted;

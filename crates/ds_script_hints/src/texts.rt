@@ -1,163 +1,130 @@
 //! What is wrong with the text in a line, beside its fault.
 
 use crate::excerpt::write_marked;
-use crate::hint::layout_of;
+use crate::notes::{TextNote, note_of};
 use ds_a1::notation::Notation;
-use ds_a1::tokens::begins_reference;
+use ds_a1::texts::{read_text, to_open};
 use ds_a1_script::lines::{Commands, line_text};
 use ds_formula::cells::Shape;
 use ds_formula::fault::{FaultKind, TextFault};
-use ds_formula::reading::{TEXT_LIMIT, read_content};
-use ds_script_io::line::{NextLine, next_line};
 use std::alloc::Global;
 use std::fmt;
-
-/// What there is to say of a fault of a text, by its notation.
-#[derive(Clone, Copy, Debug, PartialEq, Eq)]
-pub enum TextNote {
-    /// In OpenFormula's notation: a reference stands there without brackets.
-    NoBrackets,
-    /// In A1 notation: a bracket stands there.
-    Bracket,
-    /// In A1 notation: the text is too long once its references have brackets.
-    TooLong,
-    /// In A1 notation: the text is shown as it is read, in OpenFormula.
-    AsRead,
-}
-
-impl fmt::Display for TextNote {
-    fn fmt<W: fmt::Write>(&self, f: &mut fmt::Formatter<W>) -> fmt::Result {
-        match self {
-            TextNote::NoBrackets => f.write_str("references are written [.A1]; --a1 reads A1"),
-            TextNote::Bracket => f.write_str("with --a1 references are written A1"),
-            TextNote::TooLong => {
-                write!(f, "written as [.A1] it has more than {TEXT_LIMIT} bytes")
-            }
-            TextNote::AsRead => f.write_str("in the text as it is read"),
-        }
-    }
-}
-
-/// What there is to say of a fault of a text in this notation; none where there is nothing. In A1 notation it is a fault of
-/// `ds_a1::texts::to_open`.
-pub fn note_of(notation: Notation, text: &[u8], fault: TextFault) -> Option<TextNote> {
-    match (notation, fault.kind) {
-        (Notation::A1, FaultKind::BadToken)
-            if matches!(text.get(fault.offset..)?, [b'[' | b']', ..]) => { Some(TextNote::Bracket) }
-        (Notation::A1, FaultKind::TooLong) if text.len() <= TEXT_LIMIT => Some(TextNote::TooLong),
-        (Notation::OpenFormula, FaultKind::BadToken | FaultKind::UnknownFunction)
-            if begins_reference(text.get(fault.offset..)?) => { Some(TextNote::NoBrackets) }
-        _ => None,
-    }
-}
 
 /// A line with a caret below the byte of its text that a fault stands at, and what there is to say of it.
 #[derive(Clone, Copy, Debug)]
 pub struct TextExcerpt<'a> {
     line: &'a [u8],
     offset: usize,
-    note: Option<TextNote>,
+    note: TextNote<'a>,
 }
 
 impl fmt::Display for TextExcerpt<'_> {
     fn fmt<W: fmt::Write>(&self, f: &mut fmt::Formatter<W>) -> fmt::Result {
         write_marked(self.line, self.offset, f)?;
-        match &self.note {
-            Some(note) => write!(f, " {note}"),
-            None => Ok(()),
+        write!(f, " {}", self.note)
+    }
+}
+
+// Whether this byte stands for that one of the text in OpenFormula.
+fn is_written(byte: u8, open: u8) -> bool {
+    byte == open || (byte == b',' && open == b';')
+}
+
+// The byte of a text in A1 notation that this one of its text in OpenFormula, which has brackets and dots besides, stands
+// for.
+fn written_offset(text: &[u8], open: &[u8], offset: usize) -> usize {
+    let mut rest = text;
+    for byte in open.get(..offset).unwrap_or(open) {
+        match rest {
+            [first, behind @ ..] if is_written(*first, *byte) => rest = behind,
+            _ => {}
         }
     }
+    text.len().saturating_sub(rest.len())
 }
 
-/// The excerpt of a line whose text, its end, has this fault in this notation; none where there is nothing to say of it.
+// The byte of a text in this notation that a fault stands at. In A1 notation a fault of the text as it stands has its own
+// offset.
+fn offset_of(alloc: Global, notation: Notation, text: &[u8], fault: TextFault) -> usize {
+    match notation {
+        Notation::OpenFormula => fault.offset,
+        Notation::A1 => match to_open(alloc, text) {
+            Ok(open) => written_offset(text, &open, fault.offset),
+            Err(_) => fault.offset,
+        },
+    }
+}
+
+/// The excerpt of a line whose text, its end, has this fault in this notation: one that `ds_a1::texts::read_text` answers.
 pub fn excerpt_of_text<'a>(
+    alloc: Global,
     notation: Notation,
     line: &'a [u8],
-    text: &[u8],
+    text: &'a [u8],
+    fault: TextFault,
+) -> TextExcerpt<'a> {
+    let front = line.len().saturating_sub(text.len());
+    let offset = offset_of(alloc, notation, text, fault);
+    TextExcerpt {
+        line,
+        offset: front.saturating_add(offset).min(line.len()),
+        note: note_of(notation, text, fault.kind, offset),
+    }
+}
+
+/// The excerpt of a line of these commands whose text has this fault in this notation; none where the line has no text.
+pub fn refused_excerpt<'a>(
+    alloc: Global,
+    notation: Notation,
+    commands: Commands,
+    line: &'a [u8],
     fault: TextFault,
 ) -> Option<TextExcerpt<'a>> {
-    let note = note_of(notation, text, fault)?;
-    let front = line.len().saturating_sub(text.len());
-    Some(TextExcerpt {
-        line,
-        offset: front.saturating_add(fault.offset).min(line.len()),
-        note: Some(note),
-    })
+    let text = line_text(commands, line)?;
+    Some(excerpt_of_text(alloc, notation, line, text, fault))
 }
 
-/// The excerpt of a line of these commands in A1 notation whose text has this fault; none where there is nothing to say.
-pub fn refused_excerpt(
-    commands: Commands,
-    line: &[u8],
-    fault: TextFault,
-) -> Option<TextExcerpt<'_>> {
-    excerpt_of_text(Notation::A1, line, line_text(commands, line)?, fault)
-}
-
-/// The excerpt of the text in OpenFormula of one in A1 notation, which is refused with this fault.
-pub fn opened_excerpt(text: &[u8], fault: TextFault) -> TextExcerpt<'_> {
-    TextExcerpt {
-        line: text,
-        offset: fault.offset.min(text.len()),
-        note: Some(TextNote::AsRead),
+// How many bytes a text in this notation has in OpenFormula.
+fn open_length(alloc: Global, notation: Notation, text: &[u8]) -> usize {
+    match (notation, to_open(alloc, text)) {
+        (Notation::A1, Ok(open)) => open.len(),
+        _ => text.len(),
     }
 }
 
-/// The excerpt of a text with this fault, of which there is nothing else to say.
-pub fn plain_excerpt(text: &[u8], fault: TextFault) -> TextExcerpt<'_> {
-    TextExcerpt {
-        line: text,
-        offset: fault.offset.min(text.len()),
-        note: None,
-    }
-}
-
-/// A line of a script in which a reference has no brackets, its number from 1, and the fault of its text.
-#[derive(Clone, Copy, Debug)]
-pub struct BareLine<'a> {
-    /// Which line it is, from 1.
-    pub number: usize,
-    /// The fault of its text.
-    pub fault: TextFault,
-    /// The line, with what there is to say of it.
-    pub excerpt: TextExcerpt<'a>,
-}
-
-/// The fault of the text in a line of a script on a sheet of this shape, and what there is to say of it: that a reference
-/// has no brackets. None where that is not so.
-pub fn bare_line<'a>(
+/// The excerpt of a line of a script whose text has this fault on a sheet of this shape; a text is too long where it has
+/// more bytes than the fault's offset. None where the line has no text, or one with another fault or none.
+pub fn refused_with<'a>(
     alloc: Global,
+    notation: Notation,
+    shape: &Shape,
+    line: &'a [u8],
+    fault: TextFault,
+) -> Option<TextExcerpt<'a>> {
+    let text = line_text(Commands::OfScript, line)?;
+    let is_so = match fault.kind {
+        FaultKind::TooLong => open_length(alloc, notation, text) > fault.offset,
+        _ => matches!(read_text(alloc, notation, shape, text), Err(own) if own == fault),
+    };
+    if is_so {
+        Some(excerpt_of_text(alloc, notation, line, text, fault))
+    } else {
+        None
+    }
+}
+
+/// The fault of the text in a line of a script on a sheet of this shape, and its excerpt. None where the line has no text,
+/// its text has no fault, or no memory is there to read it.
+pub fn refused_text<'a>(
+    alloc: Global,
+    notation: Notation,
     shape: &Shape,
     line: &'a [u8],
 ) -> Option<(TextFault, TextExcerpt<'a>)> {
     let text = line_text(Commands::OfScript, line)?;
-    let fault = match read_content(alloc, shape, text) {
-        Ok(_) => return None,
-        Err(fault) => fault,
-    };
-    let excerpt = excerpt_of_text(Notation::OpenFormula, line, text, fault)?;
-    Some((fault, excerpt))
-}
-
-/// The first of these many lines of a script, on the sheet that it makes, whose text is refused where a reference has no
-/// brackets; none where there is none before its end or a line of more than 512 bytes.
-pub fn first_bare(alloc: Global, script: &[u8], lines: usize) -> Option<BareLine<'_>> {
-    let shape = layout_of(script).shape;
-    let mut rest = script;
-    for number in 1..=script.len().min(lines) {
-        match next_line(rest, true) {
-            NextLine::Line(line, left) => {
-                if let Some((fault, excerpt)) = bare_line(alloc, &shape, line) {
-                    return Some(BareLine {
-                        number,
-                        fault,
-                        excerpt,
-                    });
-                }
-                rest = left;
-            }
-            NextLine::Nothing | NextLine::TooLong => return None,
-        }
+    match read_text(alloc, notation, shape, text) {
+        Ok(_) => None,
+        Err(fault) if fault.kind == FaultKind::NoMemory => None,
+        Err(fault) => Some((fault, excerpt_of_text(alloc, notation, line, text, fault))),
     }
-    None
 }
