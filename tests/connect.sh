@@ -67,7 +67,7 @@ status=0
 [ "$status" = 1 ] || fail "a bracket with --a1: status $status"
 printf '1 last 2 A2 done\n1 3 done\n1 4 done\n1 refused 1 UnknownFunction 1\n1 5 done\n' >"$room/wanted"
 cmp "$room/out" "$room/wanted" || fail "answers with --a1: $(cat "$room/out")"
-grep -q -x '    set A1 =FOO(A1)' "$room/said" || fail "the line that is refused with --a1: $(cat "$room/said")"
+grep -q -x '    set B2 =FOO(A1)' "$room/said" || fail "the line that is refused with --a1: $(cat "$room/said")"
 grep -q -x ' *^ FOO is unknown; known are SUM, .* and IF' "$room/said" || fail "what is wrong in it: $(cat "$room/said")"
 grep -q '^line 5: BadToken 1$' "$room/said" || fail "a bracket with --a1: $(cat "$room/said")"
 passed "formulas in A1 notation"

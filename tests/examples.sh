@@ -1,6 +1,7 @@
 #!/usr/bin/env bash
 # Runs the examples: each file of examples/ that has words beside it (NAME.args) is a standard input, whose answer is
 # NAME.stdout, where that is there, and whose exit status is that of .ci/statuses, and 0 where it names none.
+# Then a budget of an office goes through the report and back, as .fods and as .ods.
 #   tests/examples.sh PROGRAM
 program=$(realpath "$1")
 cd "$(dirname "$0")/.."
@@ -21,4 +22,25 @@ for words in examples/*.args; do
         diff "$example.stdout" "$room/out" >&2 || fail "$example: another answer than $example.stdout"
     fi
     passed "$name"
+done
+
+# An OpenDocument spreadsheet of one part, as the file of XML beside it.
+package() {
+    python3 -c 'import sys, zipfile
+with zipfile.ZipFile(sys.argv[2], "w") as package:
+    package.writestr("mimetype", "application/vnd.oasis.opendocument.spreadsheet")
+    package.write(sys.argv[1], "content.xml", zipfile.ZIP_DEFLATED)' "$1" "$2"
+}
+
+documents=examples/python/documents.py
+package examples/python/budget.fods "$room/budget.ods"
+cp examples/python/budget.fods "$room/budget.fods"
+for kind in fods ods; do
+    python3 "$documents" grid "$room/budget.$kind" >"$room/grid" 2>"$room/said"
+    "$program" report --labels <"$room/grid" >"$room/values" 2>"$room/said" || fail "budget.$kind: its report"
+    diff examples/python/budget.stdout "$room/values" >&2 || fail "budget.$kind: another report"
+    python3 "$documents" fill "$room/budget.$kind" "$room/values" "$room/new.$kind" 2>"$room/said"
+    python3 "$documents" values "$room/new.$kind" | diff "$room/values" - >&2 || fail "budget.$kind: other values in it"
+    python3 "$documents" grid "$room/new.$kind" | diff "$room/grid" - >&2 || fail "budget.$kind: other formulas in it"
+    passed "budget.$kind"
 done
