@@ -41,7 +41,7 @@ struct Frame {
     end: Option<usize>,
     crash: Option<usize>,
     // What a crash leaves, where it has not come yet.
-    crashes: Option<Vec<u8>>,
+    crashes: Option<Vec<u32>>,
     // The state itself, as long as something has not happened in it.
     position: Option<Position>,
 }
@@ -81,9 +81,9 @@ impl Frame {
 #[derive(Drop)]
 pub(crate) struct Search {
     numbers: Numbers,
-    seen: HashMap<Vec<u8>, u32>,
+    seen: HashMap<Vec<u32>, u32>,
     left: Vec<bool>,
-    crashes: HashMap<Vec<u8>, usize>,
+    crashes: HashMap<Vec<u32>, usize>,
     frames: Vec<Frame>,
     /// The outcomes.
     pub(crate) outcomes: Findings,
@@ -100,7 +100,7 @@ enum Next {
     // This happens in the last state.
     Happens(u32),
     // A crash comes, which leaves this.
-    Crashes(Vec<u8>),
+    Crashes(Vec<u32>),
     // All that may happen in the last state has happened.
     Leaves,
     // No state is left.
@@ -351,7 +351,7 @@ impl Search {
         alloc: Global,
         start: &Start,
         position: &Position,
-    ) -> Result<(Option<usize>, Option<Vec<u8>>), AllocError> {
+    ) -> Result<(Option<usize>, Option<Vec<u32>>), AllocError> {
         if !start.options.crashes {
             return Ok((None, None));
         }
@@ -424,7 +424,7 @@ impl Search {
     }
 
     // The state with this key has this number.
-    fn keep(&mut self, key: Vec<u8>, state: u32) -> Result<(), AllocError> {
+    fn keep(&mut self, key: Vec<u32>, state: u32) -> Result<(), AllocError> {
         self.seen.insert(key, state)?;
         self.left.push(false)?;
         Ok(())
@@ -509,7 +509,7 @@ impl Search {
         &mut self,
         alloc: Global,
         start: &Start,
-        key: Vec<u8>,
+        key: Vec<u32>,
     ) -> Result<usize, AllocError> {
         if let Some(number) = self.crashes.get(key.as_slice()) {
             return Ok(*number);
@@ -521,7 +521,7 @@ impl Search {
     }
 
     // A crash comes in the last state, and leaves this.
-    fn crash(&mut self, alloc: Global, start: &Start, key: Vec<u8>) -> Result<(), AllocError> {
+    fn crash(&mut self, alloc: Global, start: &Start, key: Vec<u32>) -> Result<(), AllocError> {
         let number = self.crash_number(alloc, start, key)?;
         if let Some(frame) = self.frames.last_mut() {
             frame.crash = Some(number);

@@ -2,5 +2,8 @@
 #![tactic(auto)]
 
 pub mod describe;
+pub mod laws;
+pub mod part;
 pub mod position;
+mod stages;
 pub mod touched;

@@ -1,7 +1,8 @@
 //! A world with calls under way, and what they were answered.
 
-ghost use Rattle.std.specs.Prelude.{◌-◌, ◌^◌, true, IfErr};
+ghost use Rattle.std.specs.Prelude.{◌≡◌, ◌-◌, ◌^◌, true, IfErr, IfOk};
 ghost use Rattle.ds_script_stops.specs.Reaching.{FallsShort};
+ghost use Rattle.ds_explore_state.specs.States.{lost_seat, seat_of};
 
 use ds_calls::finish::step_once;
 use ds_core::event::Event;
@@ -179,10 +180,23 @@ impl ProcessState {
         Ok(())
     }
 
-    // An equal seat, in memory of its own.
-    fn copy(&self, alloc: Global) -> Result<ProcessState, AllocError> {
+    /// The same, in memory of its own. An error means that an allocation failed.
+    pub(crate) fn copy(&self, alloc: Global) -> Result<ProcessState, AllocError>
+        ensures { IfOk result (λ seat. seat_of seat ≡ seat_of self.now) }
+    {
         Ok(ProcessState {
             buffer: Vec::from_slice(alloc, &self.buffer)?,
+            answer: self.answer,
+            text: Vec::from_slice(alloc, &self.text)?,
+        })
+    }
+
+    /// What a crash leaves of it: the answer. An error means that an allocation failed.
+    pub(crate) fn lost(&self, alloc: Global) -> Result<ProcessState, AllocError>
+        ensures { IfOk result (λ seat. seat_of seat ≡ lost_seat self.now) }
+    {
+        Ok(ProcessState {
+            buffer: Vec::new(alloc),
             answer: self.answer,
             text: Vec::from_slice(alloc, &self.text)?,
         })
