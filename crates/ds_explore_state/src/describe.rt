@@ -36,8 +36,8 @@ impl Model for Numbers {
     ghost view = { λ n. plain_parts n.parts.items };
 }
 
-// Both sides of a word of the sheet.
-fn word_at(world: &World, place: Place) -> Word
+/// Both sides of a word of the sheet; zeros where it has none of this place.
+pub fn word_at(world: &World, place: Place) -> Word
     ensures { result ≡ word_in world.now place }
 {
     if world.words.layout().contains(place) {
@@ -215,6 +215,34 @@ impl Numbers {
             key.push(self.number(alloc, &parts[i])?)?;
         }
         Ok(key)
+    }
+
+    // The key of a state of these parts, where each has a number.
+    fn known_key(&self, alloc: Global, parts: &[Part]) -> Result<Option<Vec<u32>>, AllocError>
+        ensures { IfOk result (λ some. IfSome some (λ key. IsKey self.now key.items (plain_parts parts.now))) }
+    {
+        let mut key = Vec::with_capacity(alloc, parts.len())?;
+        for i in 0..parts.len() {
+            let text = parts[i].text(alloc)?;
+            match self.known(&text, &parts[i]) {
+                Some(number) => key.push(number)?,
+                None => return Ok(None),
+            }
+        }
+        Ok(Some(key))
+    }
+
+    /// The key of the state of a position, where each part has a number. An error means that an allocation failed.
+    pub fn find(
+        &self,
+        alloc: Global,
+        position: &Position,
+        touched: &Touched,
+    ) -> Result<Option<Vec<u32>>, AllocError>
+        ensures { IfOk result (λ some. IfSome some (λ key. IsKey self.now key.items (state_of (groups_of touched.now) position.now))) }
+    {
+        let parts = parts_of(alloc, position, touched)?;
+        self.known_key(alloc, &parts)
     }
 
     /// The key of the state of a position: the words of these groups, and its processes. An error means that an allocation
