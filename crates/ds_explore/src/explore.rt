@@ -1,10 +1,11 @@
 //! All orders of the steps of calls, and what they come to.
 
-ghost use Rattle.std.specs.Prelude.{◌≡◌, ◌≢◌, ◌++◌, ◌∷◌, ◌||◌, ◌<◌, ◌^◌, ◌-◌, ◌⊎◌, Bool, true, ℕ, suc, List, [], All, IfOk, IfErr, IsTrue, length};
+ghost use Rattle.std.specs.Prelude.{◌≡◌, ◌≢◌, ◌++◌, ◌∷◌, ◌||◌, ◌<◌, ◌^◌, ◌-◌, ◌⊎◌, Bool, true, ℕ, suc, List, [], All, IfOk, IfErr, IsFalse, IsTrue, length};
 ghost use Rattle.std.specs.Io.KnownBytes.{Appends};
 ghost use Rattle.ds_script_io.specs.Streams.{writer_of, is_flushed, write_failed};
 ghost use Rattle.ds_explore.specs.Explored.{AreFlaws, IsBlock, IsOutcome, AreOutcomes, WritesAll, Explores, heading_text, figures_text, endless_text, end_of, end_short, is_wrong};
 ghost use Rattle.ds_explore.specs.Judging.{texts_of};
+ghost use Rattle.ds_explore.specs.Whole.{GoesThroughAll, HasAll};
 
 use crate::answers::{answers_to, continued};
 use crate::flaw::{Flaw, wrong_lines};
@@ -38,7 +39,8 @@ pub enum ExploreEnd {
     TooLong,
     /// The writer failed.
     WriteFailed,
-    /// An allocation failed, a script that was found would be too long, or two outcomes are the same. Nothing is written.
+    /// An allocation failed, a script that was found would be too long, two outcomes are the same, or the states that were
+    /// found are not all. Nothing is written.
     NoMemory,
 }
 
@@ -308,6 +310,21 @@ fn whole(alloc: Global, script: &[u8], start: &Start, found: &Found) -> Result<B
     })
 }
 
+// Whether the search was cut. An error means that an allocation failed, or that it was not cut, and the states that it found
+// are not all.
+fn is_cut(alloc: Global, start: &Start, search: &Search) -> Result<bool, AllocError>
+    ensures { IfOk result (λ b. IsFalse b → HasAll start.now search.now.found) }
+{
+    if search.is_cut {
+        return Ok(true);
+    }
+    let all = search.has_all(alloc, start)?;
+    if !all {
+        return Err(AllocError);
+    }
+    Ok(false)
+}
+
 // Writes what was found.
 fn write_found<W: Write>(
     alloc: Global,
@@ -320,12 +337,16 @@ fn write_found<W: Write>(
     ensures write_failed { result ≡ ExploreEnd.WriteFailed → write_failed writer.new ≡ true }
     ensures writes { result ≢ ExploreEnd.WriteFailed → (out : List ℕ) × Appends (W.contents (writer_of writer.old)) (W.contents (writer_of writer.new)) out
         × Explores script.now out result }
+    ensures all { GoesThroughAll start.now.options result }
 {
+    let Ok(is_cut) = is_cut(alloc, start, &found.search) else {
+        return ExploreEnd::NoMemory;
+    };
     let Ok(all) = whole(alloc, script, start, found) else {
         return ExploreEnd::NoMemory;
     };
     match writer.write_all(&all.text) {
-        Ok(()) => ending(found.search.is_cut, all.flawed),
+        Ok(()) => ending(is_cut, all.flawed),
         Err(_) => ExploreEnd::WriteFailed,
     }
 }
@@ -352,6 +373,7 @@ fn explore_all<W: Write, T: Watcher>(
     ensures write_failed { result ≡ ExploreEnd.WriteFailed → write_failed writer.new ≡ true }
     ensures writes { result ≢ ExploreEnd.WriteFailed → (out : List ℕ) × Appends (W.contents (writer_of writer.old)) (W.contents (writer_of writer.new)) out
         × Explores script.now out result }
+    ensures all { GoesThroughAll options result }
 {
     if script.len() > INPUT_LIMIT {
         return ExploreEnd::TooLong;
@@ -375,7 +397,8 @@ fn explore_all<W: Write, T: Watcher>(
 /// The first outcome is that of the calls one after another, in the order of their processes.
 /// States that were met before are not gone through again: a state is its words, the situations and buffers of its
 /// processes, and what their calls were answered. Numbers of orders end at 2^128 - 1. The watcher is shown how many
-/// states there are, at each event that is tried.
+/// states there are, at each event that is tried. Where no more states are said to be, it was checked that nothing that
+/// may happen leads out of those that were found.
 pub fn explore<W: Write, T: Watcher>(
     alloc: Global,
     script: &[u8],
@@ -388,6 +411,7 @@ pub fn explore<W: Write, T: Watcher>(
     ensures flushed { is_flushed writer.old ≡ true → result ≢ ExploreEnd.WriteFailed → is_flushed writer.new ≡ true }
     ensures writes { result ≢ ExploreEnd.WriteFailed → (out : List ℕ) × Appends (W.contents (writer_of writer.old)) (W.contents (writer_of writer.new)) out
         × Explores script.now out result }
+    ensures all { GoesThroughAll options result }
 {
     let end = explore_all(alloc, script, options, writer, watcher);
     match writer.flush() {

@@ -1,5 +1,10 @@
 //! What may come between the steps of calls.
 
+ghost use Rattle.std.specs.Prelude.{◌≡◌};
+ghost use Rattle.ds_explore.specs.Whole.{allowed_by};
+
+use ds_explore_state::orders::Allowed;
+
 /// What may come between the steps of calls, and how much is gone through.
 #[derive(Clone, Copy, Debug, PartialEq, Eq)]
 pub struct Options {
@@ -11,6 +16,18 @@ pub struct Options {
     pub evictions: bool,
     /// How many states are gone through at most.
     pub most: usize,
+}
+
+impl Options {
+    /// What may come between the steps of calls, without crashes, which end an order.
+    pub(crate) fn allowed(self) -> Allowed
+        ensures { result ≡ allowed_by self }
+    {
+        Allowed {
+            stops: self.stops,
+            evictions: self.evictions,
+        }
+    }
 }
 
 /// Is shown how many states there are so far, again and again.

@@ -1,8 +1,9 @@
 //! Goes through all orders.
 
-ghost use Rattle.std.specs.Prelude.{◌≡◌, ◌-◌, ◌^◌, true, IfErr, IfOk};
+ghost use Rattle.std.specs.Prelude.{◌≡◌, ◌-◌, ◌^◌, true, IfErr, IfOk, IsTrue};
 ghost use Rattle.ds_script_stops.specs.Reaching.{FallsShort};
 ghost use Rattle.ds_explore.specs.Judging.{IsFound};
+ghost use Rattle.ds_explore.specs.Whole.{HasAll};
 
 use crate::ends::{Said, end, what_was_said};
 use crate::graph::{Edge, Node};
@@ -11,8 +12,10 @@ use crate::options::{Options, Watcher};
 use crate::outcomes::{Finding, Findings};
 use ds_core::event::Event;
 use ds_core::take::take;
-use ds_explore_state::describe::Numbers;
+use ds_explore_state::closure::{Found, is_closed};
+use ds_explore_state::orders::{Allowed, is_busy, is_dirty};
 use ds_explore_state::position::{Move, Position, is_in_call, start};
+use ds_explore_state::states::States;
 use ds_explore_state::touched::Touched;
 use ds_formula::cells::Shape;
 use ds_script_stops::reach::Short;
@@ -24,8 +27,10 @@ use std::collections::HashMap;
 #[derive(Drop)]
 pub(crate) struct Start {
     options: Options,
-    first: Position,
-    touched: Touched,
+    /// The first state.
+    pub(crate) first: Position,
+    /// The words that orders may touch.
+    pub(crate) touched: Touched,
     pub(crate) judge: Judge,
     /// What may happen, by its number.
     pub(crate) moves: Vec<Move>,
@@ -41,7 +46,7 @@ struct Frame {
     end: Option<usize>,
     crash: Option<usize>,
     // What a crash leaves, where it has not come yet.
-    crashes: Option<Vec<u8>>,
+    crashes: Option<Vec<u32>>,
     // The state itself, as long as something has not happened in it.
     position: Option<Position>,
 }
@@ -80,10 +85,10 @@ impl Frame {
 /// The orders as far as they were gone through.
 #[derive(Drop)]
 pub(crate) struct Search {
-    numbers: Numbers,
-    seen: HashMap<Vec<u8>, u32>,
+    /// The states that were found.
+    pub(crate) found: States,
     left: Vec<bool>,
-    crashes: HashMap<Vec<u8>, usize>,
+    crashes: HashMap<Vec<u32>, usize>,
     frames: Vec<Frame>,
     /// The outcomes.
     pub(crate) outcomes: Findings,
@@ -100,21 +105,11 @@ enum Next {
     // This happens in the last state.
     Happens(u32),
     // A crash comes, which leaves this.
-    Crashes(Vec<u8>),
+    Crashes(Vec<u32>),
     // All that may happen in the last state has happened.
     Leaves,
     // No state is left.
     Ends,
-}
-
-// How a crash or the end of memory is named here.
-fn memory<T: Drop>(made: Result<T, AllocError>) -> Result<T, Short>
-    ensures { IfErr result (λ short. short ≡ Short.NoMemory) }
-{
-    match made {
-        Ok(value) => Ok(value),
-        Err(_) => Err(Short::NoMemory),
-    }
 }
 
 // What may happen, by its number: the steps of each process, their stops, and evictions.
@@ -142,7 +137,9 @@ fn prepared(alloc: Global, world: &World) -> Result<(Touched, Vec<Move>, Judge),
 
 impl Start {
     // The orders that begin in this state. An error means that an allocation failed.
-    fn of(alloc: Global, first: Position, options: Options) -> Result<Start, AllocError> {
+    fn of(alloc: Global, first: Position, options: Options) -> Result<Start, AllocError>
+        ensures { IfOk result (λ start. start.options ≡ options) }
+    {
         let (touched, moves, judge) = prepared(alloc, &first.world)?;
         Ok(Start {
             options,
@@ -154,17 +151,23 @@ impl Start {
     }
 
     // The orders of the calls that are under way in this world.
-    fn within(alloc: Global, world: World, options: Options) -> Result<Start, AllocError> {
+    fn within(alloc: Global, world: World, options: Options) -> Result<Start, AllocError>
+        ensures { IfOk result (λ start. start.options ≡ options) }
+    {
         let first = Position::new(alloc, world)?;
         Start::of(alloc, first, options)
     }
 
     /// The orders of the calls that are under way where the script ends. An error is why it does not end.
     pub(crate) fn new(alloc: Global, script: &[u8], options: Options) -> Result<Start, Short>
-        ensures { IfErr result (FallsShort true script.now (2 ^ 64 - 1)) }
+        ensures short { IfErr result (FallsShort true script.now (2 ^ 64 - 1)) }
+        ensures options { IfOk result (λ start. start.options ≡ options) }
     {
         let world = start(alloc, script)?;
-        memory(Start::within(alloc, world, options))
+        match Start::within(alloc, world, options) {
+            Ok(start) => Ok(start),
+            Err(_) => Err(Short::NoMemory),
+        }
     }
 
     /// The shape of the sheet.
@@ -188,15 +191,9 @@ impl Start {
     // Whether this may happen.
     fn may_happen(&self, position: &Position, next: Move) -> bool {
         match next {
-            Move::Step(process) => is_in_call(&position.world, process),
-            Move::Stop(process) => self.options.stops && is_in_call(&position.world, process),
-            Move::Evict(place) => {
-                if !self.options.evictions || !position.world.words.layout().contains(place) {
-                    return false;
-                }
-                let word = position.world.words.word(place);
-                word.cached != word.persisted
-            }
+            Move::Step(process) => is_busy(position, process),
+            Move::Stop(process) => self.options.stops && is_busy(position, process),
+            Move::Evict(place) => self.options.evictions && is_dirty(&position.world, place),
         }
     }
 
@@ -315,8 +312,7 @@ impl Search {
     // No state was found yet, and this outcome.
     fn new(alloc: Global, outcomes: Findings) -> Search {
         Search {
-            numbers: Numbers::new(alloc),
-            seen: HashMap::new(alloc),
+            found: States::new(alloc),
             left: Vec::new(alloc),
             crashes: HashMap::new(alloc),
             frames: Vec::new(alloc),
@@ -351,11 +347,11 @@ impl Search {
         alloc: Global,
         start: &Start,
         position: &Position,
-    ) -> Result<(Option<usize>, Option<Vec<u8>>), AllocError> {
+    ) -> Result<(Option<usize>, Option<Vec<u32>>), AllocError> {
         if !start.options.crashes {
             return Ok((None, None));
         }
-        let key = self.numbers.crashed(alloc, position, &start.touched)?;
+        let key = self.found.crashed_key(alloc, position, &start.touched)?;
         match self.crashes.get(key.as_slice()) {
             Some(outcome) => Ok((Some(*outcome), None)),
             None => Ok((None, Some(key))),
@@ -424,30 +420,29 @@ impl Search {
     }
 
     // The state with this key has this number.
-    fn keep(&mut self, key: Vec<u8>, state: u32) -> Result<(), AllocError> {
-        self.seen.insert(key, state)?;
+    fn keep(&mut self, alloc: Global, key: Vec<u32>, state: u32) -> Result<(), AllocError> {
+        self.found.add(alloc, key, state)?;
         self.left.push(false)?;
         Ok(())
     }
 
     // The number of the state that an event has led to, if it was not found before.
-    fn found(
+    fn number_of(
         &mut self,
         alloc: Global,
         start: &Start,
         by: u32,
         position: &Position,
     ) -> Result<Option<u32>, AllocError> {
-        let key = self.numbers.state(alloc, position, &start.touched)?;
-        if let Some(state) = self.seen.get(key.as_slice()) {
-            let state = *state;
+        let key = self.found.key(alloc, position, &start.touched)?;
+        if let Some(state) = self.found.find(&key) {
             self.meet(by, state)?;
             return Ok(None);
         }
         let Some(state) = self.next_number(start) else {
             return Ok(None);
         };
-        self.keep(key, state)?;
+        self.keep(alloc, key, state)?;
         self.lead(by, state)?;
         Ok(Some(state))
     }
@@ -460,7 +455,7 @@ impl Search {
         by: u32,
         position: Position,
     ) -> Result<(), AllocError> {
-        match self.found(alloc, start, by, &position)? {
+        match self.number_of(alloc, start, by, &position)? {
             Some(state) => self.open(alloc, start, state, position),
             None => Ok(()),
         }
@@ -509,7 +504,7 @@ impl Search {
         &mut self,
         alloc: Global,
         start: &Start,
-        key: Vec<u8>,
+        key: Vec<u32>,
     ) -> Result<usize, AllocError> {
         if let Some(number) = self.crashes.get(key.as_slice()) {
             return Ok(*number);
@@ -521,7 +516,7 @@ impl Search {
     }
 
     // A crash comes in the last state, and leaves this.
-    fn crash(&mut self, alloc: Global, start: &Start, key: Vec<u8>) -> Result<(), AllocError> {
+    fn crash(&mut self, alloc: Global, start: &Start, key: Vec<u32>) -> Result<(), AllocError> {
         let number = self.crash_number(alloc, start, key)?;
         if let Some(frame) = self.frames.last_mut() {
             frame.crash = Some(number);
@@ -550,14 +545,27 @@ impl Search {
     // The first state.
     fn begin(&mut self, alloc: Global, start: &Start) -> Result<(), AllocError> {
         let position = start.position(alloc)?;
-        let key = self.numbers.state(alloc, &position, &start.touched)?;
-        self.keep(key, 0)?;
+        let key = self.found.key(alloc, &position, &start.touched)?;
+        self.keep(alloc, key, 0)?;
         self.open(alloc, start, 0, position)
     }
 
     /// How many states were found.
     pub(crate) fn states(&self) -> usize {
         self.left.len()
+    }
+
+    /// Whether the states that were found are all: whether nothing that may happen leads out of them. An error means that
+    /// an allocation failed.
+    pub(crate) fn has_all(&self, alloc: Global, start: &Start) -> Result<bool, AllocError>
+        ensures { IfOk result (λ b. IsTrue b → HasAll start.now self.now.found) }
+    {
+        let found = Found {
+            states: &self.found,
+            touched: &start.touched,
+            allowed: start.options.allowed(),
+        };
+        is_closed(alloc, found, &start.first)
     }
 }
 

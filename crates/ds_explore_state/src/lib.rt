@@ -1,6 +1,12 @@
 //! Worlds with calls under way, and what distinguishes two of them.
 #![tactic(auto)]
 
+pub mod closure;
 pub mod describe;
+pub mod laws;
+pub mod orders;
+pub mod part;
 pub mod position;
+mod stages;
+pub mod states;
 pub mod touched;

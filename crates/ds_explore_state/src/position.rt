@@ -1,8 +1,15 @@
 //! A world with calls under way, and what they were answered.
 
-ghost use Rattle.std.specs.Prelude.{◌-◌, ◌^◌, true, IfErr};
+ghost use Rattle.std.specs.Prelude.{◌≡◌, ◌↔◌, ◌<◌, ◌-◌, ◌^◌, true, ℕ, IfErr, IfOk, IsFalse, IsTrue, OnOk, length, slice_get};
+ghost use Rattle.ds_state.specs.Value.{WorldValue};
+ghost use Rattle.ds_core.specs.Takes.{Fits};
+ghost use Rattle.ds_core.specs.declared.event.Event.TheVariants as events;
+ghost use Rattle.ds_explore_state.specs.Orders.{Happens, IsBusy, IsReady, IsUnderWay, access_in, buffer_after, seat_after, seat_stopped, seats_of};
+ghost use Rattle.ds_explore_state.specs.declared.position.Move.TheVariants as moves;
 ghost use Rattle.ds_script_stops.specs.Reaching.{FallsShort};
+ghost use Rattle.ds_explore_state.specs.States.{lost_seat, seat_of, word_in};
 
+use crate::describe::word_at;
 use ds_calls::finish::step_once;
 use ds_core::event::Event;
 use ds_core::reply::Reply;
@@ -78,7 +85,9 @@ pub fn start(alloc: Global, script: &[u8]) -> Result<World, Short>
 }
 
 /// Whether a process is in a call.
-pub fn is_in_call(world: &World, process: usize) -> bool {
+pub fn is_in_call(world: &World, process: usize) -> bool
+    ensures { IsTrue result ↔ IsUnderWay (slice_get world.now.situations process) }
+{
     match world.situations.get(process) {
         None | Some(Situation::Idle(_)) | Some(Situation::Stopped) => false,
         Some(_) => true,
@@ -86,7 +95,9 @@ pub fn is_in_call(world: &World, process: usize) -> bool {
 }
 
 // What the next step of a process does to the words.
-fn wanted(world: &World, process: usize) -> Access<Place> {
+fn wanted(world: &World, process: usize) -> Access<Place>
+    ensures { result ≡ access_in world.now.sheet.layout.shape (slice_get world.now.situations process) }
+{
     match world.situations.get(process) {
         Some(Situation::Editing(call)) => ds_edit::machine::want(call),
         Some(Situation::Working(call)) => {
@@ -99,18 +110,18 @@ fn wanted(world: &World, process: usize) -> Access<Place> {
     }
 }
 
-// What stands in the cached side of a word.
-fn cached(world: &World, place: Place) -> u64 {
-    if world.words.layout().contains(place) {
-        world.words.load(place)
-    } else {
-        0
-    }
+// The work of a process that waits for an entry is given it.
+fn make_ready(world: &mut World, process: usize)
+    ensures { IsReady world.old process world.new }
+{
+    let _offered = offer_own(world, process);
 }
 
 /// One step of a process, as the command `step` makes it: what it does to the words, and its reply.
-pub fn step(alloc: Global, world: &mut World, process: usize) -> (Access<Place>, Reply) {
-    let _offered = offer_own(world, process);
+pub fn step(alloc: Global, world: &mut World, process: usize) -> (Access<Place>, Reply)
+    ensures { (mid : WorldValue) × IsReady world.old process mid × (result.0 ≡ access_in mid.sheet.layout.shape (slice_get mid.situations process)) × Fits mid (events.Step process) result.1 world.new }
+{
+    make_ready(world, process);
     let access = wanted(world, process);
     let reply = step_once(alloc, world, process);
     (access, reply)
@@ -148,6 +159,32 @@ fn unknown(alloc: Global, count: usize) -> Result<Vec<BufferEntry<Place>>, Alloc
     Ok(buffer)
 }
 
+// A buffer after an access, in the world after it.
+fn buffered(
+    alloc: Global,
+    world: &World,
+    access: Access<Place>,
+    buffer: &[BufferEntry<Place>],
+) -> Result<Vec<BufferEntry<Place>>, AllocError>
+    ensures { IfOk result (λ after. after.items ≡ buffer_after access world.now buffer.now) }
+{
+    let mut after = Vec::from_slice(alloc, buffer)?;
+    match access {
+        Access::Flush(place) => after.push(BufferEntry {
+            place,
+            class: place.class(),
+            value: word_at(world, place).cached,
+        })?,
+        Access::Back => {
+            if !after.is_empty() {
+                let _oldest = after.remove(0);
+            }
+        }
+        _ => {}
+    }
+    Ok(after)
+}
+
 impl ProcessState {
     // A process with that number of entries in its buffer.
     fn new(alloc: Global, entries: usize) -> Result<ProcessState, AllocError> {
@@ -158,29 +195,53 @@ impl ProcessState {
         })
     }
 
-    // What an access does to the buffer.
-    fn note(&mut self, access: Access<Place>, value: u64) -> Result<(), AllocError> {
-        match access {
-            Access::Flush(place) => {
-                let class = place.class();
-                self.buffer.push(BufferEntry {
-                    place,
-                    class,
-                    value,
-                })?;
-            }
-            Access::Back => {
-                if !self.buffer.is_empty() {
-                    let _oldest = self.buffer.remove(0);
-                }
-            }
-            _ => {}
+    // What it has after a step with this access and this reply, in the world after it.
+    fn stepped(
+        &self,
+        alloc: Global,
+        world: &World,
+        process: usize,
+        access: Access<Place>,
+        reply: Reply,
+    ) -> Result<ProcessState, AllocError>
+        ensures { IfOk result (λ seat. seat_of seat ≡ seat_after process access reply world.now (seat_of self.now)) }
+    {
+        let buffer = buffered(alloc, world, access, &self.buffer)?;
+        match reply {
+            Reply::Answered(answer) => Ok(ProcessState {
+                buffer,
+                answer: Some(answer),
+                text: reply_bytes(alloc, world, process, reply)?,
+            }),
+            _ => Ok(ProcessState {
+                buffer,
+                answer: self.answer,
+                text: Vec::from_slice(alloc, &self.text)?,
+            }),
         }
-        Ok(())
     }
 
-    // An equal seat, in memory of its own.
-    fn copy(&self, alloc: Global) -> Result<ProcessState, AllocError> {
+    // What it has after its stop with this reply, in the world after it.
+    fn stopped(
+        &self,
+        alloc: Global,
+        world: &World,
+        process: usize,
+        reply: Reply,
+    ) -> Result<ProcessState, AllocError>
+        ensures { IfOk result (λ seat. seat_of seat ≡ seat_stopped process reply world.now (seat_of self.now)) }
+    {
+        Ok(ProcessState {
+            buffer: Vec::new(alloc),
+            answer: self.answer,
+            text: reply_bytes(alloc, world, process, reply)?,
+        })
+    }
+
+    /// The same, in memory of its own. An error means that an allocation failed.
+    pub(crate) fn copy(&self, alloc: Global) -> Result<ProcessState, AllocError>
+        ensures { IfOk result (λ seat. seat_of seat ≡ seat_of self.now) }
+    {
         Ok(ProcessState {
             buffer: Vec::from_slice(alloc, &self.buffer)?,
             answer: self.answer,
@@ -188,14 +249,15 @@ impl ProcessState {
         })
     }
 
-    fn answers(&mut self, answer: Answer, text: Vec<u8>) {
-        self.answer = Some(answer);
-        self.text = text;
-    }
-
-    fn stops(&mut self, text: Vec<u8>) {
-        self.buffer.clear();
-        self.text = text;
+    /// What a crash leaves of it: the answer. An error means that an allocation failed.
+    pub(crate) fn lost(&self, alloc: Global) -> Result<ProcessState, AllocError>
+        ensures { IfOk result (λ seat. seat_of seat ≡ lost_seat self.now) }
+    {
+        Ok(ProcessState {
+            buffer: Vec::new(alloc),
+            answer: self.answer,
+            text: Vec::from_slice(alloc, &self.text)?,
+        })
     }
 }
 
@@ -210,11 +272,14 @@ impl Position {
         Ok(Position { world, seats })
     }
 
-    /// An equal position, in memory of its own.
-    pub fn copy(&self, alloc: Global) -> Result<Position, AllocError> {
+    /// An equal position, in memory of its own. An error means that an allocation failed.
+    pub fn copy(&self, alloc: Global) -> Result<Position, AllocError>
+        ensures world { IfOk result (λ copy. copy.world ≡ self.now.world) }
+        ensures seats { IfOk result (λ copy. seats_of copy ≡ seats_of self.now) }
+    {
         let mut seats = Vec::new(alloc);
-        for seat in &self.seats {
-            seats.push(seat.copy(alloc)?)?;
+        for process in 0..self.seats.len() {
+            seats.push(self.seats[process].copy(alloc)?)?;
         }
         Ok(Position {
             world: self.world.copy(alloc)?,
@@ -223,46 +288,45 @@ impl Position {
     }
 
     // A step of a process, and what it was answered.
-    fn step(&mut self, alloc: Global, process: usize) -> Result<(), AllocError> {
+    fn step(&mut self, alloc: Global, process: usize) -> Result<(), AllocError>
+        ensures { OnOk result (Happens self.old (moves.Step process) self.new) }
+    {
         let (access, reply) = step(alloc, &mut self.world, process);
-        let value = match access {
-            Access::Flush(place) => cached(&self.world, place),
-            _ => 0,
-        };
-        if let Some(seat) = self.seats.get_mut(process) {
-            seat.note(access, value)?;
-        }
-        self.answer(alloc, process, reply)
-    }
-
-    // Keeps what a process's call was answered, if it was.
-    fn answer(&mut self, alloc: Global, process: usize, reply: Reply) -> Result<(), AllocError> {
-        if let Reply::Answered(answer) = reply {
-            let text = reply_bytes(alloc, &self.world, process, reply)?;
-            if let Some(seat) = self.seats.get_mut(process) {
-                seat.answers(answer, text);
-            }
+        if process < self.seats.len() {
+            let seat = self.seats[process].stepped(alloc, &self.world, process, access, reply)?;
+            self.seats[process] = seat;
         }
         Ok(())
     }
 
     // A stop of a process.
-    fn stop(&mut self, alloc: Global, process: usize) -> Result<(), AllocError> {
+    fn stop(&mut self, alloc: Global, process: usize) -> Result<(), AllocError>
+        ensures { OnOk result (Happens self.old (moves.Stop process) self.new) }
+    {
         let reply = take(alloc, &mut self.world, &Event::Stop(process));
-        let text = reply_bytes(alloc, &self.world, process, reply)?;
-        if let Some(seat) = self.seats.get_mut(process) {
-            seat.stops(text);
+        if process < self.seats.len() {
+            let seat = self.seats[process].stopped(alloc, &self.world, process, reply)?;
+            self.seats[process] = seat;
         }
         Ok(())
     }
 
-    /// What may happen happens.
-    pub fn apply(&mut self, alloc: Global, next: Move) -> Result<(), AllocError> {
+    // An eviction of a word.
+    fn evict(&mut self, alloc: Global, place: Place)
+        ensures { Happens self.old (moves.Evict place) self.new }
+    {
+        let _evicted = take(alloc, &mut self.world, &Event::Evict(place));
+    }
+
+    /// What may happen happens. After an error, that an allocation failed, nothing is known of the position.
+    pub fn apply(&mut self, alloc: Global, next: Move) -> Result<(), AllocError>
+        ensures { OnOk result (Happens self.old next self.new) }
+    {
         match next {
             Move::Step(process) => self.step(alloc, process),
             Move::Stop(process) => self.stop(alloc, process),
             Move::Evict(place) => {
-                let _evicted = take(alloc, &mut self.world, &Event::Evict(place));
+                self.evict(alloc, place);
                 Ok(())
             }
         }
@@ -278,7 +342,9 @@ impl Position {
     }
 
     /// Whether a call is under way.
-    pub fn is_under_way(&self) -> bool {
+    pub fn is_under_way(&self) -> bool
+        ensures { IsFalse result → (p : ℕ) → IsBusy self.now p → ⊥ }
+    {
         for process in 0..self.seats.len() {
             if is_in_call(&self.world, process) {
                 return true;

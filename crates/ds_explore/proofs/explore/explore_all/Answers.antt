@@ -7,4 +7,4 @@ use Rattle.ds_explore.proofs.explore.explore_all.Goals as goal
 
 pub returns-in-Err-clause-writes : goal.returns-in-Err-clause-writes
 returns-in-Err-clause-writes g c = λ ne.
-    ([], Appends-none _, subst (λ (end : ExploreEnd). Explores c.args.script.now [] end) (sym c.short_of.ensures) (explores_none c.args.script.now c.in-Err.short c.in-Err.ensures))
+    ([], Appends-none _, subst (λ (end : ExploreEnd). Explores c.args.script.now [] end) (sym c.short_of.ensures) (explores_none c.args.script.now c.in-Err.short c.in-Err.ensures.short))

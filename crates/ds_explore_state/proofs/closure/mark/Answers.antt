@@ -1,0 +1,15 @@
+use Rattle.std.proofs.Common.{ℕ, Option, refl, rules, subst}
+use Rattle.std.specs.Prelude.{IfSome}
+use Rattle.ds_explore_state.specs.States.{groups_of}
+use Rattle.ds_explore_state.specs.Closed.{HasNumber}
+use Rattle.ds_explore_state.proofs.Closing.{marks_more}
+use Rattle.ds_explore_state.proofs.closure.mark.Goals as goal
+
+pub returns : goal.returns
+returns c =
+    marks_more c.args.found.states.now (groups_of c.args.found.touched.now) c.args.found.allowed c.args.found.touched.now.places.items c.args.marks.now.items _ c.in-Some.number c.requires
+    (record {
+      position = c.args.position.now;
+      has = subst (λ (o : Option ℕ). IfSome o (HasNumber c.args.found.states.now (groups_of c.args.found.touched.now) c.args.position.now)) c.in-Some.is c.in_ok-number.ensures;
+      stays = c.in_ok-stays.ensures (search rules);
+    }) refl

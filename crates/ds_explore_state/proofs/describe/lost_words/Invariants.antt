@@ -1,0 +1,6 @@
+use Rattle.std.proofs.Common.{◌≡◌, map, take}
+use Rattle.ds_explore_state.specs.States.{lost_in}
+use Rattle.ds_explore_state.proofs.describe.lost_words.Given as goal
+
+abbrev pub invariant-loop-place : goal.invariant-loop-place
+invariant-loop-place l = l.words.items ≡ map (lost_in l.world) (take l.place-index l.places)

@@ -1,0 +1,6 @@
+use Rattle.std.proofs.Common.{◌≡◌, map, take}
+use Rattle.ds_explore_state.specs.States.{plain_parts, word_in, words_by}
+use Rattle.ds_explore_state.proofs.describe.words_of.Given as goal
+
+abbrev pub invariant-loop-group : goal.invariant-loop-group
+invariant-loop-group l = plain_parts l.parts.items ≡ words_by (word_in l.world) (map (λ g. g.items) (take l.group-index l.touched.groups.items))

@@ -1,0 +1,35 @@
+//! What may come between the steps of calls.
+
+ghost use Rattle.std.specs.Prelude.{◌≡◌, ◌<◌, ◌↔◌, IsTrue, IsFalse, length};
+ghost use Rattle.ds_explore_state.specs.Orders.{HasDirt, IsBusy};
+
+use crate::position::{Position, is_in_call};
+use ds_layout::place::Place;
+use ds_state::world::World;
+
+/// What may come between the steps of calls.
+#[derive(Clone, Copy, Debug, PartialEq, Eq)]
+pub struct Allowed {
+    /// Stops of processes that are in calls.
+    pub stops: bool,
+    /// Evictions of words whose sides differ.
+    pub evictions: bool,
+}
+
+/// Whether both sides of the word at a place differ.
+pub fn is_dirty(world: &World, place: Place) -> bool
+    ensures { IsTrue result ↔ HasDirt world.now place }
+{
+    if !world.words.layout().contains(place) {
+        return false;
+    }
+    let word = world.words.word(place);
+    word.cached != word.persisted
+}
+
+/// Whether a process of the position is in a call.
+pub fn is_busy(position: &Position, process: usize) -> bool
+    ensures { IsTrue result ↔ IsBusy position.now process }
+{
+    process < position.seats.len() && is_in_call(&position.world, process)
+}

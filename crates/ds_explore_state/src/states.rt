@@ -1,0 +1,108 @@
+//! The states that were found, by their keys.
+
+ghost use Rattle.std.specs.Prelude.{◌≡◌, Some, IfOk, IfSome, IsTrue, length, slice_get};
+ghost use Rattle.ds_explore_state.specs.Closed.{HasNumber, keys_of};
+ghost use Rattle.ds_explore_state.specs.States.{groups_of};
+
+use crate::describe::Numbers;
+use crate::position::Position;
+use crate::touched::Touched;
+use std::alloc::{AllocError, Global};
+use std::collections::HashMap;
+
+/// The states that were found, numbered in the order in which they were.
+#[derive(Drop)]
+pub struct States {
+    // Numbers of their parts.
+    numbers: Numbers,
+    // The key of each.
+    keys: Vec<Vec<u32>>,
+    // Their numbers, by their keys.
+    seen: HashMap<Vec<u32>, u32>,
+}
+
+// Whether a key that was found is this one.
+fn is_key(found: &Vec<u32>, key: &[u32]) -> bool
+    ensures { IsTrue result → found.now.items ≡ key.now }
+{
+    found.as_slice() == key
+}
+
+impl States {
+    /// No state.
+    pub fn new(alloc: Global) -> States {
+        States {
+            numbers: Numbers::new(alloc),
+            keys: Vec::new(alloc),
+            seen: HashMap::new(alloc),
+        }
+    }
+
+    /// How many there are.
+    pub fn len(&self) -> usize
+        ensures { result ≡ length (keys_of self.now) }
+    {
+        self.keys.len()
+    }
+
+    /// Whether there is none.
+    pub fn is_empty(&self) -> bool {
+        self.keys.is_empty()
+    }
+
+    /// The key of the state of a position. Errors are those of `Numbers::state`.
+    pub fn key(
+        &mut self,
+        alloc: Global,
+        position: &Position,
+        touched: &Touched,
+    ) -> Result<Vec<u32>, AllocError> {
+        self.numbers.state(alloc, position, touched)
+    }
+
+    /// The key of the state that a crash leaves of a position. Errors are those of `Numbers::state`.
+    pub fn crashed_key(
+        &mut self,
+        alloc: Global,
+        position: &Position,
+        touched: &Touched,
+    ) -> Result<Vec<u32>, AllocError> {
+        self.numbers.crashed(alloc, position, touched)
+    }
+
+    /// The number of the state with this key, if it was found.
+    pub fn find(&self, key: &[u32]) -> Option<u32>
+        ensures { IfSome result (λ number. slice_get (keys_of self.now) number ≡ Some key.now) }
+    {
+        let number = match self.seen.get(key) {
+            Some(number) => *number,
+            None => return None,
+        };
+        match self.keys.get(number as usize) {
+            Some(found) if is_key(found, key) => Some(number),
+            _ => None,
+        }
+    }
+
+    /// The state with this key is found now, under this number. An error means that an allocation failed.
+    pub fn add(&mut self, alloc: Global, key: Vec<u32>, number: u32) -> Result<(), AllocError> {
+        self.keys.push(Vec::from_slice(alloc, &key)?)?;
+        self.seen.insert(key, number)?;
+        Ok(())
+    }
+
+    /// The number of the state of a position, if it was found. An error means that an allocation failed.
+    pub fn number_of(
+        &self,
+        alloc: Global,
+        position: &Position,
+        touched: &Touched,
+    ) -> Result<Option<u32>, AllocError>
+        ensures { IfOk result (λ some. IfSome some (HasNumber self.now (groups_of touched.now) position.now)) }
+    {
+        let Some(key) = self.numbers.find(alloc, position, touched)? else {
+            return Ok(None);
+        };
+        Ok(self.find(&key))
+    }
+}
