@@ -93,7 +93,7 @@ const CONNECT_ABOUT: &str =
 const RUN_HELP: &str = "\
 Commands, one a line. P is a process, from 0; C is a cell, as A1.
   sheet COLUMNS ROWS PROCESSES   a new sheet; only as the first command; without it 2 2 2
-  layout N                       makes it in layout 1, of shorter texts, or in 2; first, or behind sheet
+  layout N                       makes it in layout 1, of shorter texts, or in 2; first, or after sheet
   set P C TEXT                   an edit: sets the text of a cell
   work P C                       works on a cell that is marked, and gives it its value
   settle P                       works until no cell is marked
@@ -105,7 +105,7 @@ The same in parts, with what may come between:
   begin P set C TEXT             begins an edit; so do begin P work C, begin P show (a report),
                                  begin P recover and begin P migrate for the other calls
   step P                         makes one step of its call
-  run P to POINT                 makes steps until its call has the point behind it
+  run P to POINT                 makes steps until its call has passed the point
   run P                          makes steps to the end of its call
   stop P                         stops it: its call is lost
   crash                          stops all; what is not persisted is lost
@@ -155,7 +155,7 @@ Functions: SUM MIN MAX COUNT AND OR of one argument or more, ranges among them;
 ABS and NOT of one; MOD and QUOTIENT of two; IF of two or three.
 Limits: 26 columns, 64 rows, 1024 cells; 240 bytes a text, 1048576 the grid.
 What is written is the values, as CSV. With --labels a field is written as it is, and counts as blank, that begins
-neither as a number nor as a formula does (=, a digit, or these behind spaces, tabs, signs or points): headings and names.
+neither as a number nor as a formula does (=, a digit, or these after spaces, tabs, signs or points): headings and names.
 Nothing is written where a fault is told:
   empty grid        no record
   bad csv           a record has another number of fields than the first
@@ -174,7 +174,7 @@ Exit status: 0 ended; 1 a fault in the grid; 2 wrong words on the command line;
 
 const EXPLORE_HELP: &str = "\
 The script begins calls and does not finish them, as \"begin 0 set A1 1\" and \"begin 1 work A1\". All orders of their
-steps are carried out; behind each end every process recovers, and the sheet is settled and reported by process 0.
+steps are carried out; after each end every process recovers, and the sheet is settled and reported by process 0.
 What is written is how many states and orders there are, and each different outcome once: how many orders lead to it,
 what is wrong with it, if anything is, and a shortest script, with what \"dsheet run\" answers it. A state that was seen
 before is not gone through again.
@@ -390,11 +390,11 @@ fn called<'a>(
 fn run_command<'a>(alloc: Global) -> Result<Command<'a>, AllocError>
     ensures { IfOk result (IsCommand run_app) }
 {
-    let stops_help = "Crashes the sheet behind each step, and writes what is told then";
+    let stops_help = "Crashes the sheet after each step, and writes what is told then";
     let file = input_argument(alloc, "The file of the script; - or none: standard input");
     let one = with_argument(Ok(run_alone(alloc)), file);
     let two = with_argument(one, flag(alloc, STOPS, stops_help));
-    let from_help = "With --stops: the first step behind which it is crashed";
+    let from_help = "With --stops: the first step after which it is crashed";
     let three = with_argument(two, number_option(alloc, "from", "1", from_help));
     let to_help = "With --stops: the last one; 0: to the end";
     let four = with_argument(three, number_option(alloc, "to", "0", to_help));

@@ -47,26 +47,26 @@ impl<'a> Options<'a> {
 
     // These and the one at the front of the words, and what is after it; none where it is no option.
     fn with(self, words: &'a [String]) -> Option<(Options<'a>, &'a [String])> {
-        let (name, behind) = words.split_first()?;
+        let (name, after) = words.split_first()?;
         let mut options = self;
         match name.as_str() {
             "--a1" => options.notation = Notation::A1,
             "--labels" => options.labels = true,
             "--stops" => options.stops = true,
             "--from" => {
-                options.from = behind.first()?.parse().ok()?;
-                return Some((options, behind.get(1..)?));
+                options.from = after.first()?.parse().ok()?;
+                return Some((options, after.get(1..)?));
             }
             "--to" => {
-                options.to = behind.first()?.parse().ok()?;
-                return Some((options, behind.get(1..)?));
+                options.to = after.first()?.parse().ok()?;
+                return Some((options, after.get(1..)?));
             }
             _ => {
                 options.file = self.first_file(name)?;
                 options.named = true;
             }
         }
-        Some((options, behind))
+        Some((options, after))
     }
 }
 

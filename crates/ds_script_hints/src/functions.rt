@@ -45,7 +45,7 @@ fn alike(one: &[u8], other: &[u8]) -> usize {
 }
 
 // What is left of two names after what they begin with alike.
-fn behind<'a>(one: &'a [u8], other: &'a [u8]) -> (&'a [u8], &'a [u8]) {
+fn unlike_parts<'a>(one: &'a [u8], other: &'a [u8]) -> (&'a [u8], &'a [u8]) {
     let count = alike(one, other);
     (
         one.get(count..).unwrap_or(&[]),
@@ -63,7 +63,7 @@ fn end_alike(one: Option<&[u8]>, other: Option<&[u8]>) -> bool {
 
 // Whether a name is another one but for one byte that is wrong, missing or too much, or two that are swapped.
 fn is_near(name: &[u8], other: &[u8]) -> bool {
-    let (own, wanted) = behind(name, other);
+    let (own, wanted) = unlike_parts(name, other);
     end_alike(own.get(1..), wanted.get(1..))
         || end_alike(own.get(1..), Some(wanted))
         || end_alike(Some(own), wanted.get(1..))

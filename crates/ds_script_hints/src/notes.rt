@@ -108,7 +108,7 @@ fn is_open(front: &[u8]) -> bool {
 }
 
 // What could stand after the front of a formula.
-fn due_behind<'a>(notation: Notation, front: &[u8]) -> TextNote<'a> {
+fn due_after<'a>(notation: Notation, front: &[u8]) -> TextNote<'a> {
     if ends_in_reference(front) {
         return TextNote::Reference;
     }
@@ -140,7 +140,7 @@ fn token_note<'a>(notation: Notation, text: &'a [u8], front: &[u8], rest: &[u8])
         }
         (_, [b'"' | b'\'', ..]) => TextNote::Quote,
         (_, [b'^' | b'&' | b'%' | b'!', ..]) => TextNote::NoOperator,
-        _ => due_behind(notation, front),
+        _ => due_after(notation, front),
     }
 }
 
@@ -149,7 +149,7 @@ fn end_note<'a>(notation: Notation, text: &'a [u8]) -> TextNote<'a> {
     if !is_formula(text) {
         return constant_note(text);
     }
-    match due_behind(notation, text) {
+    match due_after(notation, text) {
         TextNote::OperatorInside(_) => TextNote::Close,
         due => due,
     }
