@@ -1,13 +1,13 @@
 //! A copy of a store, which a server may have open.
 
 use crate::status::BAD_STORE;
-use crate::stores::{Disk, close, open_new, tell_error, tell_fault};
-use ds_store::backup::{BackupFault, back_up};
+use crate::stores::{close, open_new, tell_error, tell_fault};
+use ds_store::backup::lines_of;
 use ds_store::fault::StoreFault;
 use ds_store::open::Databases;
 use ds_store::snapshot::snapshot;
-use sqlite::{Connection, FileStore};
-use sqlite_disk::Memory;
+use ds_store::store::Store;
+use std::alloc::Global;
 use std::fs::{self, File, Files};
 use std::io;
 
@@ -53,6 +53,12 @@ fn read_image<R: AllocGlobal + Files>(
     }
 }
 
+// The lines of the store that these files hold.
+fn read_lines(alloc: Global, image: &Image) -> Result<Vec<String>, StoreFault> {
+    let mut conn = snapshot(alloc, &image.file, &image.log)?;
+    lines_of(alloc, &mut conn)
+}
+
 // Reads the files of a store as they are at one moment, whoever has them open. An error says that they cannot be read, or
 // that the log began anew each time.
 fn read_files<R: AllocGlobal + Files>(rt: &R, path: &str) -> io::Result<Image> {
@@ -70,18 +76,15 @@ fn read_files<R: AllocGlobal + Files>(rt: &R, path: &str) -> io::Result<Image> {
     Err(io::ErrorKind::ResourceBusy.into())
 }
 
-// The database of the store at this path, in memory, as it is at one moment. An error is the status, when standard error
-// has the reason.
-fn read_store<R: AllocGlobal + Eprint + Files>(
-    rt: &R,
-    path: &str,
-) -> Result<Connection<FileStore<Memory>>, u8> {
+// The lines of the store at this path, as they are at one moment. An error is the status, when standard error has the
+// reason.
+fn read_store<R: AllocGlobal + Eprint + Files>(rt: &R, path: &str) -> Result<Vec<String>, u8> {
     let image = match read_files(rt, path) {
         Ok(image) => image,
         Err(error) => return Err(tell_error(rt, path, &error)),
     };
-    match snapshot(rt.alloc(), &image.file, &image.log) {
-        Ok(conn) => Ok(conn),
+    match read_lines(rt.alloc(), &image) {
+        Ok(lines) => Ok(lines),
         Err(fault) => Err(tell_fault(rt, path, &fault)),
     }
 }
@@ -98,30 +101,27 @@ fn make_file<R: Eprint + Files<File = File>>(rt: &R, path: &str) -> Result<(), u
     }
 }
 
-// Copies a store into the empty file at this path, and gives the status.
+// Makes a store of these lines in the empty file at this path, and gives the status.
 fn fill<R: AllocGlobal + Eprint + Files<File = File> + Databases>(
     rt: &R,
-    path: &str,
-    from: &mut Connection<FileStore<Memory>>,
     copy: &str,
+    lines: Vec<String>,
 ) -> u8 {
-    let conn: Connection<Disk> = match open_new(rt, copy) {
+    let conn = match open_new(rt, copy) {
         Ok(conn) => conn,
         Err(status) => return status,
     };
-    match back_up(rt.alloc(), from, conn) {
+    match Store::of_lines(rt.alloc(), conn, lines) {
         Ok(opened) => close(rt, copy, opened.store),
-        Err(BackupFault::Store(fault)) => tell_fault(rt, path, &fault),
-        Err(BackupFault::Copy(fault)) => tell_fault(rt, copy, &fault),
+        Err(fault) => tell_fault(rt, copy, &fault),
     }
 }
 
 // Makes the files of the copy, and fills them; where that fails, they are removed.
 fn make_copy<R: AllocGlobal + Eprint + Files<File = File> + Databases>(
     rt: &R,
-    path: &str,
-    from: &mut Connection<FileStore<Memory>>,
     copy: &str,
+    lines: Vec<String>,
 ) -> u8 {
     let Ok(log) = format!(in rt.alloc(); "{copy}-wal") else {
         return tell_fault(rt, copy, &StoreFault::NoMemory);
@@ -133,7 +133,7 @@ fn make_copy<R: AllocGlobal + Eprint + Files<File = File> + Databases>(
         let _removed = fs::remove_file(rt, copy);
         return status;
     }
-    let status = fill(rt, path, from, copy);
+    let status = fill(rt, copy, lines);
     if status != 0 {
         let _removed = (fs::remove_file(rt, copy), fs::remove_file(rt, log.as_str()));
     }
@@ -148,7 +148,7 @@ pub fn backup<R: AllocGlobal + Eprint + Files<File = File> + Databases>(
     copy: &str,
 ) -> u8 {
     match read_store(rt, path) {
-        Ok(mut conn) => make_copy(rt, path, &mut conn, copy),
+        Ok(lines) => make_copy(rt, copy, lines),
         Err(status) => status,
     }
 }
