@@ -192,7 +192,7 @@ def refusals():
     given = "begin 0 set A1 1\n" + f"{asked}step 0\n" * 20 + "".join(f"begin 0 set A1 {text}\n" for text, _ in texts)
     answers = "0 begun 0\n" + f"{told}0 stepped\n" * 19 + f"{told}0 0 done\n"
     answers += "".join(f"0 refused 1 {fault}\n" for _, fault in texts)
-    yield row("refusals at each step of an edit", "run", given.encode(), answers.encode())
+    yield row("refusals at each step of an edit", "run", given.encode(), answers.encode(), "line 3: NotWhole 2")
 
 
 def records():
@@ -204,12 +204,13 @@ def records():
         given += "begin 0 set A1 1\n" + "step 0\n" * steps
         answers += f"0 begun {number}\n" + stepped(0, steps, steps, f"{number} done")
     given += "word head A1\nbegin 0 set A1 2\nbegin 0 set A2\nbegin 0 set A1 =1.5\n"
+    said = f"line {given.count(chr(10))}: NotWhole 2"
     answers += "16777471 16777471\n0 refused 4 RecordsFull\n0 refused 4 RecordsFull\n0 refused 1 NotWhole 2\n"
     given += "".join(f"word done 0 {part}\n" for part in range(4))
     answers += f"{full} {full}\n" * 3 + f"{full // 2} {full // 2}\n"
     given += "begin 1 set A1 3\n" + "step 1\n" * 25 + "word done 0 3\npeek A1\n"
     answers += "1 begun 0\n" + stepped(1, 25, 25, "0 done") + f"{full} {full}\nA1 dirty blank 3\n"
-    yield row("256 edits step by step", "run", given.encode(), answers.encode())
+    yield row("256 edits step by step", "run", given.encode(), answers.encode(), said)
 
 
 # 120 bytes, so that each part of the record has some.

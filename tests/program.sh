@@ -181,6 +181,7 @@ notes '=1/2' 'BadToken 2' '  ^' 'no / here: QUOTIENT(1;2), or MOD(1;2) for the r
 
 # Each text that is refused is shown, and none of a call that is refused for something else.
 shows 'begin 0 set A1 1\nset 0 A1 =1.5\nset 1 A1 =1/2\nbegin 1 set B1 2.5\nrun 0\n' 'line 3: BadToken 2\n    set 1 A1 =1/2\n               ^ no / here: QUOTIENT(1;2), or MOD(1;2) for the remainder\nline 4: NotWhole 1\n    begin 1 set B1 2.5\n                    ^ numbers are whole\n'
+shows 'begin 0 set A1 1\nset 0 A1 =1.5\nset 1 A1 =1.5\n' 'line 3: NotWhole 2\n    set 1 A1 =1.5\n               ^ numbers are whole\n'
 shows 'set 0 A1 x\nfly\nset 0 A1 y\n' 'line 2: unknown command\n    fly\n    ^ expected: a command, as set, work, report or crash\nline 1: BadToken 0\n    set 0 A1 x\n             ^ no number; a formula begins with =\n'
 
 shows 'set 0 A1 =[.B1]+B2*A1\n' 'line 1: UnknownFunction 7\n    set 0 A1 =[.B1]+B2*A1\n                    ^ references are written [.A1]; --a1 reads A1\n'

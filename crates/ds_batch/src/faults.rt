@@ -1,5 +1,6 @@
 //! What is reported of a line with a fault.
 
+use crate::refusals::RefusedText;
 use ds_a1::notation::Notation;
 use ds_a1_script::lines::Commands;
 use ds_formula::fault::TextFault;
@@ -7,7 +8,8 @@ use ds_sched::ScriptFault;
 use ds_script_hints::excerpt::excerpt_of;
 use ds_script_hints::hint::layout_of;
 use ds_script_hints::texts::{refused_excerpt, refused_text, refused_with};
-use ds_script_io::line::{NextLine, next_line};
+use ds_script_io::line::{NextLine, next_line, word};
+use std::str;
 
 /// Shows on standard error the line of a script that has ended it, with what was expected in it.
 pub fn show_line(rt: &impl Eprint, script: &[u8], line: usize, fault: ScriptFault) {
@@ -32,24 +34,33 @@ pub fn show_refused<R: AllocGlobal + Eprint>(
     };
 }
 
-/// Reports on standard error the lines of a script in this notation whose texts its answers refuse with these faults, in
-/// their order, with what is wrong in each.
+// The process that a line names by its second word.
+fn process_of(line: &[u8]) -> Option<usize> {
+    let (_, words) = word(line);
+    str::from_utf8(word(words?).0).ok()?.parse().ok()
+}
+
+/// Reports on standard error the lines of a script in this notation whose texts its answers refuse, in their order, with
+/// what is wrong in each.
 pub fn show_answered<R: AllocGlobal + Eprint>(
     rt: &R,
     notation: Notation,
     script: &[u8],
-    faults: &[TextFault],
+    texts: &[RefusedText],
 ) {
     let shape = layout_of(script).shape;
-    let (mut rest, mut left) = (script, faults);
+    let (mut rest, mut left) = (script, texts);
     for number in 1..=script.len() {
-        let (NextLine::Line(line, behind), [fault, others @ ..]) = (next_line(rest, true), left)
+        let (NextLine::Line(line, behind), [text, others @ ..]) = (next_line(rest, true), left)
         else {
             return;
         };
-        if let Some(excerpt) = refused_with(rt.alloc(), notation, &shape, line, *fault) {
-            let _reported = eprintln!(rt; "line {number}: {fault}\n{excerpt}");
-            left = others;
+        if process_of(line) == Some(text.process) {
+            let RefusedText { process: _, fault } = *text;
+            if let Some(excerpt) = refused_with(rt.alloc(), notation, &shape, line, fault) {
+                let _reported = eprintln!(rt; "line {number}: {fault}\n{excerpt}");
+                left = others;
+            }
         }
         rest = behind;
     }

@@ -8,25 +8,35 @@ use std::alloc::Global;
 use std::io::{self, Write};
 use std::str;
 
+/// A text that an answer refuses.
+#[derive(Clone, Copy, Debug)]
+pub struct RefusedText {
+    /// The process that it was of.
+    pub process: usize,
+    /// What is wrong with it.
+    pub fault: TextFault,
+}
+
 /// The texts that answers of a script refuse.
 #[derive(Debug, Drop)]
 pub struct Refusals {
     // What has come of a line that has not ended.
     line: Vec<u8>,
-    faults: Vec<TextFault>,
+    texts: Vec<RefusedText>,
 }
 
-// The fault of the text that this line of answers refuses: `P refused 1 KIND OFFSET`.
-fn text_fault(line: &[u8]) -> Option<TextFault> {
+// The text that this line of answers refuses: `P refused 1 KIND OFFSET`.
+fn refused_text(line: &[u8]) -> Option<RefusedText> {
     let mut words = str::from_utf8(line).ok()?.split_ascii_whitespace();
-    let _process = words.next()?;
+    let process = words.next()?.parse().ok()?;
     if words.next()? != "refused" || words.next()? != "1" {
         return None;
     }
-    Some(TextFault {
+    let fault = TextFault {
         kind: kind_named(words.next()?)?,
         offset: words.next()?.parse().ok()?,
-    })
+    };
+    Some(RefusedText { process, fault })
 }
 
 impl Refusals {
@@ -34,19 +44,19 @@ impl Refusals {
     pub fn new(alloc: Global) -> Refusals {
         Refusals {
             line: Vec::new(alloc),
-            faults: Vec::new(alloc),
+            texts: Vec::new(alloc),
         }
     }
 
-    /// The faults of the texts that were refused, in the order of the answers, as far as memory was there for them.
-    pub fn faults(&self) -> &[TextFault] {
-        &self.faults
+    /// The texts, in the order of the answers, as far as memory was there for them.
+    pub fn texts(&self) -> &[RefusedText] {
+        &self.texts
     }
 
     // Takes note of a line that has ended.
     fn end_line(&mut self) {
-        if let Some(fault) = text_fault(&self.line) {
-            let _kept = self.faults.push(fault);
+        if let Some(text) = refused_text(&self.line) {
+            let _kept = self.texts.push(text);
         }
         self.line.clear();
     }

@@ -153,7 +153,7 @@ fn run_a1<R: AllocGlobal + Print + Eprint, I: Read + Drop>(rt: &R, input: I) -> 
         run_script(rt.alloc(), &mut reader, &mut writer)
     };
     let status = script.conclude(rt, &end);
-    show_answered(rt, Notation::A1, &script.script, refusals.faults());
+    show_answered(rt, Notation::A1, &script.script, refusals.texts());
     status
 }
 
@@ -170,7 +170,7 @@ fn run_open<R: AllocGlobal + Print + Eprint, I: Read + Drop>(rt: &R, input: I) -
         run_script(rt.alloc(), &mut reader, &mut writer)
     };
     print_end(rt, &end, &script);
-    show_answered(rt, Notation::OpenFormula, &script, refusals.faults());
+    show_answered(rt, Notation::OpenFormula, &script, refusals.texts());
     script_status(&end)
 }
 
