@@ -34,7 +34,8 @@ struct Successor {
 // A position whose successors are gone through.
 #[derive(Drop)]
 struct Visit {
-    position: Position,
+    // The position, as long as something has not happened in it.
+    position: Option<Position>,
     // What has not yet happened in it.
     ahead: Vec<Successor>,
 }
@@ -269,6 +270,17 @@ fn mark(
 }
 
 impl Visit {
+    // The position, for what happens next in it: a copy as long as more has not happened.
+    fn position(&mut self, alloc: Global) -> Result<Option<Position>, AllocError> {
+        if self.ahead.is_empty() {
+            return Ok(self.position.take());
+        }
+        match &self.position {
+            Some(position) => Ok(Some(position.copy(alloc)?)),
+            None => Ok(None),
+        }
+    }
+
     // The next position whose state is not marked; none where all are.
     fn next(&mut self, alloc: Global, marks: &[bool]) -> Result<Option<Position>, AllocError> {
         for _ in 0..u64::MAX {
@@ -276,7 +288,9 @@ impl Visit {
                 return Ok(None);
             };
             if marks.get(successor.to as usize) == Some(&false) {
-                let mut after = self.position.copy(alloc)?;
+                let Some(mut after) = self.position(alloc)? else {
+                    return Ok(None);
+                };
                 after.apply(alloc, successor.by)?;
                 return Ok(Some(after));
             }
@@ -323,7 +337,10 @@ fn marks(alloc: Global, found: Found<'_>, first: &Position) -> Result<Vec<bool>,
     let mut position = first.copy(alloc)?;
     for _ in 0..u64::MAX {
         if let Some(ahead) = mark(alloc, found, &position, &mut marks)? {
-            visits.push(Visit { position, ahead })?;
+            visits.push(Visit {
+                position: Some(position),
+                ahead,
+            })?;
         }
         match next(alloc, &mut visits, &marks)? {
             Some(after) => position = after,
