@@ -407,9 +407,22 @@ def check_backup(program, folder, store):
     expect_no_copy("backup to no folder", program, store, os.path.join(folder, "no folder", "copy.db"), 3, "copy.db")
 
 
+def outcome_of(lines):
+    """How many edits each process has made by the lines of a store, and the text of each cell that has one."""
+    counts, texts = [0] * PROCESSES, {}
+    for line in lines:
+        words = line.split(" ", 3)
+        if words[0] == "set":
+            counts[int(words[1])] += 1
+            texts[words[2]] = words[3]
+        elif line.startswith("# before "):
+            counts[int(words[2])] = int(words[3].split()[0])
+    return counts, texts
+
+
 def check_backup_beside(program, folder, backups, draw):
-    """Backups beside a server under edits: each opens, has every edit that was answered before it began, and has the first
-    lines of what the store has in the end."""
+    """Backups beside a server under edits: each opens, has every edit that was answered before it began, and the texts
+    that as many edits have made."""
     store, link = os.path.join(folder, "busy.db"), os.path.join(folder, "link.db")
     os.symlink(store, link)
     server, port = start(program, store)
@@ -427,10 +440,9 @@ def check_backup_beside(program, folder, backups, draw):
             raise Failed(f"a backup beside a server: status {said.returncode}: {said.stderr}")
         busy += any(thread.is_alive() for thread in threads)
         said = run(program, "check", copy)
-        counts = [int(line.split()[2]) for line in said.stdout.splitlines() if line.startswith("process ")]
-        if said.returncode != 0 or len(counts) != PROCESSES or any(has < told for has, told in zip(counts, answered)):
-            raise Failed(f"a backup beside a server: {counts} edits, {answered} were answered: {said.stderr}")
-        copies.append(copy)
+        if said.returncode != 0:
+            raise Failed(f"a backup beside a server: check says {said.stdout}{said.stderr}")
+        copies.append((copy, answered))
     enough.set()
     for thread in threads:
         thread.join()
@@ -438,11 +450,14 @@ def check_backup_beside(program, folder, backups, draw):
     for client in clients:
         if client.wrong:
             raise client.wrong
-    whole = lines_in(store)
-    for copy in copies:
-        lines = lines_in(copy)
-        if lines != whole[: len(lines)]:
-            raise Failed("a backup beside a server has lines that the store has not")
+    for copy, answered in copies:
+        counts, texts = outcome_of(lines_in(copy))
+        for client, told, count in zip(clients, answered, counts):
+            if not told <= count <= len(client.told):
+                raise Failed(f"a backup beside a server: {count} edits of process {client.process}, {told} were answered")
+            wanted = dict(client.told[:count])
+            if {cell: text for cell, text in texts.items() if cell[0] == chr(65 + client.process)} != wanted:
+                raise Failed(f"a backup beside a server has other texts than {count} edits of process {client.process} made")
     if busy == 0:
         raise Failed("no backup was made while clients edited")
     pass_rows(f"{backups} backups beside a server, {busy} under edits, {sum(len(client.told) for client in clients)} edits answered", backups)
