@@ -382,6 +382,8 @@ def check_backup(program, folder, store):
     with open(copy, "rb") as it:
         held = it.read()
     expect("backup over a store", run(program, "backup", store, copy), 1, "already")
+    if not os.path.exists(copy):
+        raise Failed("a backup over a store has removed it")
     with open(copy, "rb") as it:
         if it.read() != held:
             raise Failed("a backup over a store has changed it")
