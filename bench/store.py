@@ -53,8 +53,7 @@ def edit_times(program, store):
     """How long each edit of one process takes, in a sheet whose cells all have texts, in seconds."""
     server, port = serve(program, 1, store)
     times = []
-    with socket.create_connection(("127.0.0.1", port)) as link:
-        stream = link.makefile("rw")
+    with socket.create_connection(("127.0.0.1", port)) as link, link.makefile("rw") as stream:
         for number in range(-1, CELLS + MORE):
             cell = f"{chr(65 + number % 16)}{number // 16 % 64 + 1}"
             call = f'{{"op":"set","cell":"{cell}","text":"{number}"}}' if number >= 0 else '{"op":"join","process":0}'
