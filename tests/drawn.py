@@ -454,9 +454,9 @@ class Script:
             ran = subprocess.run([program, "run"], input=given.encode(), capture_output=True, timeout=SECONDS)
         except subprocess.TimeoutExpired:
             return f"no end after {SECONDS} seconds"
-        if ran.returncode or ran.stderr:
-            return f"status {ran.returncode}; standard error: {ran.stderr[:300]!r}"
         lines = ran.stdout.decode(errors="replace").split("\n")[:-1]
+        if ran.returncode or values.faults_shown(ran.stderr.decode()) != values.faults_answered(lines):
+            return f"status {ran.returncode}; standard error: {ran.stderr[:300]!r}"
         pairs = enumerate(zip_longest(self.answers, lines, fillvalue=None))
         differs = next((at for at, (wanted, answered) in pairs if not wanted or wanted[1] != answered), None)
         if differs is None:

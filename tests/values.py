@@ -1,10 +1,21 @@
 """A second way to evaluate the texts that the tests draw, which shares no code with the program: whole numbers; sums of
-products, of numbers and cells, from the left; SUM of a range and a number; a division by zero. Used by drawn.py and by
-steps.py."""
+products, of numbers and cells, from the left; SUM of a range and a number; a division by zero. And the faults of texts,
+as answers and standard error have them. Used by drawn.py and by steps.py."""
 import re
 from functools import lru_cache
 
 DIVISION_TEXT, DIVISION, OVERFLOW, CIRCLE = "=MOD(1;0)", "#DIV/0!", "#NUM!", "Err:522"
+
+
+def faults_answered(lines):
+    """The faults of texts that a script was answered, each with its offset."""
+    return [line.split(" refused 1 ")[1] for line in lines if " refused 1 " in line]
+
+
+def faults_shown(said):
+    """Those that standard error shows; something else, where it has more than these and what belongs to them."""
+    others = [line for line in said.splitlines() if not line.startswith(("line ", " "))]
+    return others or re.findall(r"(?m)^line \d+: (.+)$", said)
 
 
 def references(text):
