@@ -1,8 +1,10 @@
 #!/usr/bin/env python3
-"""Prints how many edits a second a server makes with and without a store, by the number of clients, how long a store
-with all its edits takes to open, and how long an edit waits while the server goes over to a new sheet.
+"""Prints how many edits a second a server makes with a store in memory and in a file, and a plain program with the same
+transactions, by the number of clients; how long a store with all its edits takes to open, and how long an edit waits while the
+server goes over to a new sheet.
 
-store.py PROGRAM CLIENTS RUNS     the program, the built clients.cpp, and how many runs of each, which take turns
+store.py PROGRAM CLIENTS PLAIN RUNS     the program, the built clients.cpp and plain_store.cpp, and how many runs of each, which
+                                        take turns
 """
 import os
 import socket
@@ -24,12 +26,17 @@ def serve(program, sessions, store):
     """Starts a server that ends after this number of sessions; returns it and its port."""
     words = [program, "serve", "--listen", "127.0.0.1:0", *SHAPE, "--sessions", str(sessions)]
     words += ["--store", store] if store else []
+    return started(words)
+
+
+def started(words):
+    """Starts a server; returns it and the port that it tells."""
     server = subprocess.Popen(words, stdin=subprocess.DEVNULL, stderr=subprocess.PIPE, text=True)
     return server, int(server.stderr.readline().rsplit(":", 1)[1])
 
 
-def edits_a_second(program, clients_program, clients, store):
-    server, port = serve(program, clients, store)
+def edits_a_second(begun, clients_program, clients):
+    server, port = begun
     try:
         asked = [clients_program, str(port), str(clients), str(EDITS)]
         return 1e6 / float(subprocess.run(asked, stdout=subprocess.PIPE, check=True, timeout=120).stdout)
@@ -67,27 +74,30 @@ def edit_times(program, store):
 
 
 def main():
-    program, clients_program, runs = sys.argv[1], sys.argv[2], int(sys.argv[3])
-    rates = {(clients, kept): [] for clients in CLIENTS for kept in (False, True)}
+    program, clients_program, plain, runs = *sys.argv[1:4], int(sys.argv[4])
+    rates = {(clients, kind): [] for clients in CLIENTS for kind in ("memory", "file", "plain")}
     opened = []
     with tempfile.TemporaryDirectory() as folder:
         for run in range(runs):
-            for clients, kept in rates:
-                store = os.path.join(folder, f"{run}-{clients}.db") if kept else None
-                rates[clients, kept].append(edits_a_second(program, clients_program, clients, store))
-            opened.append(seconds_to_open(program, os.path.join(folder, f"{run}-8.db")))
-    one = statistics.median(rates[1, True])
-    print("| Clients | edits a second, no store | with a store | to one client with a store |")
-    print("|---|---|---|---|")
+            for clients, kind in rates:
+                store = os.path.join(folder, f"{run}-{clients}-{kind}.db")
+                if kind == "plain":
+                    begun = started([plain, store, str(clients)])
+                else:
+                    begun = serve(program, clients, store if kind == "file" else None)
+                rates[clients, kind].append(edits_a_second(begun, clients_program, clients))
+            opened.append(seconds_to_open(program, os.path.join(folder, f"{run}-8-file.db")))
+    print("| Clients | in memory | in a file | plain | ratio |")
+    print("|---|---|---|---|---|")
     for clients in CLIENTS:
-        alone, kept = (statistics.median(rates[clients, it]) for it in (False, True))
-        print(f"| {clients} | {alone:,.0f} | {kept:,.0f} | {kept / one:.1f} |")
+        memory, kept, beside = (statistics.median(rates[clients, it]) for it in ("memory", "file", "plain"))
+        print(f"| {clients} | {memory:,.0f} | {kept:,.0f} | {beside:,.0f} | {kept / beside:.2f} |")
     with tempfile.TemporaryDirectory() as folder:
         times = sorted(edit_times(program, os.path.join(folder, "full.db")))
     changes = times[-(MORE // ROOM):]
     print(f"\nAn edit that waits until the server has gone over to a new sheet with {CELLS:,} texts takes "
           f"{statistics.median(changes) * 1000:.0f} ms, another one {statistics.median(times) * 1000:.1f} ms.")
-    print(f"\nA store of {8 * EDITS:,} edits is open {statistics.median(opened) * 1000:.0f} ms behind the start of its server.")
+    print(f"\nA store of {8 * EDITS:,} edits is open {statistics.median(opened) * 1000:.0f} ms after the start of its server.")
 
 
 main()

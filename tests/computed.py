@@ -130,9 +130,9 @@ def stops():
     """An edit of a number has 20 steps and is kept after 13, one of a reference 23 and 16. A fault comes after it."""
     yield row("stops of a number", "run --stops", b"set 0 A1 7\n", blocks("A1", "7,\n,\n", 13, 20))
     yield row("stops of a reference", "run --stops", b"set 0 B1 =[.A1]\n", blocks("B1", ",0\n,\n", 16, 23))
-    for first, last in ((1, None), (0, 3), (1, 1), (9, 13), (19, 21), (20, None), (21, None), (5, 4), (2, 65_535)):
+    for first, last in ((1, None), (1, 3), (1, 1), (9, 13), (19, 21), (20, None), (21, None), (5, 4), (2, 65_535)):
         words = f"run --stops --from {first}" + (f" --to {last}" if last is not None else "")
-        told = blocks("A1", "7,\n,\n", 13, min(20 if last is None else last, 20), max(first, 1))
+        told = blocks("A1", "7,\n,\n", 13, min(20 if last is None else last, 20), first)
         yield row(words, words, b"set 0 A1 7\nfly\n", told, "line 2: unknown command", 1)
 
 
@@ -157,9 +157,9 @@ def sessions():
     yield row("a session within its limit", "serve", lines, not_json * 1024)
     yield row("a session over it", "serve", lines + b"\n", not_json * 1024 + refusal(17, "too-long"))
     join, edit = b'{"op":"join","process":0}\n', b'{"op":"set","cell":"A1","text":"1"}\n'
-    told = b'{"last":null,"ok":"join","process":0}\n' + b"".join(b'{"number":%d,"ok":"done"}\n' % k for k in range(256))
-    last = b'{"last":{"cell":"A1","number":255,"outcome":"done"},"ok":"last"}\n'
-    yield row("257 edits", "serve", join + edit * 257 + b'{"op":"last"}\n', told + refusal(14, "records-full") + last)
+    told = b'{"last":null,"ok":"join","process":0}\n' + b"".join(b'{"number":%d,"ok":"done"}\n' % k for k in range(600))
+    last = b'{"last":{"cell":"A1","number":599,"outcome":"done"},"ok":"last"}\n'
+    yield row("600 edits", "serve", join + edit * 600 + b'{"op":"last"}\n', told + last)
 
 
 def stepped(process, steps, last, answer):

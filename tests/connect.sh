@@ -15,6 +15,7 @@ evidence() { head -c 2000 "$room"/log "$room"/said 2>/dev/null || true; }
 
 # Starts a server at this port, with its store, and waits until it listens.
 start() {
+    : >"$room/log"
     "$program" serve --listen "127.0.0.1:$1" --forever --store "$room/sheet.db" </dev/null >/dev/null 2>"$room/log" 8>&- &
     server=$!
     for _ in $(seq 400); do
@@ -77,6 +78,40 @@ printf 'set A1 1\nset A1 =B1\n' | "$program" connect "127.0.0.1:$port" --process
 grep -q 'references are written \[\.A1\]; --a1 reads A1$' "$room/said" || fail "a reference without brackets: $(cat "$room/said")"
 passed "a reference without brackets"
 
+# Servers that are none: what they say is not shown, and ends the client.
+hostile() {
+    python3 -c '
+import socket, sys, time
+listener = socket.create_server(("127.0.0.1", 0))
+print(listener.getsockname()[1], flush=True)
+client, _ = listener.accept()
+stream = client.makefile("rw")
+for answer in sys.argv[1:]:
+    stream.readline()
+    stream.write(answer + "\n")
+    stream.flush()
+stream.readline()
+time.sleep(20)
+' "${@:2}" >"$room/at" &
+    local none=$! status=0
+    for _ in $(seq 400); do
+        [ -s "$room/at" ] && break
+        sleep 0.05
+    done
+    printf 'report\nlast\n' | timeout 60 "$program" connect --timeout 1 "127.0.0.1:$(cat "$room/at")" >"$room/out" 2>"$room/said" || status=$?
+    kill $none 2>/dev/null || true
+    wait $none 2>/dev/null || true
+    [ "$status" = 3 ] || fail "$1: status $status: $(cat "$room/out" "$room/said")"
+    if grep -q '[^[:print:]]' "$room/out" || grep -q 'done done' "$room/out"; then fail "$1: $(cat "$room/out")"; fi
+    passed "$1"
+}
+joined='{"last":null,"ok":"join","process":0}'
+hostile "a cell that is two lines" '{"last":{"cell":"A1\u001b[31m\n0 0 done","number":0,"outcome":"done"},"ok":"join","process":0}'
+hostile "a value with a control character" "$joined" '{"ok":"settled","rows":[["\u001b[31m"]]}'
+hostile "an edit's answer to a report" "$joined" '{"number":0,"ok":"done"}'
+hostile "a server that says nothing" "$joined"
+grep -q 'no answer within 1 seconds' "$room/said" || fail "a server that says nothing: $(cat "$room/said")"
+
 # The server is killed, and started again at its port: the client joins anew, and is shown its last edit.
 mkfifo "$room/control"
 "$program" connect "127.0.0.1:$port" --process 0 <"$room/control" >"$room/out" 2>"$room/said" &
@@ -98,6 +133,27 @@ wait "$client" || fail "the client: status $?"
 printf '0 last 0 A1 done\n0 1 done\n0 last 1 B2 done\nsettled\n1,7\n7,40\n' >"$room/wanted"
 cmp "$room/out" "$room/wanted" || fail "behind a kill: $(cat "$room/out")"
 passed "a server that is killed and started again"
+
+# The same, and its log is gone: the client says that an edit is lost that was answered done.
+"$program" connect "127.0.0.1:$at" --process 0 <"$room/control" >"$room/out" 2>"$room/said" &
+client=$!
+exec 8>"$room/control"
+lines 1
+echo 'set B2 41' >&8
+lines 2
+{
+    kill -9 "$server"
+    wait "$server" || true
+} 2>/dev/null
+rm "$room/sheet.db-wal"
+start "$at"
+echo 'report' >&8
+exec 8>&-
+status=0
+wait "$client" || status=$?
+[ "$status" = 3 ] || fail "a log that is gone: status $status"
+grep -q '^dsheet: the server has lost edits: it had answered that edit 2 is done$' "$room/said" || fail "a log that is gone: $(cat "$room/said")"
+passed "a log that is gone"
 
 # A server that breaks off after an edit: the client joins again and shows what its recovery reports; it sends no edit twice.
 python3 -c '

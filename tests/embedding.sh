@@ -9,14 +9,9 @@
 cd "$(dirname "$0")/.."
 out=crates/ds_c/out
 
-# Whether the archive was built of the sources as they stand.
-is_built() {
-    [ -f "$out/libds_c.a" ] && [ -z "$(find crates crates.txt -name out -prune -o -type f -newer "$out/libds_c.a" \
-        \( -name '*.rt' -o -name '*.antt' -o -name crates.txt \) -print -quit)" ]
-}
-
+. tests/built.sh
 if [ "${1-}" = --is-built ]; then
-    is_built
+    is_built "$out/libds_c.a"
     exit
 fi
 . tests/rows.sh embedding
@@ -30,8 +25,8 @@ same() {
     passed "$1"
 }
 
-is_built || fail "the library for C is not built of the sources as they stand: (cd crates/ds_c && rt lib)"
-make -s -C examples/c clean all
+is_built "$out/libds_c.a" || fail "the library for C is not built of the sources as they stand: (cd crates/ds_c && rt lib)"
+make -s -C examples/c clean sheet
 "$out/crash" >"$work/c"
 same "examples/c/crash" examples/c/crash.stdout "$work/c"
 python3 examples/python/dsheet.py >"$work/python"

@@ -6,6 +6,7 @@ its memory, but for 1 MB (16 of an unproved program, whose checks keep some: --q
 """
 import os
 import re
+import resource
 import socket
 import struct
 import subprocess
@@ -15,6 +16,10 @@ import time
 import traceback
 
 AT_ONCE, CLIENTS, CROWD, KILLED = 16, 2000, 200, 100
+# The status of a program whose libraries the system could not load.
+NOT_LOADED = 127
+# About as many descriptors as a server has with one client, so that there is none for a second.
+DESCRIPTORS = range(6, 9)
 JOIN, BUSY = '{"op":"join","process":%d}', '{"code":16,"error":"busy"}'
 passed = 0
 
@@ -178,10 +183,63 @@ def load(server, kilobytes):
     pass_row("its end within five seconds, beside clients that say and take a little, again and again")
 
 
+def check_threads(program):
+    """A server with too little room for a thread ends by itself, or at least when it is asked to stop. With less room still
+    the system cannot load it."""
+    ends = {}
+    for kilobytes in range(6000, 20000, 1000):
+        bound = (kilobytes * 1024,) * 2
+        words = [program, "serve", "--listen", "127.0.0.1:0", "--forever"]
+        pipes = {"stdin": subprocess.PIPE, "stderr": subprocess.DEVNULL, "text": True}
+        server = subprocess.Popen(words, preexec_fn=lambda: resource.setrlimit(resource.RLIMIT_AS, bound), **pipes)
+        try:
+            server.wait(timeout=0.5)
+            server.stdin.close()
+        except subprocess.TimeoutExpired:
+            server.communicate("stop\n", timeout=10)
+        ends[kilobytes] = server.returncode
+    ends = {kilobytes: status for kilobytes, status in ends.items() if status != NOT_LOADED}
+    assert set(ends.values()) <= {0, 3, 4}, f"a server with little room: {ends}"
+    assert 4 in ends.values() and 0 in ends.values(), f"a server with little room: {ends}"
+    pass_row("with no room for a thread it ends")
+
+
+def short_lines(program, descriptors):
+    """How often the log of a server with this many descriptors says that there are too few for connections; nothing where it
+    cannot listen with them."""
+    words = [program, "serve", "--listen", "127.0.0.1:0", "--forever", "--log", "warn"]
+    pipes = {"stdin": subprocess.PIPE, "stderr": subprocess.PIPE, "text": True}
+    bound = (descriptors, descriptors)
+    server = subprocess.Popen(words, preexec_fn=lambda: resource.setrlimit(resource.RLIMIT_NOFILE, bound), **pipes)
+    listening = next((line for line in iter(server.stderr.readline, "") if "listening on" in line), None)
+    if listening is None:
+        server.communicate(timeout=20)
+        return None
+    port = int(listening.rsplit(":", 1)[1])
+    for _ in range(8):
+        clients = [socket.create_connection(("127.0.0.1", port), timeout=20) for _ in range(12)]
+        time.sleep(0.3)
+        for client in clients:
+            client.close()
+    _out, log = server.communicate("stop\n", timeout=20)
+    assert server.returncode == 0, server.returncode
+    return log.count("Too many open files")
+
+
+def check_shortage(program):
+    """Connections beyond the descriptors that a server may have: the log has that once, not each time."""
+    counts = {descriptors: short_lines(program, descriptors) for descriptors in DESCRIPTORS}
+    assert max(it for it in counts.values() if it is not None) == 1, f"lines by descriptors: {counts}"
+    pass_row("a shortage of descriptors is one line in the log")
+
+
 def main(*words):
     server, failed = Server(os.path.realpath(words[-1])), 0
     try:
         load(server, 16384 if words[0] == "--quick" else 1024)
+        if words[0] != "--quick":
+            check_threads(os.path.realpath(words[-1]))
+            check_shortage(os.path.realpath(words[-1]))
     except (AssertionError, OSError, subprocess.TimeoutExpired) as wrong:
         own = [it for it in traceback.extract_tb(wrong.__traceback__) if it.filename.endswith("load.py")]
         print(f"tests/load.py:{own[-1].lineno}: {wrong!r}", file=sys.stderr)

@@ -61,7 +61,7 @@ done
 version=$("$program" --version)
 [[ $version =~ ^dsheet\ [0-9]+\.[0-9]+\.[0-9]+$ ]] || fail "--version: it printed '$version'"
 passed "the version"
-for words in run "run --stops" report; do
+for words in run "run --strict" "run --stops" report "report --json" "import --csv $room/none.db"; do
     # shellcheck disable=SC2086
     on / $words
     expect "$words: a read that fails" "$status" 3 "dsheet: .*"
@@ -74,6 +74,8 @@ onto_full /dev/null --help
 expect "help: a full device" "$status" 3 "dsheet: standard output: .*"
 onto_full examples/grid report
 expect "report: a full device" "$status" 3 "dsheet: .*"
+onto_full examples/grid report --json
+expect "report --json: a full device" "$status" 3 "dsheet: .*"
 head -c 1048577 /dev/zero | tr '\0' '\n' >"$room/long"
 on "$room/long" run
 expect "a script over its limit" "$status" 3 "dsheet: .*"
@@ -140,6 +142,10 @@ shows '1,2\n3\n' 'bad csv\nrecord 2 has 1 fields, the first one 2\n' report
 "$program" run --stops --from 19 --to 20 <examples/stops >"$said"
 "$program" run --stops <examples/stops | sed -n '/^stop 19$/,/^stop 21$/p' | grep -v '^stop 21$' | cmp - "$said"
 passed "run --stops --from 19 --to 20"
+on examples/stops run --stops --from 0
+expect "run --stops --from 0" "$status" 2 'dsheet: --from: from 1 to 65535'
+on examples/stops explore --most 0
+expect "explore --most 0" "$status" 2 'dsheet: --most: from 1 to 65535 thousand states'
 
 # What is said of a text, beside its fault: what could stand there, or what is near.
 known='known are SUM, MIN, MAX, COUNT, AND, OR, NOT, ABS, MOD, QUOTIENT and IF'
@@ -189,6 +195,11 @@ shows 'set 0 A1 1\nset 0 A1 =B1+[.B2]\n' 'line 2: BadToken 4\n    set 0 A1 =B1+[
 shows '1,=A1\n' 'cell B1: UnknownFunction 1\n  line 1, column 3\n    =A1\n     ^ references are written [.A1]; --a1 reads A1\n' report
 shows '1,=A1*FOO(1)\n' 'cell B1: UnknownFunction 7\n  line 1, column 3\n    =A1*FOO(1)\n        ^ FOO is unknown; '"$known"'\n' 'report --a1'
 
+# A strict run says how many of its answers are refusals, after each text that is one.
+shows 'set 0 A1 7.5\nbegin 0 set A1 1\nset 0 A1 2\n' 'line 1: NotWhole 1\n    set 0 A1 7.5\n              ^ numbers are whole\nrefusals: 2\n' 'run --strict'
+shows 'set 0 A1 7.5\n' 'line 1: NotWhole 1\n    set 0 A1 7.5\n              ^ numbers are whole\nrefusals: 1\n' 'run --strict --stops'
+shows 'set 0 A1 7\n' '' 'run --strict'
+
 # All fields that are refused are told, each with its place in the file.
 shows '\n"Rent\n(flat)",7.5\n\r\n"a""b",\n' 'cell A1: BadToken 0\n  line 2, column 1\n    Rent?(flat)\n    ^ no number; a formula begins with =\ncell B1: NotWhole 1\n  line 3, column 9\n    7.5\n     ^ numbers are whole\ncell A2: BadToken 0\n  line 5, column 1\n    a"b\n    ^ no number; a formula begins with =\n3 fields are refused\nno number and no formula: 2; with --labels they pass through\n' report
 shows 'Rent,7.5\n' 'cell B1: NotWhole 1\n  line 1, column 6\n    7.5\n     ^ numbers are whole\n' 'report --labels'
@@ -204,3 +215,81 @@ expect "import --a1 of brackets" "$status" 1 "line 2: BadToken 5"
 [ ! -e "$room/none.db" ] || fail "import --a1 of brackets: it leaves a file"
 on "$room/lines" import "$room/bare.db"
 expect "import without --a1" "$status" 1 " *\^ references are written \[\.A1\]; --a1 reads A1"
+
+# A store of a grid has the texts of the grid, and is written as the grid: the texts, and the values as report has them.
+printf '1,=A1*20,\n,"=SUM(A1:B1,2)",=1/2\n' >"$room/grid"
+on "$room/grid" import --csv --a1 "$room/grid.db"
+expect "import --csv of a text that is refused" "$status" 1 "cell C2: BadToken 2"
+[ ! -e "$room/grid.db" ] || fail "import --csv of a text that is refused: it leaves a file"
+printf '1,=A1*20,\n,"=SUM(A1:B1,2)",-7\n' >"$room/grid"
+on "$room/grid" import --csv --a1 "$room/grid.db"
+expect "import --csv --a1" "$status" 0 ""
+printf '1,=[.A1]*20,\n,=SUM([.A1:.B1];2),-7\n' >"$room/texts"
+answers "export --csv" "$room/texts" /dev/null export "$room/grid.db" --csv
+"$program" report <"$room/texts" >"$room/values"
+answers "export --values" "$room/values" /dev/null export "$room/grid.db" --values
+answers "export --csv --values --until" "$room/values" /dev/null export "$room/grid.db" --csv --values --until 65535
+on "$room/texts" import "$room/again.db" --csv
+expect "import --csv of what is exported" "$status" 0 ""
+answers "export --csv, again" "$room/texts" /dev/null export "$room/again.db" --csv
+for words in "export $room/grid.db --csv" "log $room/grid.db" "log $room/grid.db --at 1"; do
+    # shellcheck disable=SC2086
+    onto_full /dev/null $words
+    expect "${words%% *}: a full device" "$status" 3 "dsheet: standard output: .*"
+done
+on /dev/null import --csv "$room/empty.db"
+expect "import --csv of no record" "$status" 1 "empty grid"
+on "$room/long" import --csv "$room/empty.db"
+expect "import --csv over its limit" "$status" 3 "dsheet: .*"
+[ ! -e "$room/empty.db" ] || fail "import --csv of no grid: it leaves a file"
+on "$room/texts" import --csv "$room/again.db"
+expect "import --csv over a store" "$status" 1 "dsheet: .*already"
+
+# The list of edits begins with the texts that the sheet began with; the sheet is shown as it was.
+printf '# 4 texts that the sheet began with, and then its edits: what was before is not kept\n1 - - A1 1\n2 - - B1 =[.A1]*20\n3 - - B2 =SUM([.A1:.B1];2)\n4 - - C2 -7\n' >"$room/list"
+answers "log of texts alone" "$room/list" /dev/null log "$room/grid.db"
+printf 'sheet 2 1 2\nset 1 A1 =[.B1]\nset 0 B1 5\n# a comment\nset 1 A1\nset 1 B1 6\n' | "$program" import "$room/log.db"
+printf '1 1 0 A1 =[.B1]\n2 0 0 B1 5\n3 1 1 A1\n4 1 2 B1 6\n' >"$room/list"
+answers "log" "$room/list" /dev/null log "$room/log.db"
+grep A1 "$room/list" >"$room/cell"
+answers "log --cell" "$room/cell" /dev/null log "$room/log.db" --cell A1
+for row in "1:=[.B1],:0," "2:=[.B1],5:5,5" "3:,5:,5" "4:,6:,6" "65535:,6:,6"; do
+    IFS=: read -r at texts values <<<"$row"
+    echo "$texts" >"$room/wanted"
+    answers "log --at $at" "$room/wanted" /dev/null log "$room/log.db" --at "$at"
+    echo "$values" >"$room/wanted"
+    answers "log --at $at --values" "$room/wanted" /dev/null log "$room/log.db" --at "$at" --values
+done
+echo '=[.B1]' >"$room/wanted"
+answers "log --cell --at" "$room/wanted" /dev/null log "$room/log.db" --at 1 --cell a1
+echo 5 >"$room/wanted"
+answers "log --cell --at --values" "$room/wanted" /dev/null log "$room/log.db" --at 2 --cell A1 --values
+on /dev/null log "$room/log.db" --cell A2
+expect "log of a cell that is none" "$status" 2 "dsheet: --cell: no cell of 2 columns and 1 rows, as A1"
+on /dev/null log "$room/log.db" --values
+expect "log --values of the list" "$status" 2 "dsheet: --values: .*"
+on /dev/null log "$room/nothing.db"
+expect "log of no store" "$status" 3 "dsheet: .*No such file.*"
+
+# The completions are those of this program; those of bash complete commands, options and files.
+holds "the completions: of this program" tools/completions.py --check "$program"
+# shellcheck source=/dev/null
+. examples/completions/dsheet.bash
+completes() {
+    local wanted=$1
+    shift
+    COMP_WORDS=("$@")
+    COMP_CWORD=$(($# - 1))
+    COMPREPLY=()
+    _dsheet
+    local came
+    came=$(printf '%s\n' "${COMPREPLY[@]}" | LC_ALL=C sort | paste -sd ' ')
+    [ "$came" = "$wanted" ] || fail "what completes '$*': wanted '$wanted', came '$came'"
+    passed "what completes '$*'"
+}
+completes "explore export" dsheet exp
+completes "--stops --strict" dsheet run --st
+completes "examples/sum examples/sum.args examples/sum.stdout" dsheet run examples/sum
+completes "examples/sum examples/sum.args examples/sum.stdout" dsheet serve --store examples/sum
+completes "" dsheet log a --at ""
+completes "import" dsheet help im

@@ -33,13 +33,17 @@ PARTS = {
     "wrapper": Part("wrapper.sh", takes_program=False),
     "serving": Part("serving.sh"),
     "load": Part("load.py", knows_quick=True),
+    "http": Part("http.py", knows_quick=True),
     "connect": Part("connect.sh"),
     "program": Part("program.sh"),
     "examples": Part("examples.sh"),
     "pictures": Part("pictures.py"),
     "growths": Part("growths.py", needs_proved=True),
     "embedding": Part("embedding.sh", takes_program=False),
+    "queue": Part("queue.sh", takes_program=False),
 }
+# The libraries for C that parts need.
+LIBRARIES = {"embedding": "ds_c", "queue": "pq_c"}
 COUNTS = re.compile(r"^(\w+): (\d+) passed, (\d+) failed(?:, (\d+) left out)?$")
 # What a part came to: rows, and what it printed of those that are otherwise.
 Result = namedtuple("Result", "name passed failed left seconds said")
@@ -113,9 +117,9 @@ def lack_of(name, is_quick):
     """What a part needs that is not there, or nothing."""
     if PARTS[name].needs_proved and is_quick:
         return "the proved program: ./dsheet build"
-    if name == "embedding":
-        built = subprocess.run([f"{TOP}/tests/embedding.sh", "--is-built"], stderr=subprocess.DEVNULL)
-        return "the library for C: (cd crates/ds_c && rt lib)" if built.returncode else None
+    if name in LIBRARIES:
+        built = subprocess.run([f"{TOP}/tests/{PARTS[name].file}", "--is-built"], stderr=subprocess.DEVNULL)
+        return f"the library for C: (cd crates/{LIBRARIES[name]} && rt lib)" if built.returncode else None
     return None
 
 

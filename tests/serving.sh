@@ -122,6 +122,7 @@ refuses "no process without a worker" "dsheet: --workers: .*" --listen 127.0.0.1
 refuses "a number that is none" "error: invalid value 'many' .*" --listen 127.0.0.1:0 --columns many
 refuses "no session at once" "dsheet: --at-once: .*" --listen 127.0.0.1:0 --at-once 0
 refuses "no session at all" "dsheet: --sessions: .*" --listen 127.0.0.1:0 --sessions 0
+refuses "an address of other machines, without a token" "dsheet: --listen: whoever reaches .*" --listen 0.0.0.0:0
 
 # ---- sessions
 
@@ -181,6 +182,74 @@ wait "$first"
 talk last 2 | tail -n 1 | cmp - <(echo '{"ok":"settled","rows":[["42","41"],["83","166"]]}')
 ends_with 0
 passed "two clients and a worker"
+
+# ---- tokens
+
+printf 'open sesame\r\nsecond line\n' >"$room/token"
+start --token-file "$room/token"
+connect 3
+say 3 '{"op":"set","cell":"A1","text":"1"}'
+hear 3 '{"code":6,"error":"not-joined"}'
+for wrong in '' ',"token":"open sesam"' ',"token":"open sesame\r"' ',"token":"open sesamE"' ',"token":"second line"' ',"token":["open sesame"]'; do
+    say 3 "{\"op\":\"join\",\"process\":0$wrong}"
+    hear 3 '{"code":20,"error":"denied"}'
+    say 3 "{\"op\":\"join\",\"process\":9$wrong}"
+    hear 3 '{"code":20,"error":"denied"}'
+done
+say 3 '{"op":"join","process":9,"token":"open sesame"}'
+hear 3 '{"code":3,"error":"bad-field"}'
+say 3 '{"op":"join","process":0,"token":"open sesame"}'
+hear 3 "$joined0"
+stop
+exec 3>&-
+passed "a join without the token is denied, and nothing else is told"
+
+start --token-file "$room/token" --store "$room/guarded.db"
+connect 3
+say 3 "$join0"
+hear 3 '{"code":20,"error":"denied"}'
+say 3 '{"op":"join","process":0,"token":"open sesame"}'
+hear 3 "$joined0"
+stop
+exec 3>&-
+passed "the same of a server with a store"
+
+for content in '' '\nopen sesame' '\377\376'; do
+    printf "$content" >"$room/none"
+    status=0
+    "$program" serve --listen 127.0.0.1:0 --token-file "$room/none" </dev/null 2>"$room/said" || status=$?
+    if [ "$status" != 1 ] || ! grep -q 'its first line is no token' "$room/said"; then
+        fail "a file without a token: status $status"
+    fi
+done
+status=0
+"$program" serve --listen 127.0.0.1:0 --token-file "$room/nowhere" </dev/null 2>"$room/said" || status=$?
+[ "$status" = 3 ] || fail "a token's file that is not there: status $status"
+passed "a file without a token"
+
+# ---- edits that are lost
+
+start
+connect 3
+say 3 '{"op":"join","process":0,"told":0}'
+hear 3 '{"last":null,"lost":true,"ok":"join","process":0}'
+say 3 '{"op":"set","cell":"A1","text":"1"}'
+hear 3 '{"number":0,"ok":"done"}'
+exec 3>&-
+sleep 0.5
+connect 3
+say 3 '{"op":"join","process":0,"told":"0"}'
+hear 3 '{"code":3,"error":"bad-field"}'
+say 3 '{"op":"join","process":0,"told":1}'
+hear 3 '{"last":{"cell":"A1","number":0,"outcome":"done"},"lost":true,"ok":"join","process":0}'
+exec 3>&-
+sleep 0.5
+connect 3
+say 3 '{"op":"join","process":0,"told":0}'
+hear 3 '{"last":{"cell":"A1","number":0,"outcome":"done"},"ok":"join","process":0}'
+stop
+exec 3>&-
+passed "a join that says the number of its last edit hears whether it is lost"
 
 # ---- clients of other kinds
 

@@ -6,7 +6,7 @@ disk, a file that may not be written, is another database, is damaged or cut at 
 what is saved of a damaged one, and copies of one, also beside a server. The last line counts the rows, each kill and each
 cut one of them.
     tests/store.py [--quick] PROGRAM [KILLS [CUTS [SEED]]]      200 kills and 100 cuts by a drawn seed, where no numbers
-                                                                are given (10 and 20 of an unproved program, by --quick)
+                                                                are given (6 and 8 of an unproved program, by --quick)
 """
 import json
 import os
@@ -30,11 +30,11 @@ SHAPE = ["--columns", str(COLUMNS), "--rows", str(ROWS), "--processes", str(PROC
 
 
 # How many kills and cuts there are, and of an unproved program.
-NUMBERS, QUICK = ("200", "100"), ("10", "20")
+NUMBERS, QUICK = ("200", "100"), ("6", "8")
 # After how many edits of a process a server goes over to a new sheet.
 SHORT = 240
 # How many edits one process makes in each of two lives of a server, and with an unproved program.
-MANY, MANY_QUICK = 10000, 600
+MANY, MANY_QUICK = 10000, 300
 # How many edits of each process come after the last kill: a store has some, however slow the program is.
 MORE = 3
 passed = 0
@@ -299,6 +299,68 @@ def check_commands(program, folder, store):
         expect(name, run(program, "import", os.path.join(folder, f"{name}.db"), input=text), 1, words)
 
 
+def check_tables(program, folder, store):
+    """Texts and values of a store as tables, and stores of tables: each is the other's, and any grid has a store."""
+    texts = run(program, "export", store, "--csv").stdout
+    values = run(program, "report", input=texts)
+    expect("the values of a store are those of its texts", run(program, "export", store, "--values"), 0, values.stdout)
+    made = os.path.join(folder, "table.db")
+    expect("a store of a table", run(program, "import", made, "--csv", input=texts), 0, "")
+    if run(program, "export", made, "--csv").stdout != texts or run(program, "export", made, "--values").stdout != values.stdout:
+        raise Failed("a store of a table has other texts, or other values")
+    full = "".join(",".join(f"={row}+{column}" for column in range(16)) + "\n" for row in range(64))
+    most = os.path.join(folder, "most.db")
+    expect("a store of the largest table", run(program, "import", most, "--csv", input=full), 0, "")
+    if run(program, "export", most, "--csv").stdout != full:
+        raise Failed("a store of the largest table has other texts")
+    shape = ["--columns", "16", "--rows", "64", "--processes", "2"]
+    server, port = start(program, most, shape=shape)
+    with socket.create_connection(("127.0.0.1", port), timeout=20) as link:
+        stream, client = link.makefile("rw"), Client(1)
+        joined = client.call(stream, op="join", process=1)
+        done = client.call(stream, op="set", cell="P64", text="7")
+    stop(server)
+    if joined["last"] is not None or done != {"number": 0, "ok": "done"}:
+        raise Failed(f"a client of a store of a table: {joined}, {done}")
+    log = run(program, "log", most).stdout.splitlines()
+    if not log[0].startswith("# 1024 texts") or log[1:3] != ["1 - - A1 =0+0", "2 - - B1 =0+1"] or log[-1] != "1025 1 0 P64 7":
+        raise Failed(f"the log of a store of a table: {log[:3]}, {log[-1]}")
+    pass_rows("a server of a store of the largest table, and its log")
+
+
+def edits_in(lines):
+    """The edits of a journal, as a log tells of them, by what is exported of it; the first ones are the sheet's texts."""
+    counts, edits = {}, []
+    for line in lines[1:]:
+        words = line.split(" ", 3)
+        if words[:2] == ["#", "before"]:
+            counts[words[2]] = int(words[3].split(" ")[0])
+            edits = [("-", "-", *edit[2:]) for edit in edits]
+        elif words[0] == "set":
+            edits.append((words[1], str(counts.get(words[1], 0)), *words[2:]))
+            counts[words[1]] = counts.get(words[1], 0) + 1
+    return [" ".join([str(place), *edit]).rstrip() for place, edit in enumerate(edits, 1)]
+
+
+def check_log(program, folder, store):
+    """The list of a store's edits is what its lines say, and each sheet before is what the first lines lead to."""
+    new = os.path.join(folder, "after.db")
+    expect("compact, for its log", run(program, "compact", store, new), 0, "")
+    for of in (store, new):
+        lines = run(program, "export", of).stdout.splitlines()
+        wanted = edits_in(lines)
+        log = run(program, "log", of).stdout.splitlines()
+        begun = sum(" - - " in line for line in wanted)
+        if log[bool(begun):] != wanted or (begun and not log[0].startswith(f"# {begun} texts ")):
+            raise Failed(f"the log of {of} is another list")
+        for at in (1, len(wanted) // 2, len(wanted)):
+            sets = [number for number, line in enumerate(lines) if line.startswith("set ")][:at]
+            ran = run(program, "run", input="\n".join(lines[: sets[-1] + 1]) + "\nsettle 0\nreport 0\n")
+            if run(program, "log", of, "--at", str(at), "--values").stdout != ran.stdout.split("settled\n")[1]:
+                raise Failed(f"the sheet after {at} edits of {of} is another one")
+    pass_rows("logs, and the sheets after some of their edits")
+
+
 def lines_in(store):
     """The lines of a store that is closed, those of sums too, as another SQLite reads them."""
     link = sqlite3.connect(f"file:{store}?mode=ro", uri=True)
@@ -493,8 +555,44 @@ def check_files(program, folder, store):
     words = ["serve", "--listen", "127.0.0.1:0", "--columns", "5", "--rows", "8", "--processes", "4", "--store", store]
     expect("another shape", run(program, *words), 1, "its sheet has 4 columns, 8 rows and 4 processes")
     server, _port = start(program, store)
-    expect("open in another server", run(program, "check", store), 3, "another program has it open")
+    expect("check beside a server", run(program, "check", store), 0, "edits count")
+    expect("export beside a server", run(program, "export", store), 0, "set 0 ")
+    expect("a second server", run(program, *words[:4], "4", *words[5:], input=""), 3, "another program has it open")
     stop(server)
+    check_untouched(program, folder, store, other)
+
+
+def files_of(folder):
+    """The files of a folder with their bytes."""
+    found = {}
+    for name in sorted(os.listdir(folder)):
+        with open(os.path.join(folder, name), "rb") as it:
+            found[name] = it.read()
+    return found
+
+
+def check_untouched(program, folder, store, other):
+    """Commands that read leave files and folders as they are, also those that they refuse; a failed import leaves no file."""
+    room = os.path.join(folder, "untouched")
+    os.mkdir(room)
+    for path in (store, store + "-wal", other):
+        if os.path.exists(path):
+            shutil.copy(path, room)
+    with open(os.path.join(room, "empty.db"), "wb"):
+        pass
+    with open(os.path.join(room, "text.md"), "w", encoding="utf-8") as out:
+        out.write("# A page\n" * 900)
+    before = files_of(room)
+    for name in before:
+        for words in (("check",), ("export",), ("export", "--until", "65535"), ("export", "--csv"), ("log",)):
+            run(program, *words, os.path.join(room, name))
+    run(program, "import", os.path.join(room, "new.db"), input="foo\n")
+    run(program, "import", os.path.join(room, "new.db"), "--csv", input="1,=[\n")
+    same = os.path.join(room, os.path.basename(store))
+    expect("compact onto itself", run(program, "compact", same, same), 1, "already")
+    if files_of(room) != before:
+        raise Failed(f"commands that read have changed {sorted(set(files_of(room).items()) ^ set(before.items()))}")
+    pass_rows("commands that read, and imports that fail, leave all files as they are", len(before))
 
 
 def check_sums(program, folder, store, flips, draw):
@@ -601,6 +699,37 @@ def check_full(program, folder):
     pass_rows(f"no room after {len(client.told)} edits")
 
 
+def check_white_space(program, folder):
+    """Line feeds and carriage returns in formulas are exported as spaces, and what is imported is exported alike."""
+    store, copy = os.path.join(folder, "white.db"), os.path.join(folder, "white-copy.db")
+    server, port = start(program, store)
+    with socket.create_connection(("127.0.0.1", port), timeout=20) as link:
+        client, stream = Client(0), link.makefile("rw")
+        client.call(stream, op="join", process=0)
+        for cell, text in (("A1", "=1+\n2"), ("A2", "=3\r"), ("A3", "=\r\n4")):
+            if client.call(stream, op="set", cell=cell, text=text).get("ok") != "done":
+                raise Failed(f"white space: {text!r} is refused")
+    stop(server)
+    lines = run(program, "export", store).stdout
+    if lines != f"sheet {COLUMNS} {ROWS} {PROCESSES}\nset 0 A1 =1+ 2\nset 0 A2 =3 \nset 0 A3 =  4\n":
+        raise Failed(f"white space is exported as {lines!r}")
+    expect("white space is imported", run(program, "import", copy, input=lines), 0, "")
+    if run(program, "export", copy).stdout != lines:
+        raise Failed("white space that was imported is exported otherwise")
+    pass_rows("white space in formulas, exported and imported")
+
+
+def check_fifo(program, folder):
+    """A file that is no regular one is refused, and not waited for."""
+    path = os.path.join(folder, "fifo")
+    os.mkfifo(path)
+    for words in (("check", path), ("export", path), ("compact", path, f"{path}.new"), ("backup", path, f"{path}.new")):
+        said = run(program, *words)
+        if said.returncode != 3 or "dsheet: " not in said.stderr:
+            raise Failed(f"{words[0]} of a FIFO: status {said.returncode}: {said.stderr}")
+    pass_rows("a FIFO is refused", 4)
+
+
 def check_lost_file(program, folder):
     """A server whose file is removed or replaced ends, and says so."""
     for name, lose in (
@@ -620,6 +749,60 @@ def check_lost_file(program, folder):
         if server.returncode != 3 or "it was removed or replaced while it was served" not in said:
             raise Failed(f"a file that was {name}: status {server.returncode}: {said}")
         pass_rows(f"a file that is {name} while it is served")
+
+
+def edit_and_kill(program, store, edits, early=None):
+    """One process makes this number of edits of a new store, whose server is killed then; its log as it was after two of them is
+    copied to this path, where there is one."""
+    server, port = start(program, store)
+    with socket.create_connection(("127.0.0.1", port), timeout=20) as link:
+        client, stream = Client(0), link.makefile("rw")
+        client.call(stream, op="join", process=0)
+        for number in range(edits):
+            client.edit(stream, random.Random(number))
+            if number == 1 and early:
+                shutil.copy(f"{store}-wal", early)
+    server.kill()
+    server.communicate()
+
+
+def expect_lost(program, name, store, told):
+    """The store is refused; or a join that says the number of its last edit is answered that edits are lost."""
+    try:
+        server, port = start(program, store)
+    except Failed:
+        pass_rows(f"{name} is refused")
+        return
+    with socket.create_connection(("127.0.0.1", port), timeout=20) as link:
+        joined = Client(0).call(link.makefile("rw"), op="join", process=0, told=told)
+    stop(server)
+    if joined.get("lost") is not True:
+        raise Failed(f"{name}: {joined}, after edit {told} was answered")
+    pass_rows(f"{name}: the client hears that edits are lost")
+
+
+def check_lost_log(program, folder):
+    """A log that is missing, old or another store's is refused, or a client hears of it."""
+    early, strange = os.path.join(folder, "early-wal"), os.path.join(folder, "strange.db")
+    edit_and_kill(program, strange, 3)
+    for name, lose in (
+        ("missing", lambda log: os.remove(log)),
+        ("old", lambda log: shutil.copy(early, log)),
+        ("another's", lambda log: shutil.copy(f"{strange}-wal", log)),
+    ):
+        store = os.path.join(folder, f"{name}.db")
+        edit_and_kill(program, store, 5, early)
+        lose(f"{store}-wal")
+        expect_lost(program, f"a log that is {name}", store, 4)
+    store = os.path.join(folder, "whole.db")
+    edit_and_kill(program, store, 5)
+    server, port = start(program, store)
+    with socket.create_connection(("127.0.0.1", port), timeout=20) as link:
+        joined = Client(0).call(link.makefile("rw"), op="join", process=0, told=4)
+    stop(server)
+    if "lost" in joined or joined["last"]["number"] != 4:
+        raise Failed(f"a log that is whole: {joined}")
+    pass_rows("a log that is whole: nothing is lost")
 
 
 def check_unit(program, folder):
@@ -668,12 +851,17 @@ def check_all(program, kills, cuts, many, draw):
         pass_rows(f"{kills} kills, {told} edits answered, 0 lost, in {seconds:.0f} s", kills)
         check_one_process(program, folder, many)
         check_commands(program, folder, store)
+        check_tables(program, folder, store)
+        check_log(program, folder, store)
         check_files(program, folder, store)
         check_until(program, folder, store)
         check_backup(program, folder, store)
         check_backup_beside(program, folder, max(5, cuts // 5), draw)
         check_full(program, folder)
+        check_white_space(program, folder)
+        check_fifo(program, folder)
         check_lost_file(program, folder)
+        check_lost_log(program, folder)
         check_unit(program, folder)
         check_full_copy(program, folder, store)
         check_read_only(program, folder, store)

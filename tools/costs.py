@@ -1,7 +1,8 @@
 #!/usr/bin/env python3
-"""Prints the table of docs/COSTS.md: of each crate of crates.txt its lines of code, definitions and proofs, its edits
-(of must-fail, and of more-edits), and the processor minutes that its proof and its tests took, as read from what
-tools/gate_minutes.py wrote to these files; the last file that has a figure counts.
+"""Prints the table of docs/COSTS.md: of crates of crates.txt their lines of code, definitions and proofs, their edits
+(of must-fail, and of more-edits), and the processor minutes that their proofs and tests took, as read from what
+tools/gate_minutes.py wrote to these files; the last file that has a figure counts. Crates that take less than two
+minutes are left out, and so are those of less than 1,500 lines that were not measured.
     tools/costs.py FILE ..
 """
 import os
@@ -11,6 +12,8 @@ import sys
 TOP = os.path.dirname(os.path.dirname(os.path.realpath(__file__)))
 # A line of the table, which stands as it is.
 LINE = "    {:20} {:20} {:8} {:6} {}"
+LEAST_MINUTES = 2
+LEAST_LINES = 1_500
 ROW = re.compile(r"\| `(\w+)` \| ([\d.]+) \| ([\d.]+) \| ([\d.]+) \| ")
 
 
@@ -55,6 +58,8 @@ def main():
         counts = [lines(crate, "src", ".rt"), lines(crate, "specs", ".antt"), lines(crate, "proofs", ".antt")]
         edits = [len(files(crate, part, ".edit")) for part in ("must-fail", "more-edits")]
         proof, _tried, tests = times.get(crate, [0.0, 0.0, 0.0])
+        if proof + tests < LEAST_MINUTES and (proof or sum(counts) < LEAST_LINES):
+            continue
         figures = [f"{proof:.1f}" if proof else "-", f"{tests:.1f}" if tests else ""]
         cells = [crate, "/".join(f"{it:,}" for it in counts), f"{edits[0]}+{edits[1]}", *figures]
         print(LINE.format(*cells).rstrip())

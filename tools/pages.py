@@ -10,6 +10,7 @@
     examples   the lines of code in a crate's page stand so in some source file, one below the other
     numbers    a limit in a page, or in a comment of dsheet.h, is the constant of the code (NUMBERS)
     language   no word of a list of retired ones, outside of code (RETIRED)
+    page       crates/ds_http/src/page.rt is made of page/index.html
     comments   none of them in comments of crates/*/src, crates/*/specs, examples/ and dsheet.h (IN_COMMENTS)
 Each failure is a line `FILE:LINE: what`; the last line is `pages: N checks, M failed`. Exit status 1 where any failed.
     tools/pages.py [FOLDER]        the repository, where no folder is named
@@ -210,6 +211,12 @@ def check_map(checks, pages, names):
         checks.check(holds, page, 1, f"the crate {name} is not named")
 
 
+def check_page(checks):
+    """The source of the page for people is as its tool makes it."""
+    made = subprocess.run([f"{TOP}/tools/page.py", "--check"], capture_output=True, text=True, check=False)
+    checks.check(made.returncode == 0, "crates/ds_http/page/index.html", 1, made.stderr.strip())
+
+
 def check_examples(checks, page, text, bare):
     """Blocks of code of a crate's page: their lines stand in a source file, one below the other."""
     for block in re.finditer(r"(?m)(?:^ {4}.*\n?)+", text):
@@ -292,6 +299,7 @@ def main():
     bare = ["\n" + "\n".join(line.strip() for line in it.split("\n")) + "\n" for it in sources.values()]
     check_words(checks, pages)
     check_map(checks, pages, names)
+    check_page(checks)
     check_edits(checks, pages)
     check_numbers(checks, {**pages, HEADER: read(HEADER)})
     check_comments(checks)

@@ -8,8 +8,8 @@ use clap::Error;
 use clap::error::ErrorKind;
 use ds_analyze::explore::explore;
 use ds_analyze::trace::trace;
-use ds_batch::report::report;
-use ds_batch::run::{no_memory, run, run_stops, stops_between};
+use ds_batch::report::{TableForm, report};
+use ds_batch::run::{RunForm, no_memory, run, run_stops, stops_between};
 use ds_batch::source::Source;
 use ds_batch::status::{NO_MEMORY, STREAM_FAILED};
 use ds_cli::command_line::{Action, OptionsFault, options};
@@ -21,12 +21,17 @@ use ds_grid::form::GridForm;
 use ds_net_command::serve::{serve, serve_store};
 use ds_store::open::Databases;
 use ds_store_commands::backup::backup;
-use ds_store_commands::stores::{check, compact, export, export_until, import};
+use ds_store_commands::exporting::export;
+use ds_store_commands::importing::import;
+use ds_store_commands::log::log;
+use ds_store_commands::stores::{check, compact};
 use log::Log;
 use std::fs::{File, Files};
+use std::hash::RandomState;
 use std::io::{self, IsTerminal};
 use std::net::{Net, TcpListener, TcpStream};
 use std::process::ExitCode;
+use std::random::RandomSource;
 use std::rt::Env;
 use std::sync::Wait;
 use std::thread::Threads;
@@ -57,6 +62,42 @@ struct Terminals {
     error: bool,
 }
 
+// Keys of maps, which nobody can guess. An error is the status, when standard error has the reason.
+fn keys<R: RandomSource + Eprint>(rt: &R) -> Result<RandomState, u8> {
+    match RandomState::new(rt) {
+        Ok(keys) => Ok(keys),
+        Err(error) => {
+            let _reported = eprintln!(rt; "dsheet: no random numbers: {error}");
+            Err(STREAM_FAILED)
+        }
+    }
+}
+
+// How a script is run that is asked for.
+fn run_form(running: Running<'_>) -> RunForm {
+    RunForm {
+        notation: running.notation,
+        strict: running.strict,
+    }
+}
+
+// `dsheet report`, as it is asked for.
+fn carry_out_report<R: AllocGlobal + Input + Print + Eprint + Files<File = File>>(
+    rt: &R,
+    reporting: Reporting<'_>,
+) -> u8 {
+    let form = GridForm {
+        notation: reporting.notation,
+        keeps_labels: reporting.labels,
+    };
+    let table = if reporting.json {
+        TableForm::Json
+    } else {
+        TableForm::Csv
+    };
+    report(rt, Source::of(reporting.file), form, table)
+}
+
 fn dispatch<
     R: AllocGlobal
         + Env
@@ -68,6 +109,7 @@ fn dispatch<
         + Wait
         + Clock
         + Log
+        + RandomSource
         + Net<Stream = TcpStream, Listener = TcpListener>
         + Databases
         + Sync,
@@ -85,29 +127,30 @@ fn dispatch<
         return no_memory(rt);
     };
     match options(rt.alloc(), words.as_slice()) {
-        Ok(Action::Run(Running { file, notation })) => run(rt, Source::of(file), notation),
-        Ok(Action::Stops(Stopping { from, to }, Running { file, notation })) => {
+        Ok(Action::Run(running)) => run(rt, Source::of(running.file), run_form(running)),
+        Ok(Action::Stops(Stopping { from, to }, running)) => {
             let range = stops_between(from as u64, to as u64);
-            run_stops(rt, Source::of(file), range, notation, terminals.error)
+            let form = run_form(running);
+            run_stops(rt, Source::of(running.file), range, form, terminals.error)
         }
-        Ok(Action::Report(reporting)) => {
-            let form = GridForm {
-                notation: reporting.notation,
-                keeps_labels: reporting.labels,
-            };
-            report(rt, Source::of(reporting.file), form)
-        }
+        Ok(Action::Report(reporting)) => carry_out_report(rt, reporting),
         Ok(Action::Explore(exploring)) => explore(rt, exploring, terminals.error),
         Ok(Action::Trace) => trace(rt),
-        Ok(Action::Serve(serving)) => serve(rt, serving),
-        Ok(Action::Keep(serving, path)) => serve_store(rt, serving, path),
+        Ok(Action::Serve(serving)) => match keys(rt) {
+            Ok(keys) => serve(rt, serving, keys),
+            Err(status) => status,
+        },
+        Ok(Action::Keep(serving, path)) => match keys(rt) {
+            Ok(keys) => serve_store(rt, serving, path, keys),
+            Err(status) => status,
+        },
         Ok(Action::Connect(connecting, notation)) => {
             connect(rt, connecting, notation, terminals.input)
         }
         Ok(Action::Check(path)) => check(rt, path),
-        Ok(Action::Export(path)) => export(rt, path),
-        Ok(Action::ExportUntil(path, most)) => export_until(rt, path, most),
-        Ok(Action::Import(path, notation)) => import(rt, path, notation),
+        Ok(Action::Log(logging)) => log(rt, logging),
+        Ok(Action::Export(exporting)) => export(rt, exporting),
+        Ok(Action::Import(importing)) => import(rt, importing),
         Ok(Action::Compact(path, new)) => compact(rt, path, new),
         Ok(Action::Backup(path, copy)) => backup(rt, path, copy),
         Err(OptionsFault::CommandLine(error)) => explain(rt, &error),

@@ -1,5 +1,5 @@
 -- Exit statuses of scripts and grids (our own rule).
-use Rattle.std.specs.Prelude.{ℕ}
+use Rattle.std.specs.Prelude.{ℕ, suc, Bool, true}
 use Rattle.ds_script_io.specs.declared.ending.ScriptEnd.{ScriptEnd}
 use Rattle.ds_script_io.specs.declared.ending.ScriptEnd.TheVariants.{Ended, Fault, TooLong, ReadFailed, WriteFailed, NoMemory}
 use Rattle.ds_grid.specs.declared.ending.GridEnd.{GridEnd}
@@ -13,6 +13,12 @@ status_of TooLong = 3
 status_of ReadFailed = 3
 status_of WriteFailed = 3
 status_of NoMemory = 4
+
+-- the exit status of `dsheet run`, by how the script ended, whether it is strict, and how many of its answers are refusals: a
+-- strict one that has ended is one with a fault where there is any
+abbrev pub run_status_of : ScriptEnd → Bool → ℕ → ℕ
+run_status_of Ended true (suc refused) = 1
+run_status_of end strict refused = status_of end
 
 -- the exit status of `dsheet report`, by how the report of the grid ended
 abbrev pub grid_status_of : GridEnd → ℕ

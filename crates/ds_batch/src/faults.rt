@@ -67,22 +67,25 @@ pub fn show_answered<R: AllocGlobal + Eprint>(
 }
 
 /// Reports on standard error each of the first lines of a script in this notation, of as many as this, whose text is
-/// refused on the sheet that it makes, with what is wrong in it.
+/// refused on the sheet that it makes, with what is wrong in it, and gives how many there are.
 pub fn show_refusals<R: AllocGlobal + Eprint>(
     rt: &R,
     notation: Notation,
     script: &[u8],
     lines: usize,
-) {
+) -> u64 {
     let shape = layout_of(script).shape;
     let mut rest = script;
+    let mut count = 0u64;
     for number in 1..=script.len().min(lines) {
         let NextLine::Line(line, left) = next_line(rest, true) else {
-            return;
+            break;
         };
         if let Some((fault, excerpt)) = refused_text(rt.alloc(), notation, &shape, line) {
             let _reported = eprintln!(rt; "line {number}: {fault}\n{excerpt}");
+            count = count.saturating_add(1);
         }
         rest = left;
     }
+    count
 }

@@ -5,6 +5,7 @@
 mod copying;
 pub mod faults;
 mod fields;
+pub mod json;
 pub mod lines;
 mod progress;
 mod refusals;
@@ -12,3 +13,4 @@ pub mod report;
 pub mod run;
 pub mod source;
 pub mod status;
+pub mod token;

@@ -1,10 +1,12 @@
-//! Which texts the answers of a script refuse.
+//! Which answers of a script are refusals, and which texts they refuse.
 
-ghost use Rattle.std.specs.Prelude.{◌≡◌};
+ghost use Rattle.std.specs.Prelude.{◌≡◌, option_map};
+ghost use Rattle.ds_batch.specs.Refusals.{is_refusal, says_refused};
 
 use ds_formula::fault::TextFault;
 use ds_script_hints::notes::kind_named;
-use std::alloc::Global;
+use ds_script_io::line::word;
+use std::alloc::{AllocError, Global};
 use std::io::{self, Write};
 use std::str;
 
@@ -17,12 +19,33 @@ pub struct RefusedText {
     pub fault: TextFault,
 }
 
-/// The texts that answers of a script refuse.
+// How many bytes of a line are kept: no refusal has more.
+const LINE_MOST: usize = 64;
+
+/// The answers of a script that are refusals.
 #[derive(Debug, Drop)]
 pub struct Refusals {
-    // What has come of a line that has not ended.
+    // What has come of a line that has not ended, up to the most that is kept.
     line: Vec<u8>,
+    count: u64,
     texts: Vec<RefusedText>,
+}
+
+// Whether the rest of a line begins with the word `refused`.
+fn says_refused(rest: Option<&[u8]>) -> bool
+    ensures { result ≡ says_refused (option_map (λ r. r.now) rest.entry) }
+{
+    match rest {
+        Some(rest) => word(rest).0 == b"refused".as_slice(),
+        None => false,
+    }
+}
+
+// Whether a line of answers is a refusal: `P refused CODE NAME`.
+fn is_refusal(line: &[u8]) -> bool
+    ensures { result ≡ is_refusal line.now }
+{
+    says_refused(word(line).1)
 }
 
 // The text that this line of answers refuses: `P refused 1 KIND OFFSET`.
@@ -40,12 +63,18 @@ fn refused_text(line: &[u8]) -> Option<RefusedText> {
 }
 
 impl Refusals {
-    /// None.
-    pub fn new(alloc: Global) -> Refusals {
-        Refusals {
-            line: Vec::new(alloc),
+    /// None. An error means that an allocation failed.
+    pub fn new(alloc: Global) -> Result<Refusals, AllocError> {
+        Ok(Refusals {
+            line: Vec::with_capacity(alloc, LINE_MOST)?,
+            count: 0,
             texts: Vec::new(alloc),
-        }
+        })
+    }
+
+    /// How many answers are refusals.
+    pub fn count(&self) -> u64 {
+        self.count
     }
 
     /// The texts, in the order of the answers, as far as memory was there for them.
@@ -55,6 +84,9 @@ impl Refusals {
 
     // Takes note of a line that has ended.
     fn end_line(&mut self) {
+        if is_refusal(&self.line) {
+            self.count = self.count.saturating_add(1);
+        }
         if let Some(text) = refused_text(&self.line) {
             let _kept = self.texts.push(text);
         }
@@ -66,14 +98,14 @@ impl Refusals {
         for byte in answers {
             if *byte == b'\n' {
                 self.end_line();
-            } else {
+            } else if self.line.len() < LINE_MOST {
                 let _kept = self.line.push(*byte);
             }
         }
     }
 }
 
-/// A writer of answers that takes note of texts that they refuse. It writes what it is given.
+/// A writer of answers that takes note of those that are refusals. It writes what it is given.
 #[derive(Drop)]
 pub struct Watching<'a, W> {
     writer: W,

@@ -2,20 +2,26 @@
 
 use crate::copying::Copying;
 use crate::fields::field_places;
+use crate::json::{TableFault, table_line};
 use crate::run::no_memory;
 use crate::source::{Source, open};
-use crate::status::grid_status;
+use crate::status::{REFUSED, grid_status};
+use csv::ByteRecord;
+use ds_a1::notation::Notation;
 use ds_a1::texts::read_text;
+use ds_formula::cells::Shape;
 use ds_formula::fault::FaultKind;
 use ds_grid::ending::{GridEnd, GridFault};
 use ds_grid::form::{GridForm, is_label};
-use ds_grid::grid::{records, shape_of};
+use ds_grid::grid::{contents, records, shape_of};
 use ds_grid::report::report_grid;
 use ds_sched::{Reading, Writing};
 use ds_script_hints::texts::excerpt_of_text;
+use ds_script_io::input::{InputEnd, read_input};
+use ds_script_io::line::INPUT_LIMIT;
 use std::alloc::{AllocError, Global};
 use std::fs::{File, Files};
-use std::io::{self, BufWriter, Read};
+use std::io::{self, BufWriter, Read, Write};
 
 // A record that has another number of fields than the first one.
 #[derive(Clone, Copy)]
@@ -124,8 +130,111 @@ fn print_end<R: AllocGlobal + Eprint>(rt: &R, form: GridForm, end: &GridEnd, gri
     };
 }
 
-// A grid from a reader, as `report`.
-fn report_from<R: AllocGlobal + Print + Eprint, I: Read + Drop>(
+/// A grid of texts that was read: the shape of its sheet, and its records, of which each field has a content.
+#[derive(Drop)]
+pub struct ReadGrid {
+    /// The shape of its sheet.
+    pub shape: Shape,
+    /// Its records, as many as the sheet has rows, each of as many fields as it has columns.
+    pub rows: Vec<ByteRecord>,
+}
+
+// A grid in this form.
+fn grid_in(alloc: Global, form: GridForm, bytes: &[u8]) -> Result<ReadGrid, GridEnd> {
+    let rows = records(alloc, bytes)?;
+    let shape = shape_of(&rows)?;
+    match contents(alloc, form, &shape, &rows) {
+        Ok(_) => Ok(ReadGrid { shape, rows }),
+        Err(end) => Err(end),
+    }
+}
+
+/// Reads a grid of texts in this notation, of at most 1,048,576 bytes, from a reader. An error is the status, `grid_status`
+/// of why there is none, when standard error has the reason, of fields each that is refused.
+pub fn read_grid<R: AllocGlobal + Eprint, I: Read + Drop>(
+    rt: &R,
+    input: I,
+    notation: Notation,
+) -> Result<ReadGrid, u8> {
+    let form = GridForm {
+        notation,
+        keeps_labels: false,
+    };
+    let mut reader = Reading::new(input);
+    let Ok(input) = read_input(rt.alloc(), &mut reader, INPUT_LIMIT) else {
+        return Err(no_memory(rt));
+    };
+    let read = match input.end {
+        InputEnd::TooLong => Err(GridEnd::TooLong),
+        InputEnd::Failed => Err(GridEnd::ReadFailed),
+        InputEnd::Ended => grid_in(rt.alloc(), form, &input.bytes),
+    };
+    match read {
+        Ok(grid) => Ok(grid),
+        Err(end) => {
+            print_end(rt, form, &end, &input.bytes);
+            Err(grid_status(&end))
+        }
+    }
+}
+
+/// How the values of a grid are written.
+#[derive(Clone, Copy, Debug, PartialEq, Eq)]
+pub enum TableForm {
+    /// As CSV, a record a row.
+    Csv,
+    /// As one line of JSON, with a list of rows of texts.
+    Json,
+}
+
+// Writes the values of a grid, which are here as CSV, as JSON, and gives the status.
+fn write_json<R: AllocGlobal + Print + Eprint>(rt: &R, form: GridForm, table: &[u8]) -> u8 {
+    let line = match table_line(rt.alloc(), table) {
+        Ok(line) => line,
+        Err(TableFault::NoMemory) => return no_memory(rt),
+        Err(TableFault::NotUtf8) => {
+            let _reported = eprintln!(rt;
+                "dsheet: a label is not UTF-8, as a text of JSON has to be"
+            );
+            return REFUSED;
+        }
+    };
+    let mut out = io::writer(rt);
+    let end = if out.write_all(&line).and_then(|_| out.flush()).is_ok() {
+        GridEnd::Ended
+    } else {
+        GridEnd::WriteFailed
+    };
+    print_end(rt, form, &end, table);
+    grid_status(&end)
+}
+
+// A grid from a reader, as `report`, its values as JSON.
+fn report_json<R: AllocGlobal + Print + Eprint, I: Read + Drop>(
+    rt: &R,
+    input: I,
+    form: GridForm,
+) -> u8 {
+    let mut grid = Vec::new(rt.alloc());
+    let mut table = Vec::new(rt.alloc());
+    let end = {
+        let mut reader = Reading::new(Copying::new(input, &mut grid));
+        let mut writer = Writing::new(&mut table);
+        report_grid(rt.alloc(), form, &mut reader, &mut writer)
+    };
+    match end {
+        GridEnd::Ended => write_json(rt, form, &table),
+        // Only memory can be missing where a table grows.
+        GridEnd::WriteFailed => no_memory(rt),
+        _ => {
+            print_end(rt, form, &end, &grid);
+            grid_status(&end)
+        }
+    }
+}
+
+// A grid from a reader, as `report`, its values as CSV.
+fn report_csv<R: AllocGlobal + Print + Eprint, I: Read + Drop>(
     rt: &R,
     input: I,
     form: GridForm,
@@ -143,6 +252,19 @@ fn report_from<R: AllocGlobal + Print + Eprint, I: Read + Drop>(
     grid_status(&end)
 }
 
+// A grid from a reader, as `report`.
+fn report_from<R: AllocGlobal + Print + Eprint, I: Read + Drop>(
+    rt: &R,
+    input: I,
+    form: GridForm,
+    table: TableForm,
+) -> u8 {
+    match table {
+        TableForm::Csv => report_csv(rt, input, form),
+        TableForm::Json => report_json(rt, input, form),
+    }
+}
+
 /// `dsheet report`: a grid in this form, of at most 1,048,576 bytes, its values to standard output. A fault of the grid is
 /// reported on standard error, of its fields each that is refused, and then nothing is written. Gives the exit status,
 /// `grid_status` of how it ended, or 3 where the file cannot be opened.
@@ -150,11 +272,12 @@ pub fn report<R: AllocGlobal + Input + Print + Eprint + Files<File = File>>(
     rt: &R,
     source: Source<'_>,
     form: GridForm,
+    table: TableForm,
 ) -> u8 {
     match source {
-        Source::StandardInput => report_from(rt, rt.reader(), form),
+        Source::StandardInput => report_from(rt, rt.reader(), form, table),
         Source::File(path) => match open(rt, path) {
-            Ok(file) => report_from(rt, file, form),
+            Ok(file) => report_from(rt, file, form, table),
             Err(status) => status,
         },
     }

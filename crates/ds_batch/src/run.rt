@@ -7,7 +7,7 @@ use crate::faults::{show_answered, show_line, show_refusals, show_refused};
 use crate::progress::Progress;
 use crate::refusals::{Refusals, Watching};
 use crate::source::{Source, open};
-use crate::status::{NO_MEMORY, REFUSED, script_status};
+use crate::status::{NO_MEMORY, REFUSED, run_status, script_status};
 use ds_a1::notation::Notation;
 use ds_a1_script::lines::Commands;
 use ds_a1_script::script::{OpenScript, RefusedLine, open_script};
@@ -17,6 +17,15 @@ use ds_script_io::input::{InputEnd, read_input};
 use ds_script_io::line::INPUT_LIMIT;
 use std::fs::{File, Files};
 use std::io::{self, BufWriter, Read};
+
+/// How a script is run.
+#[derive(Clone, Copy, Debug, PartialEq, Eq)]
+pub struct RunForm {
+    /// How formulas are written.
+    pub notation: Notation,
+    /// Whether an answer that is a refusal counts as a fault, once the script has ended.
+    pub strict: bool,
+}
 
 // Reports on standard error how a script ended, where that is not as it should; of a fault with its line.
 fn print_end(rt: &impl Eprint, end: &ScriptEnd, script: &[u8]) {
@@ -119,11 +128,19 @@ impl ReadScript {
         }
     }
 
-    // Reports how a run of the script ended, and gives the status.
-    fn conclude<R: AllocGlobal + Eprint>(&self, rt: &R, end: &ScriptEnd) -> u8 {
+    // The status of a run of the script, by how many of its answers are refusals.
+    fn status(&self, end: &ScriptEnd, strict: bool, refused: u64) -> u8 {
+        match self.refused(end) {
+            Some(_) => REFUSED,
+            None => run_status(end, strict, refused),
+        }
+    }
+
+    // Reports how a run of the script ended.
+    fn conclude<R: AllocGlobal + Eprint>(&self, rt: &R, end: &ScriptEnd) {
         let Some(refused) = self.refused(end) else {
             print_end(rt, end, &self.script);
-            return script_status(end);
+            return;
         };
         let line = line_at(&self.script, refused.line).unwrap_or(&[]);
         show_refused(
@@ -133,12 +150,18 @@ impl ReadScript {
             line,
             refused.fault,
         );
-        REFUSED
+    }
+}
+
+// Reports on standard error how many answers of a script are refusals, where they count and there are any.
+fn print_refusals(rt: &impl Eprint, strict: bool, refused: u64) {
+    if strict && refused > 0 {
+        let _reported = eprintln!(rt; "refusals: {refused}");
     }
 }
 
 // A script in A1 notation from a reader, as `run`.
-fn run_a1<R: AllocGlobal + Print + Eprint, I: Read + Drop>(rt: &R, input: I) -> u8 {
+fn run_a1<R: AllocGlobal + Print + Eprint, I: Read + Drop>(rt: &R, input: I, strict: bool) -> u8 {
     let Ok(buffered) = BufWriter::new(rt.alloc(), io::writer(rt)) else {
         return no_memory(rt);
     };
@@ -146,24 +169,29 @@ fn run_a1<R: AllocGlobal + Print + Eprint, I: Read + Drop>(rt: &R, input: I) -> 
         Ok(script) => script,
         Err(status) => return status,
     };
-    let mut refusals = Refusals::new(rt.alloc());
+    let Ok(mut refusals) = Refusals::new(rt.alloc()) else {
+        return no_memory(rt);
+    };
     let end = {
         let mut reader = Reading::new(script.text());
         let mut writer = Writing::new(Watching::new(buffered, &mut refusals));
         run_script(rt.alloc(), &mut reader, &mut writer)
     };
-    let status = script.conclude(rt, &end);
+    script.conclude(rt, &end);
     show_answered(rt, Notation::A1, &script.script, refusals.texts());
-    status
+    print_refusals(rt, strict, refusals.count());
+    script.status(&end, strict, refusals.count())
 }
 
 // A script in OpenFormula from a reader, as `run`.
-fn run_open<R: AllocGlobal + Print + Eprint, I: Read + Drop>(rt: &R, input: I) -> u8 {
+fn run_open<R: AllocGlobal + Print + Eprint, I: Read + Drop>(rt: &R, input: I, strict: bool) -> u8 {
     let Ok(buffered) = BufWriter::new(rt.alloc(), io::writer(rt)) else {
         return no_memory(rt);
     };
     let mut script = Vec::new(rt.alloc());
-    let mut refusals = Refusals::new(rt.alloc());
+    let Ok(mut refusals) = Refusals::new(rt.alloc()) else {
+        return no_memory(rt);
+    };
     let end = {
         let mut reader = Reading::new(Copying::new(input, &mut script));
         let mut writer = Writing::new(Watching::new(buffered, &mut refusals));
@@ -171,34 +199,34 @@ fn run_open<R: AllocGlobal + Print + Eprint, I: Read + Drop>(rt: &R, input: I) -
     };
     print_end(rt, &end, &script);
     show_answered(rt, Notation::OpenFormula, &script, refusals.texts());
-    script_status(&end)
+    print_refusals(rt, strict, refusals.count());
+    run_status(&end, strict, refusals.count())
 }
 
 // A script from a reader, as `run`.
 fn run_from<R: AllocGlobal + Print + Eprint, I: Read + Drop>(
     rt: &R,
     input: I,
-    notation: Notation,
+    form: RunForm,
 ) -> u8 {
-    match notation {
-        Notation::OpenFormula => run_open(rt, input),
-        Notation::A1 => run_a1(rt, input),
+    match form.notation {
+        Notation::OpenFormula => run_open(rt, input, form.strict),
+        Notation::A1 => run_a1(rt, input, form.strict),
     }
 }
 
-/// `dsheet run`: a script with formulas in this notation, of at most 1,048,576 bytes, its answers to standard output. A
-/// line with a fault ends it and is reported on standard error, and so does one whose text is none in A1 notation; the
-/// answers of the lines before it are written. Gives the exit status, `script_status` of how the script ended, or 3 where
-/// the file cannot be opened.
+/// `dsheet run`: a script in this form, of at most 1,048,576 bytes, its answers to standard output. A line with a fault
+/// ends it and is reported on standard error, and so does one whose text is none in A1 notation; the answers of the lines
+/// before it are written. Gives the exit status, `run_status` of how the script ended, or 3 where the file cannot be opened.
 pub fn run<R: AllocGlobal + Input + Print + Eprint + Files<File = File>>(
     rt: &R,
     source: Source<'_>,
-    notation: Notation,
+    form: RunForm,
 ) -> u8 {
     match source {
-        Source::StandardInput => run_from(rt, rt.reader(), notation),
+        Source::StandardInput => run_from(rt, rt.reader(), form),
         Source::File(path) => match open(rt, path) {
-            Ok(file) => run_from(rt, file, notation),
+            Ok(file) => run_from(rt, file, form),
             Err(status) => status,
         },
     }
@@ -221,38 +249,39 @@ fn stops_from<R: AllocGlobal + Print + Eprint, I: Read + Drop>(
     rt: &R,
     input: I,
     range: StopRange,
-    notation: Notation,
+    form: RunForm,
     shows: bool,
 ) -> u8 {
     let Ok(buffered) = BufWriter::new(rt.alloc(), io::writer(rt)) else {
         return no_memory(rt);
     };
-    let script = match read_script(rt, input, notation) {
+    let script = match read_script(rt, input, form.notation) {
         Ok(script) => script,
         Err(status) => return status,
     };
     let mut writer = Writing::new(Progress::new(buffered, rt, shows));
     let end = stop_in_range(rt.alloc(), script.text(), range, &mut writer);
-    let status = script.conclude(rt, &end);
-    show_refusals(rt, script.notation(), &script.script, script.lines(&end));
-    status
+    script.conclude(rt, &end);
+    let refused = show_refusals(rt, script.notation(), &script.script, script.lines(&end));
+    print_refusals(rt, form.strict, refused);
+    script.status(&end, form.strict, refused)
 }
 
-/// `dsheet run --stops`: a script with formulas in this notation, of at most 1,048,576 bytes, and to standard output what
-/// is reported of a crash after each of its steps that is in the range. A line with a fault ends it and is reported on
-/// standard error, as by `run`. Where `shows` is true, it shows there how far it is. Gives the exit status, `script_status`
-/// of how the script ended, or 3 where the file cannot be opened.
+/// `dsheet run --stops`: a script in this form, of at most 1,048,576 bytes, and to standard output what is reported of a
+/// crash after each of its steps that is in the range. A line with a fault ends it and is reported on standard error, as by
+/// `run`. Where `shows` is true, it shows there how far it is. Gives the exit status, `run_status` of how the script ended,
+/// by the texts that are refused, or 3 where the file cannot be opened.
 pub fn run_stops<R: AllocGlobal + Input + Print + Eprint + Files<File = File>>(
     rt: &R,
     source: Source<'_>,
     range: StopRange,
-    notation: Notation,
+    form: RunForm,
     shows: bool,
 ) -> u8 {
     match source {
-        Source::StandardInput => stops_from(rt, rt.reader(), range, notation, shows),
+        Source::StandardInput => stops_from(rt, rt.reader(), range, form, shows),
         Source::File(path) => match open(rt, path) {
-            Ok(file) => stops_from(rt, file, range, notation, shows),
+            Ok(file) => stops_from(rt, file, range, form, shows),
             Err(status) => status,
         },
     }

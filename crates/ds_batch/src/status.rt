@@ -1,7 +1,7 @@
 //! Exit statuses of scripts and grids.
 
 ghost use Rattle.std.specs.Prelude.{◌≡◌};
-ghost use Rattle.ds_batch.specs.Statuses.{grid_status_of, status_of};
+ghost use Rattle.ds_batch.specs.Statuses.{grid_status_of, run_status_of, status_of};
 
 use ds_grid::ending::GridEnd;
 use ds_sched::ScriptEnd;
@@ -25,6 +25,17 @@ pub fn script_status(end: &ScriptEnd) -> u8
         ScriptEnd::Fault { line: _, kind: _ } => 1,
         ScriptEnd::TooLong | ScriptEnd::ReadFailed | ScriptEnd::WriteFailed => 3,
         ScriptEnd::NoMemory => 4,
+    }
+}
+
+/// The exit status of `dsheet run`: `script_status`, but a strict script that has ended is one with a fault, 1, where one
+/// of its answers is a refusal at least.
+pub fn run_status(end: &ScriptEnd, strict: bool, refused: u64) -> u8
+    ensures { result ≡ run_status_of end.now strict refused }
+{
+    match end {
+        ScriptEnd::Ended if strict && refused > 0 => REFUSED,
+        _ => script_status(end),
     }
 }
 

@@ -27,6 +27,10 @@ text_of f name r x gives is = sym (first_value-rows f name) ∙ sym gives ∙ ap
 pub none_of : (f : Found) (name : Text) (r : Option (Bor Text)) → option_map (λ s. s.now) r ≡ first_value f name → r ≡ None → first_of name (rows_of f) ≡ None
 none_of f name r gives is = sym (first_value-rows f name) ∙ sym gives ∙ ap (option_map (λ (s : Bor Text). s.now)) is
 
+-- a text that a getter gave, if any, is that of the rows
+pub text_is : (f : Found) (name : Text) (r : Option (Bor Text)) → option_map (λ s. s.now) r ≡ first_value f name → first_of name (rows_of f) ≡ option_map (λ s. s.now) r
+text_is f name r gives = sym (first_value-rows f name) ∙ sym gives
+
 -- what a typed getter gave is read from a text of the rows
 pub read_of : {T E : Type 0} (gives : List ℕ → Result T E → Type 0) (f : Found) (name : Text) (r : Option T) (x : T)
     → (one_text f name ≡ None → r ≡ None) → ((t : List ℕ) → one_text f name ≡ Some t → ReadsOne gives t r) → r ≡ Some x

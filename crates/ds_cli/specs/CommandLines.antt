@@ -7,15 +7,18 @@ use Rattle.clap.specs.declared.builder.command.Command.TheViews.{out-Command as 
 use Rattle.clap.specs.declared.builder.action.ArgAction.TheVariants.{SetTrue}
 use Rattle.clap.specs.declared.builder.value_parser.ValueParser.TheVariants.{Signed}
 use Rattle.ds_cli.specs.declared.command_line.Action.{Action}
-use Rattle.ds_cli.specs.declared.command_line.Action.TheVariants.{Run, Stops, Report, Explore, Trace, Serve, Keep, Connect, Check, Export, ExportUntil, Import, Compact, Backup}
+use Rattle.ds_cli.specs.declared.command_line.Action.TheVariants.{Run, Stops, Report, Explore, Trace, Serve, Keep, Connect, Check, Log, Export, Import, Compact, Backup}
 use Rattle.ds_cli.specs.declared.command_line.OptionsFault.{OptionsFault}
 use Rattle.ds_cli.specs.declared.command_line.OptionsFault.TheVariants.{CommandLine, NoCommand, NoFile, OutOfLimits}
 use Rattle.ds_cli.specs.Connectings.{IsConnecting, IsStopping}
 use Rattle.ds_cli.specs.Notations.{IsNotation}
 use Rattle.ds_cli.specs.Explorings.{IsExploring}
+use Rattle.ds_cli.specs.Exportings.{IsExporting}
+use Rattle.ds_cli.specs.Importings.{IsImporting}
+use Rattle.ds_cli.specs.Loggings.{IsLogging}
 use Rattle.ds_cli.specs.Reportings.{IsReporting}
 use Rattle.ds_cli.specs.Runnings.{IsRunning}
-use Rattle.ds_cli.specs.Servings.{IsNumberOf, IsOutOfLimits, IsServing}
+use Rattle.ds_cli.specs.Servings.{IsOutOfLimits, IsServing}
 
 -- `clap`'s command is this one, with no global argument
 pub record IsCommand (app : App) (command : Command) : Type 0 where
@@ -47,10 +50,10 @@ flag name = record (new_rule name) { long = Some name; action = Some SetTrue }
 abbrev pub input : Rule
 input = record (new_rule (codes "file")) { value_names = 1 }
 
--- `dsheet run [FILE] [--stops] [--from K] [--to K] [--a1]`
+-- `dsheet run [FILE] [--stops] [--from K] [--to K] [--strict] [--a1]`
 abbrev pub run_command : App
-run_command = with_rule (with_rule (with_rule (with_rule (with_rule (new_app (codes "run")) input) stops) (number_option (codes "from") (codes "1")))
-    (number_option (codes "to") (codes "0"))) (flag (codes "a1"))
+run_command = with_rule (with_rule (with_rule (with_rule (with_rule (with_rule (new_app (codes "run")) input) stops) (number_option (codes "from") (codes "1")))
+    (number_option (codes "to") (codes "0"))) (flag (codes "strict"))) (flag (codes "a1"))
 
 -- `dsheet explore [--crashes] [--stops] [--evictions] [--most N]`
 abbrev pub explore_command : App
@@ -61,9 +64,9 @@ explore_command = with_rule (with_rule (with_rule (with_rule (new_app (codes "ex
 abbrev pub trace_command : App
 trace_command = new_app (codes "trace")
 
--- `dsheet report [FILE] [--labels] [--a1]`
+-- `dsheet report [FILE] [--labels] [--json] [--a1]`
 abbrev pub report_command : App
-report_command = with_rule (with_rule (with_rule (new_app (codes "report")) input) (flag (codes "labels"))) (flag (codes "a1"))
+report_command = with_rule (with_rule (with_rule (with_rule (new_app (codes "report")) input) (flag (codes "labels"))) (flag (codes "json"))) (flag (codes "a1"))
 
 -- `dsheet serve --listen ADDRESS [--columns N] [--rows N]`
 abbrev pub sheet_command : App
@@ -79,35 +82,55 @@ shared_command = with_rule (with_rule (with_rule (with_rule sheet_command (numbe
 abbrev pub store : Rule
 store = record (new_rule (codes "store")) { long = Some (codes "store"); value_names = 1 }
 
+-- the option `--token-file` with one value
+abbrev pub token_file : Rule
+token_file = record (new_rule (codes "token-file")) { long = Some (codes "token-file"); value_names = 1 }
+
 -- the option `--log` with one value
 abbrev pub log_option : Rule
 log_option = record (new_rule (codes "log")) { long = Some (codes "log"); value_names = 1; defaults = codes "info" ∷ [] }
 
+-- the option `--http` with one value
+abbrev pub http : Rule
+http = record (new_rule (codes "http")) { long = Some (codes "http"); value_names = 1 }
+
+-- the same with [--http ADDRESS] [--token-file FILE] [--open]
+abbrev pub guarded_command : App
+guarded_command = with_rule (with_rule (with_rule shared_command http) token_file) (flag (codes "open"))
+
 -- the same with [--at-once N] [--idle SECONDS] [--store FILE] [--log LEVEL]
 abbrev pub serve_command : App
-serve_command = with_rule (with_rule (with_rule (with_rule shared_command (number_option (codes "at-once") (codes "64")))
+serve_command = with_rule (with_rule (with_rule (with_rule guarded_command (number_option (codes "at-once") (codes "64")))
     (number_option (codes "idle") (codes "300"))) store) log_option
 
 -- an argument of this name, which has to be there
 abbrev pub file : Text → Rule
 file name = record (new_rule name) { value_names = 1; required = true }
 
--- `dsheet connect SERVER [--process N] [--a1]`
+-- `dsheet connect SERVER [--process N] [--timeout SECONDS] [--token-file FILE] [--a1]`
 abbrev pub connect_command : App
-connect_command = with_rule (with_rule (with_rule (new_app (codes "connect")) (file (codes "server"))) (number_option (codes "process") (codes "0")))
-    (flag (codes "a1"))
+connect_command = with_rule (with_rule (with_rule (with_rule (with_rule (new_app (codes "connect")) (file (codes "server"))) (number_option (codes "process") (codes "0")))
+    (number_option (codes "timeout") (codes "60"))) token_file) (flag (codes "a1"))
 
 -- `dsheet COMMAND FILE`
 abbrev pub file_command : Text → App
 file_command name = with_rule (new_app name) (file (codes "file"))
 
--- `dsheet export FILE [--until N]`
+-- `dsheet export FILE [--until N] [--csv] [--values]`
 abbrev pub export_command : App
-export_command = with_rule (file_command (codes "export")) (number_option (codes "until") (codes "0"))
+export_command = with_rule (with_rule (with_rule (file_command (codes "export")) (number_option (codes "until") (codes "0"))) (flag (codes "csv"))) (flag (codes "values"))
 
--- `dsheet import FILE [--a1]`
+-- the option `--cell` with one value
+abbrev pub cell : Rule
+cell = record (new_rule (codes "cell")) { long = Some (codes "cell"); value_names = 1 }
+
+-- `dsheet log FILE [--cell CELL] [--at N] [--values]`
+abbrev pub log_command : App
+log_command = with_rule (with_rule (with_rule (file_command (codes "log")) cell) (number_option (codes "at") (codes "0"))) (flag (codes "values"))
+
+-- `dsheet import FILE [--csv] [--a1]`
 abbrev pub import_command : App
-import_command = with_rule (file_command (codes "import")) (flag (codes "a1"))
+import_command = with_rule (with_rule (file_command (codes "import")) (flag (codes "csv"))) (flag (codes "a1"))
 
 -- `dsheet compact FILE NEW`
 abbrev pub compact_command : App
@@ -119,8 +142,8 @@ backup_command = with_rule (file_command (codes "backup")) (file (codes "copy"))
 
 -- the program with the subcommands that work on a store
 abbrev pub with_stores : App → App
-with_stores app = with_subcommand (with_subcommand (with_subcommand (with_subcommand (with_subcommand app (file_command (codes "check")).top)
-    export_command.top) import_command.top) compact_command.top) backup_command.top
+with_stores app = with_subcommand (with_subcommand (with_subcommand (with_subcommand (with_subcommand (with_subcommand app (file_command (codes "check")).top)
+    log_command.top) export_command.top) import_command.top) compact_command.top) backup_command.top
 
 -- the program, which has a version and wants one of its subcommands
 abbrev pub dsheet_alone : App
@@ -152,9 +175,9 @@ Asks name rows (Serve serving) = (name ≡ codes "serve") × IsServing rows serv
 Asks name rows (Keep serving path) = (name ≡ codes "serve") × IsServing rows serving × Names rows (codes "store") path.now
 Asks name rows (Connect connecting notation) = (name ≡ codes "connect") × IsConnecting rows connecting × IsNotation rows notation
 Asks name rows (Check path) = (name ≡ codes "check") × Names rows (codes "file") path.now
-Asks name rows (Export path) = (name ≡ codes "export") × Names rows (codes "file") path.now × IsNumberOf rows (codes "until") 0
-Asks name rows (ExportUntil path most) = (name ≡ codes "export") × Names rows (codes "file") path.now × IsNumberOf rows (codes "until") most × (1 ≤ most)
-Asks name rows (Import path notation) = (name ≡ codes "import") × Names rows (codes "file") path.now × IsNotation rows notation
+Asks name rows (Log logging) = (name ≡ codes "log") × IsLogging rows logging
+Asks name rows (Export exporting) = (name ≡ codes "export") × IsExporting rows exporting
+Asks name rows (Import importing) = (name ≡ codes "import") × IsImporting rows importing
 Asks name rows (Compact path new) = (name ≡ codes "compact") × Names rows (codes "file") path.now × Names rows (codes "new") new.now
 Asks name rows (Backup path copy) = (name ≡ codes "backup") × Names rows (codes "file") path.now × Names rows (codes "copy") copy.now
 
@@ -164,18 +187,18 @@ IsAskedBy words action = (name : Text) × (rows : List Row) × (subcommand_of ds
 
 -- the subcommand of this name has options with limits
 abbrev pub HasLimits : Text → Type 0
-HasLimits name = ((name ≡ codes "serve") ⊎ (name ≡ codes "explore")) ⊎ ((name ≡ codes "connect") ⊎ ((name ≡ codes "run") ⊎ (name ≡ codes "export")))
+HasLimits name = ((name ≡ codes "serve") ⊎ (name ≡ codes "explore")) ⊎ ((name ≡ codes "connect") ⊎ ((name ≡ codes "run") ⊎ ((name ≡ codes "export") ⊎ (name ≡ codes "log"))))
 
 -- the subcommands that want the file of a store
 abbrev pub WantsFile : Text → Type 0
-WantsFile name = ((name ≡ codes "check") ⊎ (name ≡ codes "export")) ⊎ ((name ≡ codes "import") ⊎ ((name ≡ codes "compact") ⊎ (name ≡ codes "backup")))
+WantsFile name = ((name ≡ codes "check") ⊎ ((name ≡ codes "export") ⊎ (name ≡ codes "log"))) ⊎ ((name ≡ codes "import") ⊎ ((name ≡ codes "compact") ⊎ (name ≡ codes "backup")))
 
 -- a subcommand of this name with these matches asks for nothing, for this fault: it is none of these, an argument is
 -- missing, or an option is out of its limits
 abbrev pub AsksNothing : Text → List Row → OptionsFault → Type 0
 AsksNothing name rows (CommandLine error) = ⊥
 AsksNothing name rows NoCommand = (name ≢ codes "run") × (name ≢ codes "report") × (name ≢ codes "serve") × (name ≢ codes "explore") × (name ≢ codes "trace")
-    × (name ≢ codes "connect") × (name ≢ codes "check")
+    × (name ≢ codes "connect") × (name ≢ codes "check") × (name ≢ codes "log")
     × (name ≢ codes "export") × (name ≢ codes "import") × (name ≢ codes "compact") × (name ≢ codes "backup")
 AsksNothing name rows NoFile = (WantsFile name × (first_of (codes "file") rows ≡ None))
     ⊎ (((name ≡ codes "compact") × (first_of (codes "new") rows ≡ None)) ⊎ ((name ≡ codes "backup") × (first_of (codes "copy") rows ≡ None)))
@@ -184,9 +207,9 @@ AsksNothing name rows (OutOfLimits limit) = HasLimits name × IsOutOfLimits rows
 -- the same of a subcommand that none but those on a store can be
 abbrev pub AsksOfStore : Text → List Row → OptionsFault → Type 0
 AsksOfStore name rows (CommandLine error) = ⊥
-AsksOfStore name rows NoCommand = (name ≢ codes "check") × (name ≢ codes "export") × (name ≢ codes "import") × (name ≢ codes "compact") × (name ≢ codes "backup")
+AsksOfStore name rows NoCommand = (name ≢ codes "check") × (name ≢ codes "log") × (name ≢ codes "export") × (name ≢ codes "import") × (name ≢ codes "compact") × (name ≢ codes "backup")
 AsksOfStore name rows NoFile = AsksNothing name rows NoFile
-AsksOfStore name rows (OutOfLimits limit) = (name ≡ codes "export") × IsOutOfLimits rows limit
+AsksOfStore name rows (OutOfLimits limit) = ((name ≡ codes "export") ⊎ (name ≡ codes "log")) × IsOutOfLimits rows limit
 
 -- there is no subcommand, or it asks for nothing, for this fault
 abbrev pub NamesNothing : Option (Text × List Row) → OptionsFault → Type 0

@@ -1,5 +1,5 @@
 -- What an exploration is asked for, by the options of `dsheet explore`.
-use Rattle.std.specs.Prelude.{◌≡◌, ◌↔◌, Bool, IsTrue, List, Some, codes}
+use Rattle.std.specs.Prelude.{◌≡◌, ◌↔◌, ◌≤◌, Bool, IsTrue, List, Some, codes}
 use Rattle.clap.specs.Words.{Row, Text, one_of}
 use Rattle.ds_cli.specs.Servings.{IsNumberOf}
 use Rattle.ds_cli.specs.declared.exploring.Exploring.{Exploring}
@@ -14,3 +14,4 @@ pub record IsExploring (rows : List Row) (e : Exploring) : Type 0 where
   pub stops : IsFlag rows (codes "stops") e.stops
   pub evictions : IsFlag rows (codes "evictions") e.evictions
   pub most : IsNumberOf rows (codes "most") e.thousands
+  pub some : 1 ≤ e.thousands

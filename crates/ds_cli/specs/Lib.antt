@@ -6,3 +6,6 @@ pub mod Notations
 pub mod Reportings
 pub mod Inputs
 pub mod Runnings
+pub mod Exportings
+pub mod Importings
+pub mod Loggings

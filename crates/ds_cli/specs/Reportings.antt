@@ -11,3 +11,4 @@ pub record IsReporting (rows : List Row) (r : Reporting) : Type 0 where
   pub file : IsInput rows r.file
   pub notation : IsNotation rows r.notation
   pub labels : IsFlag rows (codes "labels") r.labels
+  pub json : IsFlag rows (codes "json") r.json

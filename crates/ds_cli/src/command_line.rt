@@ -4,14 +4,18 @@ ghost use Rattle.std.specs.Prelude.{◌≡◌, ◌↔◌, IfErr, IfOk, IsTrue, N
 ghost use Rattle.std.specs.String.{string_bytes};
 ghost use Rattle.clap.specs.Words.{App, Rule, app_of, fault_of, new_app, first_of, found_of, one_of, rows_of, rule_of, with_rule, with_subcommand};
 ghost use Rattle.ds_cli.specs.declared.command_line.OptionsFault.TheVariants.{CommandLine, NoFile};
-ghost use Rattle.ds_cli.specs.CommandLines.{Asks, AsksNothing, AsksOfStore, IsAskedBy, IsCommand, IsRefusedFor, IsWanting, Names, backup_command as backup_app, compact_command as compact_app, connect_command as connect_app, dsheet, dsheet_alone, explore_command as explore_app, export_command as export_app, file as file_rule, input as input_rule, flag as flag_rule, file_command as file_app, import_command as import_app, listen as listen_rule, log_option as log_rule, number_option as number_rule, report_command as report_app, run_command as run_app, serve_command as serve_app, shared_command as shared_app, sheet_command as sheet_app, store as store_rule, trace_command as trace_app, with_stores};
+ghost use Rattle.ds_cli.specs.CommandLines.{Asks, AsksNothing, AsksOfStore, IsAskedBy, IsCommand, IsRefusedFor, IsWanting, Names, backup_command as backup_app, compact_command as compact_app, connect_command as connect_app, dsheet, dsheet_alone, explore_command as explore_app, export_command as export_app, file as file_rule, input as input_rule, flag as flag_rule, http as http_rule, guarded_command as guarded_app, token_file as token_file_rule, file_command as file_app, import_command as import_app, log_command as log_app, cell as cell_rule, listen as listen_rule, log_option as log_rule, number_option as number_rule, report_command as report_app, run_command as run_app, serve_command as serve_app, shared_command as shared_app, sheet_command as sheet_app, store as store_rule, trace_command as trace_app, with_stores};
 
 use crate::connecting::{Connecting, Stopping, read_connecting, read_stopping};
 use crate::exploring::{Exploring, is_set, read_exploring};
+use crate::exporting::{Exporting, form_of};
+use crate::help;
+use crate::importing::Importing;
+use crate::logging::{Logging, shown_of};
 use crate::notations::notation_of;
 use crate::reporting::{Reporting, read_reporting};
 use crate::running::{Running, read_running};
-use crate::serving::{OutOfLimits, Serving, number, read_serving};
+use crate::serving::{OutOfLimits, Serving, number, read_serving, text};
 use clap::{Arg, ArgAction, ArgMatches, Command, Error, value_parser};
 use ds_a1::notation::Notation;
 use std::alloc::{AllocError, Global};
@@ -30,20 +34,19 @@ pub enum Action<'a> {
     /// `dsheet trace`: a picture of the run of a script.
     Trace,
     /// `dsheet serve`: sessions over connections.
-    Serve(Serving),
+    Serve(Serving<'a>),
     /// `dsheet serve --store FILE`: the same, over the sheet of a store.
-    Keep(Serving, &'a str),
+    Keep(Serving<'a>, &'a str),
     /// `dsheet connect SERVER`: a session of lines, with formulas in this notation.
-    Connect(Connecting, Notation),
+    Connect(Connecting<'a>, Notation),
     /// `dsheet check FILE`: what a store has.
     Check(&'a str),
-    /// `dsheet export FILE`: the lines of a store.
-    Export(&'a str),
-    /// `dsheet export FILE --until N`: the first lines of a store, as far as they are sound, at most as many as this, from
-    /// 1 to 65,535.
-    ExportUntil(&'a str, usize),
-    /// `dsheet import FILE`: a store of lines on standard input, with formulas in this notation.
-    Import(&'a str, Notation),
+    /// `dsheet log FILE`: the edits of a store.
+    Log(Logging<'a>),
+    /// `dsheet export FILE`: the lines of a store, or its cells.
+    Export(Exporting<'a>),
+    /// `dsheet import FILE`: a store of what is on standard input.
+    Import(Importing<'a>),
     /// `dsheet compact FILE NEW`: a new store of the texts of an old one.
     Compact(&'a str, &'a str),
     /// `dsheet backup FILE COPY`: a copy of a store.
@@ -66,254 +69,8 @@ pub enum OptionsFault {
 // The flag of `run` that crashes the sheet after each step.
 const STOPS: &str = "stops";
 
-const A1_HELP: &str = "Formulas are written as in Calc and Excel: =A1*2, =SUM(A1:B3,7)";
-
 // The program's version.
 const VERSION: &str = "0.1.0";
-
-const ABOUT: &str = "The calculator of a shared spreadsheet that survives crashes";
-
-const RUN_ABOUT: &str =
-    "Runs a script, from a file or standard input, and writes its answers to standard output";
-
-const REPORT_ABOUT: &str =
-    "Reads a grid of texts, from a file or standard input, and writes its values to standard output";
-
-const EXPLORE_ABOUT: &str = "Goes through all orders of the steps of a script's calls";
-
-const TRACE_ABOUT: &str =
-    "Draws the run of a script from standard input, as one SVG on standard output";
-
-const SERVE_ABOUT: &str =
-    "Serves a sheet to clients, each a session of JSON lines over a connection";
-
-const CONNECT_ABOUT: &str =
-    "Speaks to a server: lines as set A1 =1+2, report and last in, answers as of run out";
-
-const RUN_HELP: &str = "\
-Commands, one a line. P is a process, from 0; C is a cell, as A1.
-  sheet COLUMNS ROWS PROCESSES   a new sheet; only as the first command; without it 2 2 2
-  layout N                       makes it in layout 1, of shorter texts, or in 2; first, or after sheet
-  set P C TEXT                   an edit: sets the text of a cell
-  work P C                       works on a cell that is marked, and gives it its value
-  settle P                       works until no cell is marked
-  report P                       shows all values as CSV
-  recover P                      tells, after a crash or a stop, whether its last edit counts
-  migrate P                      takes a sheet of layout 1 to layout 2, where all processes have stopped
-
-The same in parts, with what may come between:
-  begin P set C TEXT             begins an edit; so do begin P work C, begin P show (a report),
-                                 begin P recover and begin P migrate for the other calls
-  step P                         makes one step of its call
-  run P to POINT                 makes steps until its call has passed the point
-  run P                          makes steps to the end of its call
-  stop P                         stops it: its call is lost
-  crash                          stops all; what is not persisted is lost
-  evict PLACE                    persists a word
-  peek C                         shows the state, the value and the text of a cell
-  word PLACE                     shows the cached and the persisted number of a word
-
-Points, in order:
-  an edit       written announced indexed helped swung kept marked answered
-  work          held stored valued spread cleared
-  a recovery    freed kept marked answered
-  a migration   copied switched
-Places (N is one of the edits of P, from 0; PART is from 0):
-  head C, mark C, value C, kind C, index C PART,
-  announce P, header P N, text P N PART (layout 1), newtext P N PART (layout 2), done P PART,
-  version
-
-A text is empty, a whole number or a formula, as =[.A1]*2 or =SUM([.A1:.B3];7):
-a reference is [.A1], a range [.A1:.B3], and ; parts arguments. With --a1 they are written as in
-Calc and Excel, =A1*2 or =SUM(A1:B3,7): brackets, and a text over 240 bytes with them, end the
-script at their line, which is named; what else is refused is named by its byte in the text with brackets.
-Functions: SUM MIN MAX COUNT AND OR of one argument or more, ranges among them;
-ABS and NOT of one; MOD and QUOTIENT of two; IF of two or three.
-Limits: 26 columns, 64 rows, 1024 cells; 8 processes, 256 edits of each;
-240 bytes a text (120 in layout 1), 512 a line, 1048576 a script.
-Empty lines and lines that begin with # are skipped. The answers come when the input has ended.
-
-With --stops its own answers are not written. Behind each of its steps, or of those from --from
-to --to, a copy of the sheet crashes, and what is told then is written: stop K, then the lines
-of recover for each process, of settle 0 and of report 0.
-
-Examples:
-  printf 'set 0 A1 =1+2\\nsettle 0\\nreport 0\\n' | dsheet run
-  printf 'set 0 A1 7\\n' | dsheet run --stops
-  printf 'set 0 A1 =B1+1\\nsettle 0\\nreport 0\\n' | dsheet run --a1
-  dsheet run budget.script
-
-Exit status: 0 ended; 1 a fault in a line, which is named; 2 wrong words on the
-command line; 3 a failed read or write, or a script over 1048576 bytes; 4 no memory.";
-
-const REPORT_HELP: &str = "\
-The grid is CSV without a heading line: a record is a row, a field the text of a cell.
-A text is empty, a whole number or a formula, as =[.A1]*2 or =SUM([.A1:.B3];7):
-a reference is [.A1], a range [.A1:.B3], and ; parts arguments. With --a1 they are written as in
-Calc and Excel, =A1*2 or =SUM(A1:B3,7) (a field with a comma stands in quotes), and brackets are refused.
-Functions: SUM MIN MAX COUNT AND OR of one argument or more, ranges among them;
-ABS and NOT of one; MOD and QUOTIENT of two; IF of two or three.
-Limits: 26 columns, 64 rows, 1024 cells; 240 bytes a text, 1048576 the grid.
-What is written is the values, as CSV. With --labels a field is written as it is, and counts as blank, that begins
-neither as a number nor as a formula does (=, a digit, or these after spaces, tabs, signs or points): headings and names.
-Nothing is written where a fault is told:
-  empty grid        no record
-  bad csv           a record has another number of fields than the first
-  grid too large    more columns, rows or cells than the limits
-  cell A1: KIND N   the text of this cell is refused at its byte N, from 0; with --a1 at that of the text with brackets;
-                    below it stand the line and the column of the field and its text; all such fields are told
-
-Examples:
-  printf '1,=[.A1]*20\\n2,=SUM([.A1:.A2])\\n' | dsheet report
-  printf '1,=A1*20\\n' | dsheet report --a1
-  dsheet report budget.csv --labels --a1
-  printf 'Rent,900\\nFood,350\\nAll,=SUM(B1:B2)\\n' | dsheet report --labels --a1
-
-Exit status: 0 ended; 1 a fault in the grid; 2 wrong words on the command line;
-3 a failed read or write, or a grid over 1048576 bytes; 4 no memory.";
-
-const EXPLORE_HELP: &str = "\
-The script begins calls and does not finish them, as \"begin 0 set A1 1\" and \"begin 1 work A1\". All orders of their
-steps are carried out; after each end every process recovers, and the sheet is settled and reported by process 0.
-What is written is how many states and orders there are, and each different outcome once: how many orders lead to it,
-what is wrong with it, if anything is, and a shortest script, with what \"dsheet run\" answers it. A state that was seen
-before is not gone through again.
-
-Example:
-  printf 'begin 0 set A1 1\\nbegin 1 set A1 2\\n' | dsheet explore --crashes
-
-Exit status: 0 all orders were gone through, and nothing is wrong; 1 something is wrong with an outcome, or a fault in
-a line, which is named; 2 wrong words on the command line; 3 a failed read or write, a script over 1048576 bytes, or
-more states than --most says, of which those that were found are written; 4 no memory.";
-
-const TRACE_HELP: &str = "\
-Time runs down. Each process has a lane with its calls and steps, each word that changes a column with both its sides:
-filled bars are what processes see, hatched ones what a crash leaves. Flushes, write-backs and evictions are arrows, a
-crash is a line across, and what it takes back is struck out. Titles, on hover, say what a word means.
-
-Example:
-  dsheet trace < examples/taken_back > run.svg
-
-Exit status: 0 drawn; 1 a fault in a line, which is named; 2 wrong words on the command line; 3 a failed read or write,
-a script or a picture over 1048576 bytes, or more than 1000 events; 4 no memory. Nothing is written unless it is drawn.";
-
-const SERVE_HELP: &str = "\
-Serves as many connections as --sessions says, each a session in its thread, and ends when they have ended; with
--- forever it serves on until a line \"stop\" comes on standard input: the sessions that are there then answer what they
-have read. The last processes are the workers': they go round the cells and work on those that are
-marked; no session can join them. Once it listens it says so on standard error, with its port.
-
-With --store the sheet is that of a file, which is made where there is none: no answer leaves before the edits that
-were made before it are kept there. Kill the server, start it with the same words, and ask: each edit that was
-answered done is there, and a join tells of the last one. Its shape and its processes have to be those of the file.
-
-The protocol: a line of JSON in, a line of JSON out, before the next line is read. Cells are texts, as \"A1\".
-  {\"op\":\"join\",\"process\":0}                   takes a process, and tells of its last edit, as last does
-  {\"op\":\"set\",\"cell\":\"A1\",\"text\":\"=1+2\"}      an edit
-  {\"op\":\"report\"}                             works until no cell is marked, and reports all values
-  {\"op\":\"last\"}                               tells whether the process's last edit counts
-are answered, on a new sheet:
-  {\"last\":null,\"ok\":\"join\",\"process\":0}
-  {\"number\":0,\"ok\":\"done\"}
-  {\"ok\":\"settled\",\"rows\":[[\"3\",\"\"],[\"\",\"\"]]}
-  {\"last\":{\"cell\":\"A1\",\"number\":0,\"outcome\":\"done\"},\"ok\":\"last\"}
-A set may also be answered \"overtaken\", with the edit that has overtaken it: it does not count. A report may be
-answered \"unsettled\", with a word of the sheet that was not at rest: others were editing. Ask again.
-Refusals have a code: 1 not-json, 2 unknown-op, 3 bad-field, 4 process-taken, 5 line-too-long (over 4096
-bytes), 6 not-joined, 7 already-joined, 11 text, 13 stopped, 14 records-full (a process has 256 edits in all),
-15 no-memory. They change no text.
-A session is of at most 1048576 bytes; at its end its process is free again. What ends a connection is told as its
-last line: 16 busy (as many sessions as --at-once), 17 too-long, 18 idle (nothing said or taken for --idle seconds),
-19 where the client speaks HTTP or TLS.
-
-Example:
-  dsheet serve --listen 127.0.0.1:8080 --store sheet.db --forever &
-  printf '{\"op\":\"join\",\"process\":0}\\n{\"op\":\"report\"}\\n' | nc -N 127.0.0.1 8080
-
-Exit status: 0 ended; 1 a store that is another sheet's, or unsound; 2 wrong words on the command line; 3 the address
-can not be listened on, or no connection taken from it, or the store not be opened or written; 4 no memory.
-Each session that does not end with its client is one line on standard error, and so is what all came to.";
-
-const CONNECT_HELP: &str = "\
-Joins the process, and tells what became of its last edit, as recover does in a script. Then each line of standard
-input is one call: set CELL TEXT, report, or last. Empty lines and lines that begin with # are skipped. Where the
-connection breaks, the process is joined anew, and what is told then says whether the edit under way counts; an edit is
-never sent twice. With --a1 a text is written as in Calc and Excel, as =A1*2, and is sent as =[.A1]*2.
-
-Example:
-  printf 'set A1 =1+2\\nreport\\n' | dsheet connect 127.0.0.1:8080 --process 1
-
-Exit status: 0 ended; 1 a line that is no call, or a join that is refused; 2 wrong words on the command line;
-3 no connection, or a failed read or write; 4 no memory.";
-
-const CHECK_ABOUT: &str = "Reads a store, and says what it has, or which line is unsound";
-
-const CHECK_HELP: &str = "\
-Reads each line of the store, makes its edit on a new sheet, and says how many edits of each process there are, of the
-256 that it may make. Nothing in the file is believed: a line whose edit is not answered done is a fault.
-
-Example:
-  dsheet check sheet.db
-
-Exit status: 0 sound; 1 a line that can not be followed, or another database; 2 wrong words on the command line;
-3 the file can not be opened or read, or another program has it open; 4 no memory.";
-
-const EXPORT_ABOUT: &str =
-    "Writes the lines of a store to standard output: a script, which run reads";
-
-const EXPORT_HELP: &str = "\
-Of a store that is damaged nothing is written, but with --until what can be saved: the lines before the one that check
-names. Standard error says from which line on they are left out. Lines are counted as in the store, with those of sums,
-which are not written. Where a sum is wrong, one of the lines since the sum before it was changed.
-
-Example:
-  dsheet export sheet.db > sheet.script
-  dsheet run < sheet.script
-  dsheet export damaged.db --until 65535 | dsheet import saved.db
-
-Exit status: as of check; 3 also where standard output can not be written.";
-
-const IMPORT_ABOUT: &str = "Makes a store of the lines on standard input, as export writes them";
-
-const IMPORT_HELP: &str = "\
-The first line is \"sheet COLUMNS ROWS PROCESSES\", each other one \"set PROCESS CELL TEXT\", a comment, or empty.
-Every edit is made on a new sheet, and has to be answered done. The file must not have anything yet.
-With --a1 formulas are written as in Calc and Excel, as =A1*2, and are kept as =[.A1]*2.
-
-Example:
-  printf 'sheet 2 2 2\\nset 0 A1 =1+2\\n' | dsheet import sheet.db
-
-Exit status: as of check; 3 also where standard input can not be read, or is over 1048576 bytes.";
-
-const COMPACT_ABOUT: &str =
-    "Makes a new store whose edits give each cell the text that it has in an old one";
-
-const COMPACT_HELP: &str = "\
-A process has 256 edits in all. Where they are spent, the new store goes on with the same texts: one edit for each
-cell that has one, by the processes in turn. The numbers of its edits are its own: what was told of those of the old
-store can not be asked of the new one. The new file must not have anything yet; the old one stays.
-
-Example:
-  dsheet compact sheet.db next.db
-
-Exit status: as of check.";
-
-const BACKUP_ABOUT: &str = "Makes a copy of a store, also while a server has it open";
-
-const BACKUP_HELP: &str = "\
-The copy has the lines that were committed at one moment: each edit that was answered done before the command began is
-there. The files of the store are read alone. There must be no file of the copy's name; where the copy fails, none stays.
-
-Example:
-  dsheet backup sheet.db copy.db
-
-Exit status: as of check; 1 also where there is a file already.";
-
-const HELP: &str = "\
-Examples:
-  printf 'set 0 A1 =1+2\\nsettle 0\\nreport 0\\n' | dsheet run
-  printf '1,=[.A1]*20\\n' | dsheet report
-  dsheet serve --listen 127.0.0.1:8080";
 
 // A command of this name, with the texts of its help.
 fn described<'a>(alloc: Global, name: &'a str, about: &'a str, after: &'a str) -> Command<'a>
@@ -326,31 +83,31 @@ fn described<'a>(alloc: Global, name: &'a str, about: &'a str, after: &'a str) -
 fn run_alone<'a>(alloc: Global) -> Command<'a>
     ensures { IsCommand (new_app (codes "run")) result }
 {
-    described(alloc, "run", RUN_ABOUT, RUN_HELP)
+    described(alloc, "run", help::RUN_ABOUT, help::RUN_HELP)
 }
 
 fn report_alone<'a>(alloc: Global) -> Command<'a>
     ensures { IsCommand (new_app (codes "report")) result }
 {
-    described(alloc, "report", REPORT_ABOUT, REPORT_HELP)
+    described(alloc, "report", help::REPORT_ABOUT, help::REPORT_HELP)
 }
 
 fn explore_alone<'a>(alloc: Global) -> Command<'a>
     ensures { IsCommand (new_app (codes "explore")) result }
 {
-    described(alloc, "explore", EXPLORE_ABOUT, EXPLORE_HELP)
+    described(alloc, "explore", help::EXPLORE_ABOUT, help::EXPLORE_HELP)
 }
 
 fn serve_alone<'a>(alloc: Global) -> Command<'a>
     ensures { IsCommand (new_app (codes "serve")) result }
 {
-    described(alloc, "serve", SERVE_ABOUT, SERVE_HELP)
+    described(alloc, "serve", help::SERVE_ABOUT, help::SERVE_HELP)
 }
 
 fn connect_alone<'a>(alloc: Global) -> Command<'a>
     ensures { IsCommand (new_app (codes "connect")) result }
 {
-    described(alloc, "connect", CONNECT_ABOUT, CONNECT_HELP)
+    described(alloc, "connect", help::CONNECT_ABOUT, help::CONNECT_HELP)
 }
 
 // A command with one argument more.
@@ -390,7 +147,7 @@ fn called<'a>(
 fn run_command<'a>(alloc: Global) -> Result<Command<'a>, AllocError>
     ensures { IfOk result (IsCommand run_app) }
 {
-    let stops_help = "Crashes the sheet after each step, and writes what is told then";
+    let stops_help = "Crashes the sheet after each step, and writes what is answered then";
     let file = input_argument(alloc, "The file of the script; - or none: standard input");
     let one = with_argument(Ok(run_alone(alloc)), file);
     let two = with_argument(one, flag(alloc, STOPS, stops_help));
@@ -398,8 +155,9 @@ fn run_command<'a>(alloc: Global) -> Result<Command<'a>, AllocError>
     let three = with_argument(two, number_option(alloc, "from", "1", from_help));
     let to_help = "With --stops: the last one; 0: to the end";
     let four = with_argument(three, number_option(alloc, "to", "0", to_help));
-    let five = with_argument(four, a1_flag(alloc));
-    called(five, "dsheet run")
+    let five = with_argument(four, flag(alloc, "strict", help::STRICT_HELP));
+    let six = with_argument(five, a1_flag(alloc));
+    called(six, "dsheet run")
 }
 
 // A flag.
@@ -418,7 +176,7 @@ fn a1_flag<'a>(alloc: Global) -> Arg<'a>
     ensures rule { rule_of result ≡ flag_rule (codes "a1") }
     ensures local { result.global ≡ false }
 {
-    flag(alloc, "a1", A1_HELP)
+    flag(alloc, "a1", help::A1_HELP)
 }
 
 fn explore_command<'a>(alloc: Global) -> Result<Command<'a>, AllocError>
@@ -438,7 +196,7 @@ fn explore_command<'a>(alloc: Global) -> Result<Command<'a>, AllocError>
 fn trace_command<'a>(alloc: Global) -> Command<'a>
     ensures { IsCommand trace_app result }
 {
-    described(alloc, "trace", TRACE_ABOUT, TRACE_HELP)
+    described(alloc, "trace", help::TRACE_ABOUT, help::TRACE_HELP)
 }
 
 fn report_command<'a>(alloc: Global) -> Result<Command<'a>, AllocError>
@@ -449,8 +207,9 @@ fn report_command<'a>(alloc: Global) -> Result<Command<'a>, AllocError>
     let file = input_argument(alloc, "The file of the grid; - or none: standard input");
     let one = with_argument(Ok(report_alone(alloc)), file);
     let two = with_argument(one, labels);
-    let three = with_argument(two, a1_flag(alloc));
-    called(three, "dsheet report")
+    let three = with_argument(two, flag(alloc, "json", help::JSON_HELP));
+    let four = with_argument(three, a1_flag(alloc));
+    called(four, "dsheet report")
 }
 
 // An option with a number from 0 to 65,535.
@@ -491,6 +250,28 @@ fn store_option<'a>(alloc: Global) -> Arg<'a>
         )
 }
 
+// The option of `serve` that has the address for HTTP.
+fn http_option<'a>(alloc: Global) -> Arg<'a>
+    ensures rule { rule_of result ≡ http_rule }
+    ensures local { result.global ≡ false }
+{
+    Arg::new(alloc, "http")
+        .long("http")
+        .value_name("ADDRESS")
+        .help("Answers HTTP at this address and port, too, as 127.0.0.1:8081")
+}
+
+// The option of `serve` that has the file of the token.
+fn token_file_option<'a>(alloc: Global) -> Arg<'a>
+    ensures rule { rule_of result ≡ token_file_rule }
+    ensures local { result.global ≡ false }
+{
+    Arg::new(alloc, "token-file")
+        .long("token-file")
+        .value_name("FILE")
+        .help("A join has to have the first line of this file as its token")
+}
+
 // The option of `serve` that has the level of the log.
 fn log_option<'a>(alloc: Global) -> Arg<'a>
     ensures rule { rule_of result ≡ log_rule }
@@ -500,7 +281,9 @@ fn log_option<'a>(alloc: Global) -> Arg<'a>
         .long("log")
         .value_name("LEVEL")
         .default_value("info")
-        .help("How much the log has: off, error, warn or info")
+        .help(
+            "How much the log has: off, error, warn or info, of which debug and trace have no more",
+        )
 }
 
 // An argument that has to be there.
@@ -539,7 +322,7 @@ fn file_command<'a>(
 fn compact_command<'a>(alloc: Global) -> Result<Command<'a>, AllocError>
     ensures { IfOk result (IsCommand compact_app) }
 {
-    let command = file_command(alloc, "compact", COMPACT_ABOUT, COMPACT_HELP);
+    let command = file_command(alloc, "compact", help::COMPACT_ABOUT, help::COMPACT_HELP);
     let new = file_argument(alloc, "new", "NEW", "The file of the new store");
     with_argument(command, new)
 }
@@ -548,7 +331,7 @@ fn compact_command<'a>(alloc: Global) -> Result<Command<'a>, AllocError>
 fn backup_command<'a>(alloc: Global) -> Result<Command<'a>, AllocError>
     ensures { IfOk result (IsCommand backup_app) }
 {
-    let command = file_command(alloc, "backup", BACKUP_ABOUT, BACKUP_HELP);
+    let command = file_command(alloc, "backup", help::BACKUP_ABOUT, help::BACKUP_HELP);
     let copy = file_argument(alloc, "copy", "COPY", "The file of the copy");
     with_argument(command, copy)
 }
@@ -557,18 +340,42 @@ fn backup_command<'a>(alloc: Global) -> Result<Command<'a>, AllocError>
 fn export_command<'a>(alloc: Global) -> Result<Command<'a>, AllocError>
     ensures { IfOk result (IsCommand export_app) }
 {
-    let command = file_command(alloc, "export", EXPORT_ABOUT, EXPORT_HELP);
+    let command = file_command(alloc, "export", help::EXPORT_ABOUT, help::EXPORT_HELP);
     let until_help =
         "The lines before the first that is wrong, N at most; 0: all, or none where one is wrong";
-    with_argument(command, number_option(alloc, "until", "0", until_help))
+    let one = with_argument(command, number_option(alloc, "until", "0", until_help));
+    let two = with_argument(one, flag(alloc, "csv", help::EXPORT_CSV_HELP));
+    with_argument(two, flag(alloc, "values", help::EXPORT_VALUES_HELP))
+}
+
+// The option of `log` that names a cell.
+fn cell_option<'a>(alloc: Global) -> Arg<'a>
+    ensures rule { rule_of result ≡ cell_rule }
+    ensures local { result.global ≡ false }
+{
+    Arg::new(alloc, "cell")
+        .long("cell")
+        .value_name("CELL")
+        .help("This cell alone, as A1")
+}
+
+// `dsheet log`.
+fn log_command<'a>(alloc: Global) -> Result<Command<'a>, AllocError>
+    ensures { IfOk result (IsCommand log_app) }
+{
+    let command = file_command(alloc, "log", help::LOG_ABOUT, help::LOG_HELP);
+    let one = with_argument(command, cell_option(alloc));
+    let two = with_argument(one, number_option(alloc, "at", "0", help::AT_HELP));
+    with_argument(two, flag(alloc, "values", help::LOG_VALUES_HELP))
 }
 
 // `dsheet import`.
 fn import_command<'a>(alloc: Global) -> Result<Command<'a>, AllocError>
     ensures { IfOk result (IsCommand import_app) }
 {
-    let command = file_command(alloc, "import", IMPORT_ABOUT, IMPORT_HELP);
-    with_argument(command, a1_flag(alloc))
+    let command = file_command(alloc, "import", help::IMPORT_ABOUT, help::IMPORT_HELP);
+    let one = with_argument(command, flag(alloc, "csv", help::IMPORT_CSV_HELP));
+    with_argument(one, a1_flag(alloc))
 }
 
 // A command with those on stores below it.
@@ -578,12 +385,13 @@ fn with_stores<'a>(
 ) -> Result<Command<'a>, AllocError>
     ensures { (app : App) → IfOk command.entry (IsCommand app) → IfOk result (IsCommand (with_stores app)) }
 {
-    let check = file_command(alloc, "check", CHECK_ABOUT, CHECK_HELP);
+    let check = file_command(alloc, "check", help::CHECK_ABOUT, help::CHECK_HELP);
     let one = with_command(command, check);
-    let two = with_command(one, export_command(alloc));
-    let three = with_command(two, import_command(alloc));
-    let four = with_command(three, compact_command(alloc));
-    with_command(four, backup_command(alloc))
+    let two = with_command(one, log_command(alloc));
+    let three = with_command(two, export_command(alloc));
+    let four = with_command(three, import_command(alloc));
+    let five = with_command(four, compact_command(alloc));
+    with_command(five, backup_command(alloc))
 }
 
 // `dsheet serve` with its sheet.
@@ -608,8 +416,18 @@ fn shared_command<'a>(alloc: Global) -> Result<Command<'a>, AllocError>
     let two = with_argument(one, number_option(alloc, "workers", "0", workers_help));
     let sessions_help = "Connections that are served before the server ends, at least 1";
     let three = with_argument(two, number_option(alloc, "sessions", "1", sessions_help));
-    let forever_help = "Serves as many connections as come, until it is told to stop";
+    let forever_help = "Serves as many connections as come, until it is asked to stop";
     with_argument(three, flag(alloc, "forever", forever_help))
+}
+
+// The command with HTTP and who may join, too.
+fn guarded_command<'a>(alloc: Global) -> Result<Command<'a>, AllocError>
+    ensures { IfOk result (IsCommand guarded_app) }
+{
+    let one = with_argument(shared_command(alloc), http_option(alloc));
+    let two = with_argument(one, token_file_option(alloc));
+    let open_help = "Listens without a token at addresses of other machines, too";
+    with_argument(two, flag(alloc, "open", open_help))
 }
 
 fn serve_command<'a>(alloc: Global) -> Result<Command<'a>, AllocError>
@@ -617,7 +435,7 @@ fn serve_command<'a>(alloc: Global) -> Result<Command<'a>, AllocError>
 {
     let at_once_help = "Sessions at once, at least 1; a connection beyond them is refused";
     let at_once = number_option(alloc, "at-once", "64", at_once_help);
-    let one = with_argument(shared_command(alloc), at_once);
+    let one = with_argument(guarded_command(alloc), at_once);
     let idle_help = "Seconds for which a client may say or take nothing; 0: for ever";
     let two = with_argument(one, number_option(alloc, "idle", "300", idle_help));
     let three = with_argument(two, store_option(alloc));
@@ -633,7 +451,10 @@ fn connect_command<'a>(alloc: Global) -> Result<Command<'a>, AllocError>
     let one = with_argument(Ok(connect_alone(alloc)), server);
     let process_help = "The process that is joined, 0 to 7";
     let two = with_argument(one, number_option(alloc, "process", "0", process_help));
-    with_argument(two, a1_flag(alloc))
+    let timeout_help = "Seconds for which an answer is waited for; 0: for ever";
+    let three = with_argument(two, number_option(alloc, "timeout", "60", timeout_help));
+    let four = with_argument(three, token_file_option(alloc));
+    with_argument(four, a1_flag(alloc))
 }
 
 // The program wants one of its subcommands, and prints its version.
@@ -650,7 +471,7 @@ fn wanting<'a>(command: Command<'a>) -> Command<'a>
 fn program_alone<'a>(alloc: Global) -> Command<'a>
     ensures { IsCommand dsheet_alone result }
 {
-    wanting(described(alloc, "dsheet", ABOUT, HELP))
+    wanting(described(alloc, "dsheet", help::ABOUT, help::HELP))
 }
 
 fn program<'a>(alloc: Global) -> Result<Command<'a>, AllocError>
@@ -751,10 +572,37 @@ fn exported<'a>(found: &ArgMatches<'a>) -> Result<Action<'a>, OptionsFault>
 {
     let path = value_of(found, "file")?;
     match number(found, "until") {
-        Some(0) => Ok(Action::Export(path)),
-        Some(most) => Ok(Action::ExportUntil(path, most)),
+        Some(until) => {
+            let form = form_of(found);
+            Ok(Action::Export(Exporting { path, until, form }))
+        }
         None => Err(OptionsFault::OutOfLimits(OutOfLimits::Until)),
     }
+}
+
+// What the arguments of `dsheet log` ask for.
+fn logged<'a>(found: &ArgMatches<'a>) -> Result<Action<'a>, OptionsFault>
+    ensures action { IfOk result (Asks (codes "log") (rows_of (found_of found.now))) }
+    ensures fault { IfErr result (AsksOfStore (codes "log") (rows_of (found_of found.now))) }
+{
+    let path = value_of(found, "file")?;
+    let cell = text(found, "cell");
+    match shown_of(found) {
+        Ok(shown) => Ok(Action::Log(Logging { path, cell, shown })),
+        Err(limit) => Err(OptionsFault::OutOfLimits(limit)),
+    }
+}
+
+// What the arguments of `dsheet import` ask for.
+fn imported<'a>(found: &ArgMatches<'a>) -> Result<Action<'a>, OptionsFault>
+    ensures action { IfOk result (Asks (codes "import") (rows_of (found_of found.now))) }
+    ensures fault { IfErr result (AsksOfStore (codes "import") (rows_of (found_of found.now))) }
+{
+    Ok(Action::Import(Importing {
+        path: value_of(found, "file")?,
+        notation: notation_of(found),
+        csv: is_set(found, "csv"),
+    }))
 }
 
 // What a subcommand on a store asks for.
@@ -765,7 +613,8 @@ fn asked_of_store<'a>(name: &str, found: &ArgMatches<'a>) -> Result<Action<'a>, 
     match name {
         "check" => Ok(Action::Check(value_of(found, "file")?)),
         "export" => exported(found),
-        "import" => Ok(Action::Import(value_of(found, "file")?, notation_of(found))),
+        "log" => logged(found),
+        "import" => imported(found),
         "compact" => Ok(Action::Compact(value_of(found, "file")?, value_of(found, "new")?)),
         "backup" => Ok(Action::Backup(value_of(found, "file")?, value_of(found, "copy")?)),
         _ => Err(OptionsFault::NoCommand),

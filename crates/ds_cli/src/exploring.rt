@@ -1,9 +1,9 @@
 //! What `dsheet explore` is to explore.
 
-ghost use Rattle.std.specs.Prelude.{◌≡◌, ◌↔◌, IfErr, IfOk, IsTrue, Some, codes};
+ghost use Rattle.std.specs.Prelude.{◌≡◌, ◌↔◌, ◌≤◌, IfErr, IfOk, IsTrue, Some, codes};
 ghost use Rattle.clap.specs.Words.{found_of, one_of, rows_of};
 ghost use Rattle.ds_cli.specs.Explorings.{IsExploring};
-ghost use Rattle.ds_cli.specs.Servings.{IsOutOfLimits};
+ghost use Rattle.ds_cli.specs.Servings.{IsNumberOf, IsOutOfLimits};
 
 use crate::serving::{OutOfLimits, number};
 use clap::ArgMatches;
@@ -17,7 +17,7 @@ pub struct Exploring {
     pub stops: bool,
     /// An eviction of each word whose sides differ.
     pub evictions: bool,
-    /// How many thousand states are gone through at most.
+    /// How many thousand states are gone through at most, one at least.
     pub thousands: usize,
 }
 
@@ -28,18 +28,26 @@ pub(crate) fn is_set(found: &ArgMatches<'_>, name: &str) -> bool
     found.get_one::<bool>(name) == Some(true)
 }
 
+// How many thousand states they ask for at most.
+fn read_most(found: &ArgMatches<'_>) -> Result<usize, OutOfLimits>
+    ensures some { IfOk result (λ n. IsNumberOf (rows_of (found_of found.now)) (codes "most") n × (1 ≤ n)) }
+    ensures limit { IfErr result (IsOutOfLimits (rows_of (found_of found.now))) }
+{
+    match number(found, "most") {
+        Some(most) if 1 <= most => Ok(most),
+        _ => Err(OutOfLimits::Most),
+    }
+}
+
 /// The exploration that the options of `dsheet explore` ask for. An error says that the number of states is none.
 pub fn read_exploring(found: &ArgMatches<'_>) -> Result<Exploring, OutOfLimits>
     ensures exploring { IfOk result (IsExploring (rows_of (found_of found.now))) }
     ensures limit { IfErr result (IsOutOfLimits (rows_of (found_of found.now))) }
 {
-    let Some(thousands) = number(found, "most") else {
-        return Err(OutOfLimits::Most);
-    };
     Ok(Exploring {
         crashes: is_set(found, "crashes"),
         stops: is_set(found, "stops"),
         evictions: is_set(found, "evictions"),
-        thousands,
+        thousands: read_most(found)?,
     })
 }

@@ -4,7 +4,11 @@
 pub mod command_line;
 pub mod connecting;
 pub mod exploring;
+pub mod exporting;
+mod help;
+pub mod importing;
 mod inputs;
+pub mod logging;
 mod notations;
 pub mod reporting;
 pub mod running;

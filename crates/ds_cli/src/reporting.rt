@@ -18,6 +18,8 @@ pub struct Reporting<'a> {
     pub notation: Notation,
     /// Whether labels pass through.
     pub labels: bool,
+    /// Whether the values are written as JSON; otherwise as CSV.
+    pub json: bool,
 }
 
 /// The report that the options of `dsheet report` ask for.
@@ -28,5 +30,6 @@ pub(crate) fn read_reporting<'a>(found: &ArgMatches<'a>) -> Reporting<'a>
         file: input_of(found),
         notation: notation_of(found),
         labels: is_set(found, "labels"),
+        json: is_set(found, "json"),
     }
 }

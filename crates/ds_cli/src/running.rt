@@ -3,6 +3,7 @@
 ghost use Rattle.clap.specs.Words.{found_of, rows_of};
 ghost use Rattle.ds_cli.specs.Runnings.{IsRunning};
 
+use crate::exploring::is_set;
 use crate::inputs::input_of;
 use crate::notations::notation_of;
 use clap::ArgMatches;
@@ -15,6 +16,8 @@ pub struct Running<'a> {
     pub file: Option<&'a str>,
     /// How formulas are written.
     pub notation: Notation,
+    /// Whether an answer that is a refusal counts as a fault.
+    pub strict: bool,
 }
 
 /// The run that the options of `dsheet run` ask for.
@@ -24,5 +27,6 @@ pub(crate) fn read_running<'a>(found: &ArgMatches<'a>) -> Running<'a>
     Running {
         file: input_of(found),
         notation: notation_of(found),
+        strict: is_set(found, "strict"),
     }
 }

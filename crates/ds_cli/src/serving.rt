@@ -1,9 +1,10 @@
 //! What `dsheet serve` is to serve.
 
-ghost use Rattle.std.specs.Prelude.{◌≡◌, ◌<◌, ℕ, IfErr, IfOk, IfSome, None, codes};
+ghost use Rattle.ds_formula.specs.Limits.{PROCESSES_MOST};
+ghost use Rattle.std.specs.Prelude.{◌≡◌, ◌<◌, ◌≤◌, ℕ, IfErr, IfOk, IfSome, None, codes, false, option_map, true};
 ghost use Rattle.clap.specs.Matches.{found_of};
 ghost use Rattle.clap.specs.Walk.{rows_of};
-ghost use Rattle.ds_cli.specs.Servings.{HasNoAddress, HasNoLevel, HasNoNumber, HasNoShape, IsAddressOf, IsLevelOf, IsNumberOf, IsOutOfLimits, IsServing, IsWritten, ServesSessions};
+ghost use Rattle.ds_cli.specs.Servings.{HasBadAddress, HasNoAddress, HasNoLevel, HasNoNumber, HasNoShape, IsAddressOf, IsGivenAddress, IsHttpAddress, IsLevelOf, IsNumberOf, IsOpen, IsOutOfLimits, IsServing, IsTextOf, IsWritten, MayListen, ServesSessions};
 
 use crate::exploring::is_set;
 use clap::ArgMatches;
@@ -15,9 +16,13 @@ use thiserror::Error;
 
 /// A server: where it listens, its sheet, and how long it serves.
 #[derive(Clone, Copy, Debug, PartialEq, Eq)]
-pub struct Serving {
+pub struct Serving<'a> {
     /// The address and the port that it listens on.
     pub listen: SocketAddr,
+    /// The address and the port that it listens on for HTTP, if it does.
+    pub http: Option<SocketAddr>,
+    /// The file whose first line is the token that a join has to have, if any.
+    pub token_file: Option<&'a str>,
     /// The shape of its sheet, at most 26 columns, 64 rows and 1,024 cells.
     pub shape: Shape,
     /// How many processes the sheet has, 1 to 8.
@@ -41,6 +46,15 @@ pub enum OutOfLimits {
     /// The address is none with a port.
     #[error("--listen: no address with a port, as 127.0.0.1:8080")]
     Listen,
+    /// The address is not one of this machine alone, and anybody may join.
+    #[error("--listen: whoever reaches this address may edit; give --token-file FILE, or --open")]
+    Open,
+    /// The address for HTTP is none with a port.
+    #[error("--http: no address with a port, as 127.0.0.1:8081")]
+    Http,
+    /// The address for HTTP is not one of this machine alone, and anybody may edit.
+    #[error("--http: whoever reaches this address may edit; give --token-file FILE, or --open")]
+    OpenHttp,
     /// The sheet is too large, or has no cell.
     #[error("--columns, --rows: from 1 to 26 and from 1 to 64, and at most 1024 cells")]
     Shape,
@@ -57,7 +71,7 @@ pub enum OutOfLimits {
     #[error("--at-once: from 1 to 65535")]
     AtOnce,
     /// The number of states that are gone through at most is none.
-    #[error("--most: from 0 to 65535 thousand states")]
+    #[error("--most: from 1 to 65535 thousand states")]
     Most,
     /// The time for which a client may be silent is none.
     #[error("--idle: from 0 to 65535 seconds")]
@@ -71,8 +85,11 @@ pub enum OutOfLimits {
     /// A sheet has no such process.
     #[error("--process: from 0 to 7")]
     Process,
+    /// The time for which an answer is waited for is none.
+    #[error("--timeout: from 0 to 65535 seconds")]
+    Timeout,
     /// The first step after which a script is crashed is none.
-    #[error("--from: from 0 to 65535")]
+    #[error("--from: from 1 to 65535")]
     From,
     /// The last step after which a script is crashed is none.
     #[error("--to: from 0 to 65535; 0: to the end")]
@@ -80,6 +97,12 @@ pub enum OutOfLimits {
     /// The number of lines that are exported at most is none.
     #[error("--until: from 0 to 65535; 0: all lines")]
     Until,
+    /// The number of edits after which a sheet is shown is none.
+    #[error("--at: from 0 to 65535; 0: the list of edits")]
+    At,
+    /// Values are asked for, and after no edit.
+    #[error("--values: the values of the sheet after some edits; give --at N, from 1 to 65535")]
+    NoAt,
 }
 
 // The number of 16 bits that these digits are; none where they are none, as where a sign stands before them.
@@ -146,6 +169,40 @@ fn read_shape(matches: &ArgMatches<'_>) -> Option<Shape>
     Shape::new(columns, rows)
 }
 
+// How many processes the options ask for.
+fn read_processes(matches: &ArgMatches<'_>) -> Result<usize, OutOfLimits>
+    ensures some { IfOk result (λ p. IsNumberOf (rows_of (found_of matches.now)) (codes "processes") p × (1 ≤ p) × (p ≤ PROCESSES_MOST)) }
+    ensures limit { IfErr result (IsOutOfLimits (rows_of (found_of matches.now))) }
+{
+    match number(matches, "processes") {
+        Some(processes) if 1 <= processes && processes <= PROCESS_LIMIT => Ok(processes),
+        _ => Err(OutOfLimits::Processes),
+    }
+}
+
+// How many workers they ask for, beside this number of processes.
+fn read_workers(matches: &ArgMatches<'_>, processes: usize) -> Result<usize, OutOfLimits>
+    requires { IsNumberOf (rows_of (found_of matches.now)) (codes "processes") processes × (processes ≤ PROCESSES_MOST) }
+    ensures some { IfOk result (λ w. IsNumberOf (rows_of (found_of matches.now)) (codes "workers") w × (w < processes)) }
+    ensures limit { IfErr result (IsOutOfLimits (rows_of (found_of matches.now))) }
+{
+    match number(matches, "workers") {
+        Some(workers) if workers < processes => Ok(workers),
+        _ => Err(OutOfLimits::Workers),
+    }
+}
+
+// How many sessions they ask for at once.
+fn read_at_once(matches: &ArgMatches<'_>) -> Result<usize, OutOfLimits>
+    ensures some { IfOk result (λ n. IsNumberOf (rows_of (found_of matches.now)) (codes "at-once") n × (1 ≤ n)) }
+    ensures limit { IfErr result (IsOutOfLimits (rows_of (found_of matches.now))) }
+{
+    match number(matches, "at-once") {
+        Some(at_once) if 1 <= at_once => Ok(at_once),
+        _ => Err(OutOfLimits::AtOnce),
+    }
+}
+
 // How many sessions the options ask for; none where there is no end to them.
 fn read_sessions(matches: &ArgMatches<'_>) -> Result<Option<usize>, OutOfLimits>
     ensures sessions { IfOk result (ServesSessions (rows_of (found_of matches.now))) }
@@ -160,33 +217,97 @@ fn read_sessions(matches: &ArgMatches<'_>) -> Result<Option<usize>, OutOfLimits>
     }
 }
 
-/// The server that the options of `dsheet serve` ask for. An error names the first option that is out of its limits.
-pub fn read_serving(matches: &ArgMatches<'_>) -> Result<Serving, OutOfLimits>
-    ensures serving { IfOk result (IsServing (rows_of (found_of matches.now))) }
+/// The text of an option; none where it is not there.
+pub(crate) fn text<'a>(matches: &ArgMatches<'a>, name: &str) -> Option<&'a str>
+    ensures { IsTextOf (rows_of (found_of matches.now)) name.now (option_map (λ t. t.now) result) }
+{
+    matches.get_str(name)
+}
+
+// The address of an option, where it is given; none where its value is no address.
+fn given_address(matches: &ArgMatches<'_>, name: &str) -> Option<Option<SocketAddr>>
+    ensures some { IfSome result (IsGivenAddress (rows_of (found_of matches.now)) name.now) }
+    ensures none { result ≡ None → HasBadAddress (rows_of (found_of matches.now)) name.now }
+{
+    let Some(text) = matches.get_str(name) else {
+        return Some(None);
+    };
+    match text.parse::<SocketAddr>() {
+        Ok(address) => Some(Some(address)),
+        Err(_) => None,
+    }
+}
+
+// Whether the options let a server listen at this address: it is one of this machine alone, there is a token, or they say so.
+fn may_listen(
+    matches: &ArgMatches<'_>,
+    name: &str,
+    listen: SocketAddr,
+    token_file: Option<&str>,
+) -> bool
+    requires { IsTextOf (rows_of (found_of matches.now)) (codes "token-file") (option_map (λ t. t.now) token_file) }
+    ensures may { result ≡ true → MayListen (rows_of (found_of matches.now)) listen }
+    ensures open { result ≡ false → IsAddressOf (rows_of (found_of matches.now)) name.now listen → IsOpen (rows_of (found_of matches.now)) name.now }
+{
+    if listen.ip().is_loopback() || token_file.is_some() {
+        return true;
+    }
+    is_set(matches, "open")
+}
+
+// Where the options let a server listen for HTTP, if they ask for that.
+fn read_http(
+    matches: &ArgMatches<'_>,
+    token_file: Option<&str>,
+) -> Result<Option<SocketAddr>, OutOfLimits>
+    requires { IsTextOf (rows_of (found_of matches.now)) (codes "token-file") (option_map (λ t. t.now) token_file) }
+    ensures http { IfOk result (IsHttpAddress (rows_of (found_of matches.now))) }
+    ensures limit { IfErr result (IsOutOfLimits (rows_of (found_of matches.now))) }
+{
+    let Some(given) = given_address(matches, "http") else {
+        return Err(OutOfLimits::Http);
+    };
+    let Some(http) = given else {
+        return Ok(None);
+    };
+    if may_listen(matches, "http", http, token_file) {
+        Ok(Some(http))
+    } else {
+        Err(OutOfLimits::OpenHttp)
+    }
+}
+
+// Where the options let a server listen, and the file of its token, if any.
+fn read_address<'a>(matches: &ArgMatches<'a>) -> Result<(SocketAddr, Option<&'a str>), OutOfLimits>
+    ensures address { IfOk result (λ it. IsAddressOf (rows_of (found_of matches.now)) (codes "listen") it.0
+        × IsTextOf (rows_of (found_of matches.now)) (codes "token-file") (option_map (λ t. t.now) it.1) × MayListen (rows_of (found_of matches.now)) it.0) }
     ensures limit { IfErr result (IsOutOfLimits (rows_of (found_of matches.now))) }
 {
     let Some(listen) = address(matches, "listen") else {
         return Err(OutOfLimits::Listen);
     };
+    let token_file = text(matches, "token-file");
+    if may_listen(matches, "listen", listen, token_file) {
+        Ok((listen, token_file))
+    } else {
+        Err(OutOfLimits::Open)
+    }
+}
+
+/// The server that the options of `dsheet serve` ask for. An error names the first option that is out of its limits.
+pub fn read_serving<'a>(matches: &ArgMatches<'a>) -> Result<Serving<'a>, OutOfLimits>
+    ensures serving { IfOk result (IsServing (rows_of (found_of matches.now))) }
+    ensures limit { IfErr result (IsOutOfLimits (rows_of (found_of matches.now))) }
+{
+    let (listen, token_file) = read_address(matches)?;
+    let http = read_http(matches, token_file)?;
     let Some(shape) = read_shape(matches) else {
         return Err(OutOfLimits::Shape);
     };
-    let processes = match number(matches, "processes") {
-        Some(processes) if 1 <= processes && processes <= PROCESS_LIMIT => processes,
-        _ => return Err(OutOfLimits::Processes),
-    };
-    let workers = match number(matches, "workers") {
-        Some(workers) if workers < processes => workers,
-        _ => return Err(OutOfLimits::Workers),
-    };
-    let sessions = match read_sessions(matches) {
-        Ok(sessions) => sessions,
-        Err(limit) => return Err(limit),
-    };
-    let at_once = match number(matches, "at-once") {
-        Some(at_once) if 1 <= at_once => at_once,
-        _ => return Err(OutOfLimits::AtOnce),
-    };
+    let processes = read_processes(matches)?;
+    let workers = read_workers(matches, processes)?;
+    let sessions = read_sessions(matches)?;
+    let at_once = read_at_once(matches)?;
     let Some(idle) = number(matches, "idle") else {
         return Err(OutOfLimits::Idle);
     };
@@ -195,6 +316,8 @@ pub fn read_serving(matches: &ArgMatches<'_>) -> Result<Serving, OutOfLimits>
     };
     Ok(Serving {
         listen,
+        http,
+        token_file,
         shape,
         processes,
         workers,

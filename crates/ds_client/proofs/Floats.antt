@@ -1,12 +1,15 @@
 -- No request has a float.
-use Rattle.std.proofs.Common.{◌≡◌, false, refl}
+use Rattle.std.proofs.Common.{◌≡◌, false, refl, Some, None}
 use Rattle.serde_json.specs.Written.{has_float}
 use Rattle.ds_client.specs.Asks.{Wish, Join, Set, Report, Last}
 use Rattle.ds_client.specs.Requests.{wish_data}
 
 -- no request has a float
 pub wish_no_float : (wish : Wish) → has_float (wish_data wish) ≡ false
-wish_no_float (Join process) = refl
+wish_no_float (Join process None None) = refl
+wish_no_float (Join process None (Some token)) = refl
+wish_no_float (Join process (Some done) None) = refl
+wish_no_float (Join process (Some done) (Some token)) = refl
 wish_no_float (Set cell text) = refl
 wish_no_float Report = refl
 wish_no_float Last = refl

@@ -1,6 +1,13 @@
 -- What a server reads of a request, and what a client shows of an answer.
-use Rattle.std.proofs.Common.{◌≡◌, ◌∙◌, ℕ, Bool, true, false, refl, ap, sym, List, ◌++◌, Some, None, Ok, codes, append_assoc}
+use Rattle.std.proofs.Common.{◌≡◌, ◌∙◌, ℕ, zero, suc, Bool, true, false, refl, ap, sym, List, [], ◌∷◌, ◌++◌, map, take, drop, Some, None, Ok, Err, codes, append_assoc}
+use Rattle.std.specs.Prelude.{Option, option_map}
 use Rattle.std.specs.Fmt.{decimal}
+use Rattle.csv.specs.Writing.{default_writer, row_text}
+use Rattle.serde_json.specs.View.{items_of}
+use Rattle.ds_eval.specs.declared.value.Value.{Value}
+use Rattle.ds_eval.specs.Numbers.{value_text}
+use Rattle.ds_script_io.specs.AnswerTexts.{rows_text}
+use Rattle.ds_script_io.specs.Fields.{◌>>=◌}
 use Rattle.ds_formula.specs.declared.cells.Shape.{Shape}
 use Rattle.ds_formula.specs.declared.fault.TextFault.{TextFault}
 use Rattle.ds_formula.specs.Names.{cell_text, name_of_kind}
@@ -9,23 +16,40 @@ use Rattle.ds_layout.specs.declared.place.Place.{Place}
 use Rattle.ds_layout.specs.declared.place.Place.TheVariants as place
 use Rattle.ds_state.specs.declared.recovery.LastEdit.{LastEdit}
 use Rattle.ds_script.specs.ScriptTexts.{counts_text}
-use Rattle.ds_server.specs.LineRequests.{call_of, join_by, or_bad_field}
+use Rattle.std.specs.Prelude.{if◌then◌else◌}
+use Rattle.std.proofs.lemmas.Slice.Eq.{bytes_eq-Decides}
+use Rattle.ds_server.specs.LineRequests.{call_of, join_by, number_field, or_bad_field}
 use Rattle.ds_server.specs.declared.desk.CallRefusal.TheVariants as refusal
 use Rattle.ds_server.specs.declared.request.LineFault.TheVariants as fault
-use Rattle.ds_server.specs.Replies.{Said, Joined, Done, Overtaken, Settled, Unsettled, Tells, Left, Refused, Faulted}
-use Rattle.ds_server.specs.SessionTexts.{said_data, outcome_text}
-use Rattle.ds_client.specs.AnswerLines.{HasNoValues, said_lines, shown}
+use Rattle.ds_server.specs.Replies.{Said, Joined, JoinedLost, Done, Overtaken, Settled, Unsettled, Tells, Left, Refused, Faulted}
+use Rattle.ds_server.specs.SessionTexts.{said_data, outcome_text, row_data, rows_of, value_data}
+use Rattle.ds_client.specs.AnswerLines.{IsSaid, is_loss, says_lost, rows_in, said_lines, shown, texts_in}
 use Rattle.ds_client.specs.Asks.{Join, Set}
 use Rattle.ds_client.specs.Requests.{edit_named, wish_data}
 
 -- a join is read as one
-pub joins : (shape : Shape) (processes process : ℕ) → call_of shape processes None (wish_data (Join process)) ≡ or_bad_field (join_by processes process)
-joins shape processes process = refl
+pub joins : (shape : Shape) (processes process : ℕ) (done : Option ℕ) (token : Option (List ℕ)) → call_of shape processes None None (wish_data (Join process done token)) ≡ or_bad_field (join_by processes process)
+joins shape processes process None None = refl
+joins shape processes process None (Some token) = refl
+joins shape processes process (Some done) None = refl
+joins shape processes process (Some done) (Some token) = refl
+
+-- the same of a server with a token, where it is given
+pub joins_with : (shape : Shape) (processes process : ℕ) (done : Option ℕ) (token : List ℕ) → call_of shape processes (Some token) None (wish_data (Join process done (Some token))) ≡ or_bad_field (join_by processes process)
+joins_with shape processes process None token = ap (λ (b : Bool). if b then or_bad_field (join_by processes process) else Err fault.Denied) ((bytes_eq-Decides token token).1 refl)
+joins_with shape processes process (Some done) token = ap (λ (b : Bool). if b then or_bad_field (join_by processes process) else Err fault.Denied) ((bytes_eq-Decides token token).1 refl)
+
+-- the number of the last edit that was answered done is read
+pub said_done : (process : ℕ) (done : Option ℕ) (token : Option (List ℕ)) → number_field (codes "told") (wish_data (Join process done token)) ≡ done
+said_done process None None = refl
+said_done process None (Some token) = refl
+said_done process (Some done) None = refl
+said_done process (Some done) (Some token) = refl
 
 -- an edit is read as one of the cell of that name
-pub sets : (shape : Shape) (processes process : ℕ) (cell text : List ℕ)
-    → call_of shape processes (Some process) (wish_data (Set cell text)) ≡ or_bad_field (edit_named shape process cell text)
-sets shape processes process cell text = refl
+pub sets : (shape : Shape) (processes process : ℕ) (token : Option (List ℕ)) (cell text : List ℕ)
+    → call_of shape processes token (Some process) (wish_data (Set cell text)) ≡ or_bad_field (edit_named shape process cell text)
+sets shape processes process token cell text = refl
 
 outcome_is : (counts : Bool) → outcome_text counts ≡ counts_text counts
 outcome_is true = refl
@@ -37,13 +61,27 @@ told_is : (p : ℕ) (shape : Shape) (told : LastEdit) (outcome : List ℕ) → o
 told_is p shape told outcome is =
     ap (λ (o : List ℕ). decimal p ++ (codes " last " ++ (decimal told.number ++ (codes " " ++ (cell_text (cell_at shape told.cell) ++ (codes " " ++ (o ++ codes "\n"))))))) is
 
+-- the texts of a row are those of its values
+texts_are : (values : List Value) → texts_in (items_of (map value_data values)) ≡ Some (map value_text values)
+texts_are [] = refl
+texts_are (value ∷ values) = ap (λ (o : Option (List (List ℕ))). o >>= λ texts. Some (value_text value ∷ texts)) (texts_are values)
+
+-- the rows are those of the values
+rows_are : (columns rows : ℕ) (values : List Value) → rows_in (items_of (map row_data (rows_of columns rows values))) ≡ Some (rows_text columns rows values)
+rows_are columns zero values = refl
+rows_are columns (suc rows) values =
+    ap (λ (o : Option (List (List ℕ))). o >>= λ texts. rows_in (items_of (map row_data (rows_of columns rows (drop columns values)))) >>= λ lines. Some (row_text default_writer texts ++ lines)) (texts_are (take columns values))
+    ∙ ap (λ (o : Option (List ℕ)). o >>= λ lines. Some (row_text default_writer (map value_text (take columns values)) ++ lines)) (rows_are columns rows (drop columns values))
+
 -- what a client shows of what a server says
-pub shows : (process : ℕ) (shape : Shape) (said : Said) → HasNoValues said → shown process (said_data shape said) ≡ Some (said_lines process shape said)
+pub shows : (process : ℕ) (shape : Shape) (said : Said) → IsSaid said → shown process (said_data shape said) ≡ Some (said_lines process shape said)
 shows p shape (Joined q None) h = refl
 shows p shape (Joined q (Some told)) h = ap Some (told_is p shape told (outcome_text told.counts) (outcome_is told.counts))
+shows p shape (JoinedLost q None) h = refl
+shows p shape (JoinedLost q (Some told)) h = ap Some (told_is p shape told (outcome_text told.counts) (outcome_is told.counts))
 shows p shape (Done n) h = refl
 shows p shape (Overtaken n by) h = refl
-shows p shape (Settled values) h = absurd h
+shows p shape (Settled values) h = ap (option_map (λ (lines : List ℕ). codes "settled\n" ++ lines)) (rows_are shape.columns shape.rows values)
 shows p shape (Unsettled (place.Mark cell) word) h = refl
 shows p shape (Unsettled (place.Announce q) word) h = refl
 shows p shape (Unsettled other word) h = refl
@@ -65,3 +103,21 @@ shows p shape (Faulted fault.LineTooLong) h = refl
 shows p shape (Faulted fault.NotJoined) h = refl
 shows p shape (Faulted fault.AlreadyJoined) h = refl
 shows p shape (Faulted fault.NoMemory) h = refl
+shows p shape (Faulted fault.Denied) h = refl
+
+-- what a client reads of lost edits
+pub losses : (shape : Shape) (said : Said) → says_lost (said_data shape said) ≡ is_loss said
+losses shape (Joined process last) = refl
+losses shape (JoinedLost process last) = refl
+losses shape (Done number) = refl
+losses shape (Overtaken number by) = refl
+losses shape (Settled values) = refl
+losses shape (Unsettled place word) = refl
+losses shape (Tells last) = refl
+losses shape Left = refl
+losses shape (Refused refusal.ProcessTaken) = refl
+losses shape (Refused (refusal.Text at)) = refl
+losses shape (Refused refusal.Stopped) = refl
+losses shape (Refused refusal.RecordsFull) = refl
+losses shape (Refused refusal.NoMemory) = refl
+losses shape (Faulted fault) = refl

@@ -1,10 +1,11 @@
 -- What a client shows of an answer: the lines of a script's answers.
-use Rattle.std.specs.Prelude.{ℕ, Bool, List, [], ◌∷◌, ◌++◌, codes, Option, Some, None, if◌then◌else◌}
+use Rattle.std.specs.Prelude.{ℕ, Bool, true, false, List, [], ◌∷◌, ◌++◌, codes, Option, Some, None, option_map, if◌then◌else◌}
 use Rattle.ds_script_io.specs.Fields.{◌>>=◌}
 use Rattle.std.specs.Fmt.{decimal}
 use Rattle.std.specs.Str.{bytes_eq}
-use Rattle.serde_json.specs.Data.{Data, null}
-use Rattle.serde_json.specs.Find.{get, as_str, as_number, as_u64}
+use Rattle.csv.specs.Writing.{default_writer, row_text}
+use Rattle.serde_json.specs.Data.{Data, null, boolean, Items, no_items, item}
+use Rattle.serde_json.specs.Find.{get, as_array, as_str, as_number, as_u64}
 use Rattle.ds_formula.specs.declared.cells.Shape.{Shape}
 use Rattle.ds_state.specs.declared.recovery.LastEdit.{LastEdit}
 use Rattle.ds_state.specs.declared.refusal.Refusal.TheVariants as state
@@ -14,7 +15,7 @@ use Rattle.ds_server.specs.declared.desk.CallRefusal.{CallRefusal}
 use Rattle.ds_server.specs.declared.desk.CallRefusal.TheVariants as refusal
 use Rattle.ds_server.specs.declared.request.LineFault.{LineFault}
 use Rattle.ds_server.specs.declared.request.LineFault.TheVariants as fault
-use Rattle.ds_server.specs.Replies.{Said, Joined, Done, Overtaken, Settled, Unsettled, Tells, Left, Refused, Faulted}
+use Rattle.ds_server.specs.Replies.{Said, Joined, JoinedLost, Done, Overtaken, Settled, Unsettled, Tells, Left, Refused, Faulted}
 use Rattle.ds_server.specs.SessionTexts.{name_of_fault}
 
 -- the last edit of a process as a recovery of a script reports it
@@ -42,6 +43,7 @@ fault_lines p other = named_lines p (name_of_fault other)
 -- what a client of this process shows of what is said to it; that a process is given back is said to nobody
 abbrev pub said_lines : ℕ → Shape → Said → List ℕ
 said_lines p shape (Joined process last) = last_lines shape p last
+said_lines p shape (JoinedLost process last) = last_lines shape p last
 said_lines p shape (Done number) = done_text p number
 said_lines p shape (Overtaken number by) = overtaken_text p number by
 said_lines p shape (Settled values) = settled_text shape values
@@ -106,9 +108,27 @@ error_shown p value name =
     else (if bytes_eq name (codes "no-memory") then Some (refused_text p state.NoMemory)
     else Some (named_lines p name)))))
 
--- an answer by its name, but for that of a report that is settled
-abbrev pub ok_shown : ℕ → Data → List ℕ → Option (List ℕ)
-ok_shown p value name =
+-- the texts of a row; none where one of its fields is no text
+abbrev pub texts_in : Items → Option (List (List ℕ))
+texts_in no_items = Some []
+texts_in (item field fields) = as_str field >>= λ text. texts_in fields >>= λ texts. Some (text ∷ texts)
+
+-- the texts of what is to be a row
+abbrev pub row_in : Data → Option (List (List ℕ))
+row_in row = as_array row >>= texts_in
+
+-- rows as CSV, a record a row; none where one is no row of texts
+abbrev pub rows_in : Items → Option (List ℕ)
+rows_in no_items = Some []
+rows_in (item row rows) = row_in row >>= λ texts. rows_in rows >>= λ lines. Some (row_text default_writer texts ++ lines)
+
+-- a report that is settled, with its values row by row
+abbrev pub settled_shown : Data → Option (List ℕ)
+settled_shown value = (get (codes "rows") value >>= as_array) >>= λ rows. option_map (λ lines. codes "settled\n" ++ lines) (rows_in rows)
+
+-- an answer of one line by its name
+abbrev pub line_shown : ℕ → Data → List ℕ → Option (List ℕ)
+line_shown p value name =
     if bytes_eq name (codes "done") then done_shown p value
     else (if bytes_eq name (codes "overtaken") then overtaken_shown p value
     else (if bytes_eq name (codes "unsettled") then unsettled_shown value
@@ -116,17 +136,38 @@ ok_shown p value name =
     else (if bytes_eq name (codes "last") then last_shown p value
     else None))))
 
+-- an answer by its name
+abbrev pub ok_shown : ℕ → Data → List ℕ → Option (List ℕ)
+ok_shown p value name = if bytes_eq name (codes "settled") then settled_shown value else line_shown p value name
+
+-- an error by its name, if it is one
+abbrev pub refused_shown : ℕ → Data → Option (List ℕ)
+refused_shown p value = text_at (codes "error") value >>= error_shown p value
+
 -- the lines of an answer, by its name or that of its error; none where it has neither
 abbrev pub shown_by : ℕ → Data → Option (List ℕ) → Option (List ℕ)
 shown_by p value (Some name) = ok_shown p value name
-shown_by p value None = text_at (codes "error") value >>= error_shown p value
+shown_by p value None = refused_shown p value
 
--- what a client of this process shows of an answer that has no values; nothing where it is none of a server's
+-- what a client of this process shows of an answer; nothing where it is none of a server's
 abbrev pub shown : ℕ → Data → Option (List ℕ)
 shown p value = shown_by p value (text_at (codes "ok") value)
 
--- an answer that is said to a client, and has no values
-abbrev pub HasNoValues : Said → Type 0
-HasNoValues (Settled values) = ⊥
-HasNoValues Left = ⊥
-HasNoValues other = Unit {0}
+-- an answer that is said to a client
+abbrev pub IsSaid : Said → Type 0
+IsSaid Left = ⊥
+IsSaid other = Unit {0}
+
+-- the value of a field that says that edits were lost
+abbrev pub is_true : Option Data → Bool
+is_true (Some (boolean true)) = true
+is_true field = false
+
+-- the answer to a join says that edits were lost
+abbrev pub says_lost : Data → Bool
+says_lost value = is_true (get (codes "lost") value)
+
+-- edits were lost, by what a server says
+abbrev pub is_loss : Said → Bool
+is_loss (JoinedLost process last) = true
+is_loss said = false

@@ -1,5 +1,5 @@
 -- What a line of a client asks for: `set CELL TEXT`, `report`, `last`.
-use Rattle.std.specs.Prelude.{ℕ, ◌≡◌, ◌⊎◌, List, [], Option, Some, None, codes, if◌then◌else◌, IsUtf8}
+use Rattle.std.specs.Prelude.{ℕ, ◌≡◌, ◌⊎◌, List, [], Option, Some, None, option_map, codes, if◌then◌else◌, IsUtf8}
 use Rattle.std.specs.Str.{bytes_eq}
 use Rattle.ds_script_io.specs.ScriptLines.{word_of}
 use Rattle.ds_client.specs.declared.ask.Ask.{Ask}
@@ -7,16 +7,17 @@ use Rattle.ds_client.specs.declared.ask.AskFault.{AskFault}
 use Rattle.ds_client.specs.declared.ask.AskFault.TheVariants.{NoLine, NoText}
 use Rattle.ds_client.specs.declared.ask.Ask.TheVariants as asks
 
--- what is asked for, as plain data
+-- what is asked for, as plain data: a join of a process, by a client that was answered that its edit of this number is done, if
+-- any, with this token, if any; an edit of a cell to a text; a report; the last edit
 pub data Wish : Type 0 where
-  Join : ℕ → Wish
+  Join : ℕ → Option ℕ → Option (List ℕ) → Wish
   Set : List ℕ → List ℕ → Wish
   Report : Wish
   Last : Wish
 
 -- what is asked for, without its borrows
 abbrev pub wish_view : Ask → Wish
-wish_view (asks.Join process) = Join process
+wish_view (asks.Join process done token) = Join process done (option_map (λ t. t.now) token)
 wish_view (asks.Set cell text) = Set cell.now text.now
 wish_view asks.Report = Report
 wish_view asks.Last = Last

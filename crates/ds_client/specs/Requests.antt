@@ -1,6 +1,6 @@
 -- The line that a client sends for what is asked.
-use Rattle.std.specs.Prelude.{ℕ, List, [], ◌∷◌, ◌++◌, Option, Some, codes}
-use Rattle.serde_json.specs.Data.{Data, object, no_members, member}
+use Rattle.std.specs.Prelude.{ℕ, List, [], ◌∷◌, ◌++◌, Option, Some, None, codes}
+use Rattle.serde_json.specs.Data.{Data, Members, object, no_members, member}
 use Rattle.serde_json.specs.Written.{compact_text}
 use Rattle.ds_formula.specs.declared.cells.Shape.{Shape}
 use Rattle.ds_formula.specs.Names.{cell_named}
@@ -10,9 +10,19 @@ use Rattle.ds_server.specs.DeskCalls as calls
 use Rattle.ds_server.specs.SessionTexts.{number_data, text_data}
 use Rattle.ds_client.specs.Asks.{Wish, Join, Set, Report, Last}
 
+-- the number of the last edit that was answered done, if any, as the last field
+abbrev pub with_done : Option ℕ → Members
+with_done None = no_members
+with_done (Some done) = member (codes "told") (number_data done) no_members
+
+-- a token, if any, as a field before these
+abbrev pub with_token : Option (List ℕ) → Members → Members
+with_token None members = members
+with_token (Some token) members = member (codes "token") (text_data token) members
+
 -- what is asked, as JSON: {"op":"set","cell":"A1","text":"=1+2"}, with its keys in byte order
 abbrev pub wish_data : Wish → Data
-wish_data (Join process) = object (member (codes "op") (text_data (codes "join")) (member (codes "process") (number_data process) no_members))
+wish_data (Join process done token) = object (member (codes "op") (text_data (codes "join")) (member (codes "process") (number_data process) (with_token token (with_done done))))
 wish_data (Set cell text) = object (member (codes "cell") (text_data cell) (member (codes "op") (text_data (codes "set")) (member (codes "text") (text_data text) no_members)))
 wish_data Report = object (member (codes "op") (text_data (codes "report")) no_members)
 wish_data Last = object (member (codes "op") (text_data (codes "last")) no_members)

@@ -1,9 +1,13 @@
 //! Answers of a server, as a client shows them.
 
-ghost use Rattle.std.specs.Prelude.{◌≡◌, Some, IfOk, option_map, string_bytes, codes};
-ghost use Rattle.serde_json.specs.View.{view};
-ghost use Rattle.ds_client.specs.AnswerLines.{done_shown, error_shown, last_shown, number_at, ok_shown, overtaken_shown, place_shown, shown, text_at, text_fault_shown, told_shown, unsettled_shown};
+ghost use Rattle.std.specs.Prelude.{◌≡◌, ◌++◌, Some, IfOk, OnOk, option_map, string_bytes, codes};
+ghost use Rattle.csv.specs.Records.{fields_of};
+ghost use Rattle.csv.specs.Writing.{default_writer, row_text};
+ghost use Rattle.serde_json.specs.View.{items_view, view};
+ghost use Rattle.ds_script_io.specs.Csv.{IsReady, text_of};
+ghost use Rattle.ds_client.specs.AnswerLines.{done_shown, error_shown, last_shown, line_shown, number_at, ok_shown, overtaken_shown, place_shown, refused_shown, says_lost, row_in, rows_in, settled_shown, shown, text_at, text_fault_shown, texts_in, told_shown, unsettled_shown};
 
+use csv::{ByteRecord, Writer, WriterBuilder};
 use ds_script_io::answer::refused_line;
 use ds_state::refusal::Refusal;
 use serde_json::Value as Json;
@@ -82,38 +86,79 @@ fn unsettled(alloc: Global, value: &Json) -> Result<Option<String>, AllocError>
     Ok(Some(format!(in alloc; "unsettled {place} {word}\n")?))
 }
 
-// A row of values, with commas between them, after lines that are there. None where one is no text.
-fn with_row(mut lines: String, row: &[Json]) -> Result<Option<String>, AllocError> {
-    let mut between = "";
-    for field in row {
-        let Some(text) = field.as_str() else {
-            return Ok(None);
-        };
-        lines.push_str(between)?;
-        lines.push_str(text)?;
-        between = ",";
-    }
-    lines.push('\n')?;
-    Ok(Some(lines))
-}
-
-// `settled`, and the values as CSV, a record a row.
-fn settled(alloc: Global, value: &Json) -> Result<Option<String>, AllocError> {
-    let Some(Json::Array(rows)) = value.get("rows") else {
-        return Ok(None);
-    };
-    let mut lines = String::new(alloc);
-    lines.push_str("settled\n")?;
-    for row in rows {
-        let Json::Array(fields) = row else {
-            return Ok(None);
-        };
-        match with_row(lines, fields)? {
-            Some(more) => lines = more,
+// The texts of a row, as a record of CSV. None where one is no text.
+fn record_of(alloc: Global, row: &[Json]) -> Result<Option<ByteRecord>, AllocError>
+    ensures { IfOk result (λ some. option_map fields_of some ≡ texts_in (items_view row.now)) }
+{
+    let mut texts = ByteRecord::new(alloc);
+    for i in 0..row.len() {
+        match row[i].as_str() {
+            Some(text) => texts.push_field(text.as_bytes())?,
             None => return Ok(None),
         }
     }
-    Ok(Some(lines))
+    Ok(Some(texts))
+}
+
+// Writes one record.
+fn add_record(writer: &mut Writer<Vec<u8>>, texts: &ByteRecord) -> Result<(), AllocError>
+    requires { IsReady writer.old }
+    ensures { OnOk result (text_of writer.new ≡ text_of writer.old ++ row_text default_writer (fields_of texts.now)) }
+{
+    match writer.write_byte_record(texts) {
+        Ok(()) => Ok(()),
+        Err(_) => Err(AllocError),
+    }
+}
+
+// Lines, and a record after them. Each has a writer of its own, since rows need not be of one length.
+fn with_record(lines: Vec<u8>, texts: &ByteRecord) -> Result<Vec<u8>, AllocError>
+    ensures { IfOk result (λ more. more.items ≡ lines.items ++ row_text default_writer (fields_of texts.now)) }
+{
+    let mut writer = WriterBuilder::new().from_writer(lines);
+    add_record(&mut writer, texts)?;
+    match writer.into_inner() {
+        Ok(lines) => Ok(lines),
+        Err(_) => Err(AllocError),
+    }
+}
+
+// Lines, and a row after them, as CSV. None where it is no row of texts.
+fn with_row(alloc: Global, lines: Vec<u8>, row: &Json) -> Result<Option<Vec<u8>>, AllocError>
+    ensures { IfOk result (λ more. option_map (λ lines. lines.items) more ≡ option_map (λ texts. lines.items ++ row_text default_writer texts) (row_in (view row.now))) }
+{
+    let Some(fields) = row.as_array() else {
+        return Ok(None);
+    };
+    match record_of(alloc, fields)? {
+        Some(texts) => Ok(Some(with_record(lines, &texts)?)),
+        None => Ok(None),
+    }
+}
+
+// Lines, and these rows after them, as CSV. None where one is no row of texts.
+fn with_rows(alloc: Global, lines: Vec<u8>, rows: &[Json]) -> Result<Option<Vec<u8>>, AllocError>
+    ensures { IfOk result (λ more. option_map (λ lines. lines.items) more ≡ option_map (λ text. lines.items ++ text) (rows_in (items_view rows.now))) }
+{
+    let mut all = lines;
+    for i in 0..rows.len() {
+        match with_row(alloc, all, &rows[i])? {
+            Some(more) => all = more,
+            None => return Ok(None),
+        }
+    }
+    Ok(Some(all))
+}
+
+// `settled`, and the values as CSV, a record a row.
+fn settled(alloc: Global, value: &Json) -> Result<Option<Vec<u8>>, AllocError>
+    ensures { IfOk result (λ lines. option_map (λ l. l.items) lines ≡ settled_shown (view value.now)) }
+{
+    let Some(rows) = value.get("rows").and_then(Json::as_array) else {
+        return Ok(None);
+    };
+    let heading = Vec::from_slice(alloc, b"settled\n")?;
+    with_rows(alloc, heading, rows)
 }
 
 // `P refused 1 FAULT OFFSET`.
@@ -146,39 +191,80 @@ fn error(
     Ok(Some(refused_line(alloc, process, refusal)?))
 }
 
-// An answer by its name.
+// An answer of one line by its name.
 fn named(
     alloc: Global,
     process: usize,
     value: &Json,
     name: &str,
 ) -> Result<Option<String>, AllocError>
-    ensures { IfOk result (λ lines. (name.now ≡ codes "settled" → ⊥) → option_map string_bytes lines ≡ ok_shown process (view value.now) name.now) }
+    ensures { IfOk result (λ lines. option_map string_bytes lines ≡ line_shown process (view value.now) name.now) }
 {
     match name {
         "done" => done(alloc, process, value),
         "overtaken" => overtaken(alloc, process, value),
-        "settled" => settled(alloc, value),
         "unsettled" => unsettled(alloc, value),
         "join" | "last" => last(alloc, process, value),
         _ => Ok(None),
     }
 }
 
-/// What a client of a process shows of an answer: lines as a script's answers are. None where it is no answer of a
-/// server. An error means that an allocation failed.
+// The bytes of lines, where there are some.
+fn bytes_of(lines: Option<String>) -> Option<Vec<u8>>
+    ensures { option_map (λ l. l.items) result ≡ option_map string_bytes lines }
+{
+    match lines {
+        Some(lines) => Some(lines.into_bytes()),
+        None => None,
+    }
+}
+
+// An answer that is no error, by its name.
+fn answered(
+    alloc: Global,
+    process: usize,
+    value: &Json,
+    name: &str,
+) -> Result<Option<Vec<u8>>, AllocError>
+    ensures { IfOk result (λ lines. option_map (λ l. l.items) lines ≡ ok_shown process (view value.now) name.now) }
+{
+    if name == "settled" {
+        return settled(alloc, value);
+    }
+    Ok(bytes_of(named(alloc, process, value, name)?))
+}
+
+// What is shown of an error, if it is one.
+fn refused(alloc: Global, process: usize, value: &Json) -> Result<Option<Vec<u8>>, AllocError>
+    ensures { IfOk result (λ lines. option_map (λ l. l.items) lines ≡ refused_shown process (view value.now)) }
+{
+    match text_at(value, "error") {
+        Some(name) => Ok(bytes_of(error(alloc, process, value, name)?)),
+        None => Ok(None),
+    }
+}
+
+/// Whether the answer to a join says that the server has lost edits that it had answered done.
+pub fn is_lost(answer: &Json) -> bool
+    ensures { result ≡ says_lost (view answer.now) }
+{
+    match answer.get("lost") {
+        Some(field) => field.as_bool() == Some(true),
+        None => false,
+    }
+}
+
+/// What a client of a process shows of an answer: lines as a script's answers are, those of a settled report with its
+/// values as CSV. None where it is no answer of a server. An error means that an allocation failed.
 pub fn answer_lines(
     alloc: Global,
     process: usize,
     answer: &Json,
-) -> Result<Option<String>, AllocError>
-    ensures { IfOk result (λ lines. (text_at (codes "ok") (view answer.now) ≡ Some (codes "settled") → ⊥) → option_map string_bytes lines ≡ shown process (view answer.now)) }
+) -> Result<Option<Vec<u8>>, AllocError>
+    ensures { IfOk result (λ lines. option_map (λ l. l.items) lines ≡ shown process (view answer.now)) }
 {
-    if let Some(name) = text_at(answer, "ok") {
-        return named(alloc, process, answer, name);
-    }
-    match text_at(answer, "error") {
-        Some(name) => error(alloc, process, answer, name),
-        None => Ok(None),
+    match text_at(answer, "ok") {
+        Some(name) => answered(alloc, process, answer, name),
+        None => refused(alloc, process, answer),
     }
 }

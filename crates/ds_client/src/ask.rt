@@ -10,8 +10,9 @@ use std::{fmt, str};
 /// What a client asks a server for.
 #[derive(Clone, Copy, Debug)]
 pub enum Ask<'a> {
-    /// To take this process, and to report its last edit.
-    Join(usize),
+    /// To take this process, and to report its last edit; with the number of the client's last edit that was answered done,
+    /// if any, and the server's token, if any.
+    Join(usize, Option<u64>, Option<&'a str>),
     /// To edit a cell.
     Set {
         /// The cell's name, which the server reads.

@@ -1,28 +1,39 @@
 //! What a client asks is what a server reads, and what it shows is what the server says.
 
-ghost use Rattle.std.specs.Prelude.{◌≡◌, ℕ, List, Some, None, Ok};
+ghost use Rattle.std.specs.Prelude.{◌≡◌, ℕ, List, Option, Some, None, Ok, codes};
 ghost use Rattle.ds_formula.specs.declared.cells.Shape.{Shape};
 ghost use Rattle.ds_server.specs.DeskCalls.{Last as LastCall, Report as AskedReport};
-ghost use Rattle.ds_server.specs.LineRequests.{call_of, join_by, or_bad_field};
+ghost use Rattle.ds_server.specs.LineRequests.{call_of, join_by, number_field, or_bad_field};
 ghost use Rattle.ds_server.specs.Replies.{Said};
 ghost use Rattle.ds_server.specs.SessionTexts.{said_data};
-ghost use Rattle.ds_client.specs.AnswerLines.{HasNoValues, said_lines, shown};
+ghost use Rattle.ds_client.specs.AnswerLines.{IsSaid, is_loss, said_lines, says_lost, shown};
 ghost use Rattle.ds_client.specs.Asks.{Join, Last, Report, Set};
 ghost use Rattle.ds_client.specs.Requests.{edit_named, wish_data};
 
-/// A server reads each request as the call that was asked for: a join of that process where it has it, an edit of the
+/// A server reads each request as the call that was asked for: a join of that process where it has it, also one with the
+/// token of a server that has one, and with the number of the client's last edit that was answered done; an edit of the
 /// cell of that name, where the sheet has one, to that text, a report, and what is reported of the last edit.
-#[tactic(auto, using(crate::proofs::Understood::joins, crate::proofs::Understood::sets))]
+#[tactic(auto, using(crate::proofs::Understood::joins, crate::proofs::Understood::joins_with, crate::proofs::Understood::said_done, crate::proofs::Understood::sets))]
 pub fn requests_are_read()
-    ensures join { (shape : Shape) (processes process : ℕ) → call_of shape processes None (wish_data (Join process)) ≡ or_bad_field (join_by processes process) }
-    ensures set { (shape : Shape) (processes process : ℕ) (cell text : List ℕ)
-        → call_of shape processes (Some process) (wish_data (Set cell text)) ≡ or_bad_field (edit_named shape process cell text) }
-    ensures report { (shape : Shape) (processes process : ℕ) → call_of shape processes (Some process) (wish_data Report) ≡ Ok (AskedReport process) }
-    ensures last { (shape : Shape) (processes process : ℕ) → call_of shape processes (Some process) (wish_data Last) ≡ Ok (LastCall process) }
+    ensures join { (shape : Shape) (processes process : ℕ) (done : Option ℕ) (token : Option (List ℕ))
+        → call_of shape processes None None (wish_data (Join process done token)) ≡ or_bad_field (join_by processes process) }
+    ensures join_with { (shape : Shape) (processes process : ℕ) (done : Option ℕ) (token : List ℕ)
+        → call_of shape processes (Some token) None (wish_data (Join process done (Some token))) ≡ or_bad_field (join_by processes process) }
+    ensures done { (process : ℕ) (done : Option ℕ) (token : Option (List ℕ)) → number_field (codes "told") (wish_data (Join process done token)) ≡ done }
+    ensures set { (shape : Shape) (processes process : ℕ) (token : Option (List ℕ)) (cell text : List ℕ)
+        → call_of shape processes token (Some process) (wish_data (Set cell text)) ≡ or_bad_field (edit_named shape process cell text) }
+    ensures report { (shape : Shape) (processes process : ℕ) (token : Option (List ℕ)) → call_of shape processes token (Some process) (wish_data Report) ≡ Ok (AskedReport process) }
+    ensures last { (shape : Shape) (processes process : ℕ) (token : Option (List ℕ)) → call_of shape processes token (Some process) (wish_data Last) ≡ Ok (LastCall process) }
 {}
 
-/// What a client shows of an answer without values are the lines of a script's answer of that kind.
+/// What a client shows of an answer are the lines of a script's answer of that kind: of a settled report with its values.
 #[tactic(auto, using(crate::proofs::Understood::shows))]
 pub fn answers_are_shown()
-    ensures { (process : ℕ) (shape : Shape) (said : Said) → HasNoValues said → shown process (said_data shape said) ≡ Some (said_lines process shape said) }
+    ensures { (process : ℕ) (shape : Shape) (said : Said) → IsSaid said → shown process (said_data shape said) ≡ Some (said_lines process shape said) }
+{}
+
+/// A client reads of an answer just where it says that edits were lost.
+#[tactic(auto, using(crate::proofs::Understood::losses))]
+pub fn losses_are_read()
+    ensures { (shape : Shape) (said : Said) → says_lost (said_data shape said) ≡ is_loss said }
 {}

@@ -1,6 +1,6 @@
 //! Requests of a client.
 
-ghost use Rattle.std.specs.Prelude.{◌≡◌, IfOk, codes, string_bytes};
+ghost use Rattle.std.specs.Prelude.{◌≡◌, IfOk, Some, codes, option_map, string_bytes};
 ghost use Rattle.serde_json.specs.Data.{member, no_members, object};
 ghost use Rattle.serde_json.specs.View.{view};
 ghost use Rattle.serde_json.specs.Written.{compact_text};
@@ -12,10 +12,36 @@ use crate::ask::Ask;
 use serde_json::{Value as Json, json};
 use std::alloc::{AllocError, Global};
 
-fn join_value(alloc: Global, process: usize) -> Result<Json, AllocError>
-    ensures { IfOk result (λ v. view v ≡ wish_data (Join process)) }
+// A join that has both: the number of the last edit that was answered done, and a token.
+fn whole_join_value(
+    alloc: Global,
+    process: usize,
+    done: u64,
+    token: &str,
+) -> Result<Json, AllocError>
+    ensures { IfOk result (λ v. view v ≡ wish_data (Join process (Some done) (Some token.now))) }
 {
-    json!(in alloc; {"op": "join", "process": (process as u64)})
+    json!(in alloc; {"op": "join", "process": (process as u64), "token": token, "told": done})
+}
+
+fn join_value(
+    alloc: Global,
+    process: usize,
+    done: Option<u64>,
+    token: Option<&str>,
+) -> Result<Json, AllocError>
+    ensures { IfOk result (λ v. view v ≡ wish_data (Join process done (option_map (λ t. t.now) token.entry))) }
+{
+    match (done, token) {
+        (None, None) => json!(in alloc; {"op": "join", "process": (process as u64)}),
+        (None, Some(token)) => {
+            json!(in alloc; {"op": "join", "process": (process as u64), "token": token})
+        }
+        (Some(done), None) => {
+            json!(in alloc; {"op": "join", "process": (process as u64), "told": done})
+        }
+        (Some(done), Some(token)) => whole_join_value(alloc, process, done, token),
+    }
 }
 
 fn set_value(alloc: Global, cell: &str, text: &str) -> Result<Json, AllocError>
@@ -35,7 +61,7 @@ fn request_value(alloc: Global, ask: Ask<'_>) -> Result<Json, AllocError>
     ensures { IfOk result (λ v. view v ≡ wish_data (wish_view ask.entry)) }
 {
     match ask {
-        Ask::Join(process) => join_value(alloc, process),
+        Ask::Join(process, done, token) => join_value(alloc, process, done, token),
         Ask::Set { cell, text } => set_value(alloc, cell, text),
         Ask::Report => named_value(alloc, "report"),
         Ask::Last => named_value(alloc, "last"),

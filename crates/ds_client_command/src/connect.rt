@@ -6,17 +6,19 @@ use ds_a1_script::lines::Commands;
 use ds_batch::lines::opened_line;
 use ds_batch::run::no_memory;
 use ds_batch::status::{NO_MEMORY, STREAM_FAILED};
+use ds_batch::token::{read_token, text_of};
 use ds_cli::connecting::Connecting;
-use ds_client::answer::answer_lines;
+use ds_client::answer::{answer_lines, is_lost};
 use ds_client::ask::{Ask, read_ask};
 use ds_client::request::request_line;
 use ds_script_io::fields::is_skipped;
 use serde_json::Value as Json;
 use std::alloc::{AllocError, Global};
+use std::fs::Files;
 use std::io::{self, ErrorKind, Read, Write};
 use std::net::{Net, TcpStream};
-use std::thread;
 use std::time::{Clock, Duration};
+use std::{str, thread};
 
 // How often a process is tried to be joined anew, and the rest between two tries, in milliseconds.
 const TRIES: u32 = 100;
@@ -36,6 +38,34 @@ const REFUSED: u8 = 1;
 struct Joined {
     stream: TcpStream,
     said: Json,
+}
+
+// A client at work: what it was asked for, the server's token, if it has one, and the number of the last edit of which it was
+// answered that it is done, if any.
+#[derive(Clone, Copy)]
+struct Client<'a> {
+    connecting: Connecting<'a>,
+    token: Option<&'a str>,
+    done: Option<u64>,
+}
+
+impl Client<'_> {
+    // What it asks a server for first.
+    fn join(&self) -> Ask<'_> {
+        Ask::Join(self.connecting.process, self.done, self.token)
+    }
+
+    // It is answered so: keeps the number of an edit that is done.
+    fn note(&mut self, said: &Json) {
+        let edit = match said.get("last") {
+            Some(last) => last,
+            None => said,
+        };
+        let outcome = edit.get("outcome").or(edit.get("ok"));
+        if outcome.and_then(Json::as_str) == Some("done") {
+            self.done = edit.get("number").and_then(Json::as_u64).or(self.done);
+        }
+    }
 }
 
 // A line of standard input, without its end, and its number.
@@ -91,20 +121,59 @@ fn send(alloc: Global, stream: &mut TcpStream, ask: Ask<'_>) -> io::Result<()> {
     stream.write_all(&request)
 }
 
+// Whether this is an answer to what was asked: a refusal, or one of its kind.
+fn fits(ask: Ask<'_>, said: &Json) -> bool {
+    let Some(name) = said.get("ok").and_then(Json::as_str) else {
+        return said.get("error").is_some();
+    };
+    match ask {
+        Ask::Join(_, _, _) => name == "join",
+        Ask::Set { cell: _, text: _ } => name == "done" || name == "overtaken",
+        Ask::Report => name == "settled" || name == "unsettled",
+        Ask::Last => name == "last",
+    }
+}
+
 // Asks the server, and reads what it says.
 fn exchange(alloc: Global, stream: &mut TcpStream, ask: Ask<'_>) -> io::Result<Json> {
     send(alloc, stream, ask)?;
     let said = read_answer(alloc, stream)?;
-    understood(alloc, &said)
+    let said = understood(alloc, &said)?;
+    if fits(ask, &said) {
+        Ok(said)
+    } else {
+        Err(io::Error::from(ErrorKind::InvalidData))
+    }
+}
+
+// For how long an answer is waited for. None: for ever.
+fn patience(connecting: Connecting<'_>) -> Option<Duration> {
+    match connecting.timeout {
+        0 => None,
+        seconds => Some(Duration::from_secs(seconds as u64)),
+    }
+}
+
+// Whether the server is to be taken as one that answers no more, or gives answers that no server gives.
+fn is_final(error: &io::Error) -> bool {
+    matches!(
+        error.kind(),
+        ErrorKind::OutOfMemory
+            | ErrorKind::InvalidData
+            | ErrorKind::WouldBlock
+            | ErrorKind::TimedOut
+    )
 }
 
 // Connects, and joins the process.
 fn join<R: AllocGlobal + Net<Stream = TcpStream>>(
     rt: &R,
-    connecting: Connecting,
+    client: &Client<'_>,
 ) -> io::Result<Joined> {
-    let mut stream = TcpStream::connect(rt, connecting.server)?;
-    let said = exchange(rt.alloc(), &mut stream, Ask::Join(connecting.process))?;
+    let mut stream = TcpStream::connect(rt, client.connecting.server)?;
+    stream.set_read_timeout(patience(client.connecting))?;
+    stream.set_write_timeout(patience(client.connecting))?;
+    let said = exchange(rt.alloc(), &mut stream, client.join())?;
     Ok(Joined { stream, said })
 }
 
@@ -116,18 +185,37 @@ fn is_refusal(said: &Json) -> bool {
 // Connects again and again after a broken connection, until the process is free.
 fn join_anew<R: AllocGlobal + Clock + Net<Stream = TcpStream>>(
     rt: &R,
-    connecting: Connecting,
+    client: &Client<'_>,
 ) -> io::Result<Joined> {
     for _ in 0..TRIES {
         thread::sleep(rt, Duration::from_millis(REST));
-        match join(rt, connecting) {
+        match join(rt, client) {
             Ok(joined) if is_refusal(&joined.said) => {}
             Ok(joined) => return Ok(joined),
-            Err(error) if error.kind() == ErrorKind::OutOfMemory => return Err(error),
+            Err(error) if is_final(&error) => return Err(error),
             Err(_) => {}
         }
     }
     Err(io::Error::from(ErrorKind::ConnectionRefused))
+}
+
+// Whether lines are shown as they are: none has a control character, and an answer without values is one line.
+fn is_plain(lines: &str, said: &Json) -> bool {
+    let (mut ends, mut plain) = (0u32, true);
+    for letter in lines.chars() {
+        if letter == '\n' {
+            ends = ends.saturating_add(1);
+        } else if letter.is_control() {
+            plain = false;
+        }
+    }
+    plain && (ends == 1 || said.get("rows").is_some())
+}
+
+// The server says what none says: what is shown of it, and the status.
+fn unknown<R: Eprint>(rt: &R) -> u8 {
+    let _reported = eprintln!(rt; "dsheet: the server says what no client knows");
+    STREAM_FAILED
 }
 
 // Shows what the server says. An error is the status.
@@ -136,9 +224,14 @@ fn show<R: AllocGlobal + Print + Eprint>(rt: &R, process: usize, said: &Json) ->
         return Err(no_memory(rt));
     };
     let Some(lines) = lines else {
-        let _reported = eprintln!(rt; "dsheet: the server says what no client knows");
-        return Err(STREAM_FAILED);
+        return Err(unknown(rt));
     };
+    let Ok(lines) = str::from_utf8(lines.as_slice()) else {
+        return Err(unknown(rt));
+    };
+    if !is_plain(lines, said) {
+        return Err(unknown(rt));
+    }
     if print!(rt; "{lines}").is_err() {
         return Err(STREAM_FAILED);
     }
@@ -146,8 +239,16 @@ fn show<R: AllocGlobal + Print + Eprint>(rt: &R, process: usize, said: &Json) ->
 }
 
 // What is wrong with the connection, and the status.
-fn tell_error(rt: &impl Eprint, connecting: Connecting, error: &io::Error) -> u8 {
-    let _reported = eprintln!(rt; "dsheet: {}: {error}", connecting.server);
+fn tell_error(rt: &impl Eprint, connecting: Connecting<'_>, error: &io::Error) -> u8 {
+    let server = connecting.server;
+    let _reported = match error.kind() {
+        ErrorKind::WouldBlock | ErrorKind::TimedOut => {
+            let seconds = connecting.timeout;
+            eprintln!(rt; "dsheet: {server}: no answer within {seconds} seconds")
+        }
+        ErrorKind::InvalidData => eprintln!(rt; "dsheet: {server}: that is no answer of dsheet"),
+        _ => eprintln!(rt; "dsheet: {server}: {error}"),
+    };
     if error.kind() == ErrorKind::OutOfMemory {
         NO_MEMORY
     } else {
@@ -155,25 +256,47 @@ fn tell_error(rt: &impl Eprint, connecting: Connecting, error: &io::Error) -> u8
     }
 }
 
-// A new connection in the place of a broken one: what the server says to the join. An error is the status.
-fn renew<R: AllocGlobal + Eprint + Clock + Net<Stream = TcpStream>>(
+// Shows what the server says to a join. Where it has lost an edit that it had answered done, the client says so, and ends. An
+// error is the status.
+fn show_joined<R: AllocGlobal + Print + Eprint>(
     rt: &R,
-    connecting: Connecting,
+    client: &mut Client<'_>,
+    said: &Json,
+) -> Result<(), u8> {
+    show(rt, client.connecting.process, said)?;
+    match client.done {
+        Some(number) if is_lost(said) => {
+            let _reported = eprintln!(rt;
+                "dsheet: the server has lost edits: it had answered that edit {number} is done"
+            );
+            Err(STREAM_FAILED)
+        }
+        _ => {
+            client.note(said);
+            Ok(())
+        }
+    }
+}
+
+// A new connection in the place of a broken one: what the server says to the join is shown. An error is the status.
+fn reconnect<R: AllocGlobal + Print + Eprint + Clock + Net<Stream = TcpStream>>(
+    rt: &R,
+    client: &mut Client<'_>,
     stream: &mut TcpStream,
-) -> Result<Json, u8> {
-    match join_anew(rt, connecting) {
+) -> Result<(), u8> {
+    match join_anew(rt, client) {
         Ok(joined) => {
             *stream = joined.stream;
-            Ok(joined.said)
+            show_joined(rt, client, &joined.said)
         }
-        Err(error) => Err(tell_error(rt, connecting, &error)),
+        Err(error) => Err(tell_error(rt, client.connecting, &error)),
     }
 }
 
 // A report, on a new connection. An error is the status.
 fn report_again<R: AllocGlobal + Print + Eprint>(
     rt: &R,
-    connecting: Connecting,
+    connecting: Connecting<'_>,
     stream: &mut TcpStream,
 ) -> Result<(), u8> {
     match exchange(rt.alloc(), stream, Ask::Report) {
@@ -186,15 +309,14 @@ fn report_again<R: AllocGlobal + Print + Eprint>(
 // edit. An error is the status.
 fn call_anew<R: AllocGlobal + Print + Eprint + Clock + Net<Stream = TcpStream>>(
     rt: &R,
-    connecting: Connecting,
+    client: &mut Client<'_>,
     stream: &mut TcpStream,
     ask: Ask<'_>,
 ) -> Result<(), u8> {
     let _reported = eprintln!(rt; "dsheet: the connection is broken; joining anew");
-    let said = renew(rt, connecting, stream)?;
-    show(rt, connecting.process, &said)?;
+    reconnect(rt, client, stream)?;
     match ask {
-        Ask::Report => report_again(rt, connecting, stream),
+        Ask::Report => report_again(rt, client.connecting, stream),
         _ => Ok(()),
     }
 }
@@ -203,7 +325,7 @@ fn call_anew<R: AllocGlobal + Print + Eprint + Clock + Net<Stream = TcpStream>>(
 // is shown then, and an edit is not sent again. An error is the status.
 fn call<R: AllocGlobal + Print + Eprint + Clock + Net<Stream = TcpStream>>(
     rt: &R,
-    connecting: Connecting,
+    client: &mut Client<'_>,
     notation: Notation,
     stream: &mut TcpStream,
     line: &str,
@@ -211,9 +333,13 @@ fn call<R: AllocGlobal + Print + Eprint + Clock + Net<Stream = TcpStream>>(
 ) -> Result<(), u8> {
     let said = match exchange(rt.alloc(), stream, ask) {
         Ok(said) => said,
-        Err(_) => return call_anew(rt, connecting, stream, ask),
+        Err(error) if is_final(&error) => {
+            return Err(tell_error(rt, client.connecting, &error));
+        }
+        Err(_) => return call_anew(rt, client, stream, ask),
     };
-    show(rt, connecting.process, &said)?;
+    show(rt, client.connecting.process, &said)?;
+    client.note(&said);
     show_note(rt, notation, line, &said);
     Ok(())
 }
@@ -227,14 +353,14 @@ fn without_end(line: &str) -> &str {
 // The call that a line asks for, whose text is in this notation; a line with a fault is reported. An error is the status.
 fn obey<R: AllocGlobal + Print + Eprint + Clock + Net<Stream = TcpStream>>(
     rt: &R,
-    connecting: Connecting,
+    client: &mut Client<'_>,
     notation: Notation,
     stream: &mut TcpStream,
     line: Line<'_>,
 ) -> Result<(), u8> {
     let open = opened_line(rt, notation, Commands::OfClient, line.number, line.text)?;
     match read_ask(open.as_bytes()) {
-        Ok(ask) => call(rt, connecting, notation, stream, line.text, ask),
+        Ok(ask) => call(rt, client, notation, stream, line.text, ask),
         Err(fault) => {
             let _reported = eprintln!(rt; "line {}: {fault}", line.number);
             Err(REFUSED)
@@ -246,7 +372,7 @@ fn obey<R: AllocGlobal + Print + Eprint + Clock + Net<Stream = TcpStream>>(
 // is the status.
 fn talk<R: AllocGlobal + Input + Print + Eprint + Clock + Net<Stream = TcpStream>>(
     rt: &R,
-    connecting: Connecting,
+    client: &mut Client<'_>,
     notation: Notation,
     stream: &mut TcpStream,
     prompts: bool,
@@ -254,7 +380,7 @@ fn talk<R: AllocGlobal + Input + Print + Eprint + Clock + Net<Stream = TcpStream
     let mut text = String::new(rt.alloc());
     for number in 1..u64::MAX {
         if prompts {
-            let _prompted = eprint!(rt; "{}> ", connecting.process);
+            let _prompted = eprint!(rt; "{}> ", client.connecting.process);
         }
         text.clear();
         match rt.read_line(&mut text) {
@@ -269,7 +395,7 @@ fn talk<R: AllocGlobal + Input + Print + Eprint + Clock + Net<Stream = TcpStream
         if is_skipped(line.text.as_bytes()) {
             continue;
         }
-        match obey(rt, connecting, notation, stream, line) {
+        match obey(rt, client, notation, stream, line) {
             Err(REFUSED) if prompts => {}
             Err(status) => return Err(status),
             Ok(()) => {}
@@ -278,27 +404,44 @@ fn talk<R: AllocGlobal + Input + Print + Eprint + Clock + Net<Stream = TcpStream
     Ok(())
 }
 
+// Joins, and makes the calls of standard input. An error is the status.
+fn converse<R: AllocGlobal + Input + Print + Eprint + Clock + Net<Stream = TcpStream>>(
+    rt: &R,
+    client: &mut Client<'_>,
+    notation: Notation,
+    prompts: bool,
+) -> Result<(), u8> {
+    let Joined { mut stream, said } = match join(rt, client) {
+        Ok(joined) => joined,
+        Err(error) => return Err(tell_error(rt, client.connecting, &error)),
+    };
+    show_joined(rt, client, &said)?;
+    if is_refusal(&said) {
+        return Err(REFUSED);
+    }
+    talk(rt, client, notation, &mut stream, prompts)
+}
+
 /// `dsheet connect`: joins a process of a server, and makes a call for each line of standard input, with formulas in this
 /// notation; what the server says
 /// goes to standard output as the lines of a script's answers. A prompt is shown on standard error where that is asked
 /// for; then a line with a fault ends nothing. Gives the status.
-pub fn connect<R: AllocGlobal + Input + Print + Eprint + Clock + Net<Stream = TcpStream>>(
+pub fn connect<R: AllocGlobal + Input + Print + Eprint + Clock + Files + Net<Stream = TcpStream>>(
     rt: &R,
-    connecting: Connecting,
+    connecting: Connecting<'_>,
     notation: Notation,
     prompts: bool,
 ) -> u8 {
-    let Joined { mut stream, said } = match join(rt, connecting) {
-        Ok(joined) => joined,
-        Err(error) => return tell_error(rt, connecting, &error),
+    let token = match read_token(rt, connecting.token_file) {
+        Ok(token) => token,
+        Err(status) => return status,
     };
-    if let Err(status) = show(rt, connecting.process, &said) {
-        return status;
-    }
-    if is_refusal(&said) {
-        return REFUSED;
-    }
-    match talk(rt, connecting, notation, &mut stream, prompts) {
+    let mut client = Client {
+        connecting,
+        token: text_of(&token),
+        done: None,
+    };
+    match converse(rt, &mut client, notation, prompts) {
         Ok(()) => 0,
         Err(status) => status,
     }

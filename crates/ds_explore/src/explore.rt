@@ -398,7 +398,7 @@ fn explore_all<W: Write, T: Watcher>(
 /// States that were met before are not gone through again: a state is its words, the situations and buffers of its
 /// processes, and what their calls were answered. Numbers of orders end at 2^128 - 1. The watcher is shown how many
 /// states there are, at each event that is tried. Where no more states are said to be, it was checked that nothing that
-/// may happen leads out of those that were found.
+/// may happen leads out of those that were found, and every order stays with these.
 pub fn explore<W: Write, T: Watcher>(
     alloc: Global,
     script: &[u8],

@@ -130,7 +130,7 @@ impl Lines {
     ) -> Result<(), AllocError> {
         let steps = self.steps_of(process)?;
         let before = last_point(&position.world, process);
-        position.apply(alloc, Move::Step(process))?;
+        let _written = position.apply(alloc, Move::Step(process))?;
         if is_answered(position, process) {
             self.steps = None;
             self.lines.push(FoundLine::Run(process))?;
@@ -147,7 +147,8 @@ impl Lines {
             Move::Stop(process) => self.push(FoundLine::Stop(process))?,
             Move::Evict(place) => self.push(FoundLine::Evict(place))?,
         }
-        position.apply(alloc, next)
+        let _written = position.apply(alloc, next)?;
+        Ok(())
     }
 
     // What is done after an order.

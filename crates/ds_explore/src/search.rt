@@ -182,10 +182,10 @@ impl Start {
 
     // What has this number happens.
     fn happen(&self, alloc: Global, position: &mut Position, by: u32) -> Result<(), AllocError> {
-        match self.moves.get(by as usize) {
-            Some(next) => position.apply(alloc, *next),
-            None => Ok(()),
+        if let Some(next) = self.moves.get(by as usize) {
+            let _written = position.apply(alloc, *next)?;
         }
+        Ok(())
     }
 
     // Whether this may happen.
@@ -564,8 +564,9 @@ impl Search {
             states: &self.found,
             touched: &start.touched,
             allowed: start.options.allowed(),
+            first: &start.first,
         };
-        is_closed(alloc, found, &start.first)
+        is_closed(alloc, found)
     }
 }
 

@@ -1,13 +1,15 @@
 //! Whether anything that may happen leads out of the states that were found.
 
-ghost use Rattle.std.specs.Prelude.{◌≡◌, ◌<◌, ℕ, true, false, IfOk, IfSome, IsTrue, OnOk, length, replicate, slice_index_or};
+ghost use Rattle.std.specs.Prelude.{◌≡◌, ◌<◌, ℕ, List, true, false, IfOk, IfSome, IsTrue, OnOk, length, replicate, slice_index_or};
 ghost use Rattle.ds_layout.specs.declared.place.Place.{Place};
-ghost use Rattle.ds_explore_state.specs.Closed.{AreAll, LeadsInto, MarksHold, StaysIn};
-ghost use Rattle.ds_explore_state.specs.Orders.{HasDirt, IsBusy, MayHappen};
+ghost use Rattle.ds_explore_state.specs.Closed.{AreAll, AreKept, LeadsInto, MarksHold, StaysIn};
+ghost use Rattle.ds_explore_state.specs.Following.{IsFollowed, IsKept};
+ghost use Rattle.ds_explore_state.specs.Orders.{Happens, HasDirt, IsBusy, MayHappen};
 ghost use Rattle.ds_explore_state.specs.States.{groups_of};
 ghost use Rattle.ds_explore_state.specs.declared.position.Move.TheVariants.{Evict, Step, Stop};
+ghost use Rattle.ds_explore_state.specs.declared.position.Position.{Position};
 
-use crate::orders::{Allowed, is_busy, is_dirty};
+use crate::orders::{Allowed, can_happen, is_busy, is_dirty};
 use crate::position::{Move, Position};
 use crate::states::States;
 use crate::touched::Touched;
@@ -22,6 +24,8 @@ pub struct Found<'a> {
     pub touched: &'a Touched,
     /// What may come between steps.
     pub allowed: Allowed,
+    /// The position in which all orders begin.
+    pub first: &'a Position,
 }
 
 // What may happen at a position, and the number of the state that it leads to.
@@ -40,6 +44,23 @@ struct Visit {
     ahead: Vec<Successor>,
 }
 
+// Whether this can happen at the position, and has happened, with words of the groups written alone.
+fn lead(
+    alloc: Global,
+    touched: &Touched,
+    position: &mut Position,
+    next: Move,
+) -> Result<bool, AllocError>
+    ensures happens { IfOk result (λ b. IsTrue b → Happens position.old next position.new) }
+    ensures follows { IfOk result (λ b. IsTrue b → (first : Position) → IsFollowed (groups_of touched.now) first position.old → IsFollowed (groups_of touched.now) first position.new) }
+{
+    if !can_happen(position, next) {
+        return Ok(false);
+    }
+    let written = position.apply(alloc, next)?;
+    Ok(touched.has_written(written))
+}
+
 // The number of the state that this leads to.
 fn leads_into(
     alloc: Global,
@@ -51,7 +72,10 @@ fn leads_into(
     ensures { IfOk result (λ some. IfSome some (λ number. LeadsInto states.now (groups_of touched.now) position.now next)) }
 {
     let mut after = position.copy(alloc)?;
-    after.apply(alloc, next)?;
+    let led = lead(alloc, touched, &mut after, next)?;
+    if !led {
+        return Ok(None);
+    }
     states.number_of(alloc, &after, touched)
 }
 
@@ -250,8 +274,9 @@ fn mark(
     position: &Position,
     marks: &mut Vec<bool>,
 ) -> Result<Option<Vec<Successor>>, AllocError>
-    requires { MarksHold found.states.now (groups_of found.touched.now) found.allowed found.touched.now.places.items marks.old.items }
-    ensures { OnOk result (MarksHold found.entry.states.now (groups_of found.entry.touched.now) found.entry.allowed found.entry.touched.now.places.items marks.new.items) }
+    requires marks { MarksHold found.states.now (groups_of found.touched.now) found.allowed found.touched.now.places.items found.first.now marks.old.items }
+    requires kept { IsKept (groups_of found.touched.now) found.first.now position.now }
+    ensures { OnOk result (MarksHold found.entry.states.now (groups_of found.entry.touched.now) found.entry.allowed found.entry.touched.now.places.items found.entry.first.now marks.new.items) }
 {
     let Some(number) = found.states.number_of(alloc, position, found.touched)? else {
         return Ok(None);
@@ -269,30 +294,48 @@ fn mark(
     Ok(Some(successors))
 }
 
-impl Visit {
-    // The position, for what happens next in it: a copy as long as more has not happened.
-    fn position(&mut self, alloc: Global) -> Result<Option<Position>, AllocError> {
-        if self.ahead.is_empty() {
-            return Ok(self.position.take());
-        }
-        match &self.position {
-            Some(position) => Ok(Some(position.copy(alloc)?)),
-            None => Ok(None),
-        }
+// The position that is there, for what happens next in it: a copy as long as more is to happen.
+fn taken(
+    alloc: Global,
+    position: &mut Option<Position>,
+    is_last: bool,
+) -> Result<Option<Position>, AllocError>
+    ensures copy { (groups : List (List Place)) (first : Position) → IfSome position.old (IsKept groups first) → IfOk result (λ some. IfSome some (IsKept groups first)) }
+    ensures kept { (groups : List (List Place)) (first : Position) → IfSome position.old (IsKept groups first) → IfSome position.new (IsKept groups first) }
+{
+    if is_last {
+        return Ok(position.take());
     }
+    match position {
+        Some(position) => Ok(Some(position.copy(alloc)?)),
+        None => Ok(None),
+    }
+}
 
+impl Visit {
     // The next position whose state is not marked; none where all are.
-    fn next(&mut self, alloc: Global, marks: &[bool]) -> Result<Option<Position>, AllocError> {
+    fn next(
+        &mut self,
+        alloc: Global,
+        touched: &Touched,
+        marks: &[bool],
+    ) -> Result<Option<Position>, AllocError>
+        ensures next { (first : Position) → IfSome self.old.position (IsKept (groups_of touched.now) first) → IfOk result (λ some. IfSome some (IsKept (groups_of touched.now) first)) }
+        ensures kept { (first : Position) → IfSome self.old.position (IsKept (groups_of touched.now) first) → IfSome self.new.position (IsKept (groups_of touched.now) first) }
+    {
         for _ in 0..u64::MAX {
             let Some(successor) = self.ahead.pop() else {
                 return Ok(None);
             };
             if marks.get(successor.to as usize) == Some(&false) {
-                let Some(mut after) = self.position(alloc)? else {
+                let is_last = self.ahead.is_empty();
+                let Some(mut after) = taken(alloc, &mut self.position, is_last)? else {
                     return Ok(None);
                 };
-                after.apply(alloc, successor.by)?;
-                return Ok(Some(after));
+                let led = lead(alloc, touched, &mut after, successor.by)?;
+                if led {
+                    return Ok(Some(after));
+                }
             }
         }
         Ok(None)
@@ -302,17 +345,21 @@ impl Visit {
 // The next position whose state is not marked, of these visits; none where all are.
 fn next(
     alloc: Global,
+    touched: &Touched,
     visits: &mut Vec<Visit>,
     marks: &[bool],
-) -> Result<Option<Position>, AllocError> {
+) -> Result<Option<Position>, AllocError>
+    ensures next { (first : Position) → AreKept (groups_of touched.now) first visits.old.items → IfOk result (λ some. IfSome some (IsKept (groups_of touched.now) first)) }
+    ensures kept { (first : Position) → AreKept (groups_of touched.now) first visits.old.items → OnOk result (AreKept (groups_of touched.now) first visits.new.items) }
+{
     for _ in 0..u64::MAX {
-        let Some(visit) = visits.last_mut() else {
+        let Some(mut visit) = visits.pop() else {
             return Ok(None);
         };
-        if let Some(after) = visit.next(alloc, marks)? {
+        if let Some(after) = visit.next(alloc, touched, marks)? {
+            visits.push(visit)?;
             return Ok(Some(after));
         }
-        let _ended = visits.pop();
     }
     Ok(None)
 }
@@ -329,12 +376,13 @@ fn unmarked(alloc: Global, count: usize) -> Result<Vec<bool>, AllocError>
 }
 
 // Marks the states from which nothing leads out of those that were found, from the first one on.
-fn marks(alloc: Global, found: Found<'_>, first: &Position) -> Result<Vec<bool>, AllocError>
-    ensures { IfOk result (λ marks. MarksHold found.entry.states.now (groups_of found.entry.touched.now) found.entry.allowed found.entry.touched.now.places.items marks.items) }
+fn marks(alloc: Global, found: Found<'_>) -> Result<Vec<bool>, AllocError>
+    requires { IsKept (groups_of found.touched.now) found.first.now found.first.now }
+    ensures { IfOk result (λ marks. MarksHold found.entry.states.now (groups_of found.entry.touched.now) found.entry.allowed found.entry.touched.now.places.items found.entry.first.now marks.items) }
 {
     let mut marks = unmarked(alloc, found.states.len())?;
     let mut visits = Vec::new(alloc);
-    let mut position = first.copy(alloc)?;
+    let mut position = found.first.copy(alloc)?;
     for _ in 0..u64::MAX {
         if let Some(ahead) = mark(alloc, found, &position, &mut marks)? {
             visits.push(Visit {
@@ -342,7 +390,7 @@ fn marks(alloc: Global, found: Found<'_>, first: &Position) -> Result<Vec<bool>,
                 ahead,
             })?;
         }
-        match next(alloc, &mut visits, &marks)? {
+        match next(alloc, found.touched, &mut visits, &marks)? {
             Some(after) => position = after,
             None => return Ok(marks),
         }
@@ -362,14 +410,24 @@ fn are_marked(marks: &[bool], count: usize) -> bool
     true
 }
 
+// Whether the position says of each of its processes what that has.
+fn is_whole(position: &Position) -> bool
+    ensures { IsTrue result → (groups : List (List Place)) → IsKept groups position.now position.now }
+{
+    position.seats.len() == position.world.words.layout().processes
+}
+
 /// Whether the states that were found are all: the first one is there, and nothing that may happen leads out of them. An
 /// error means that an allocation failed.
-pub fn is_closed(alloc: Global, found: Found<'_>, first: &Position) -> Result<bool, AllocError>
-    ensures { IfOk result (λ b. IsTrue b → AreAll found.entry.states.now (groups_of found.entry.touched.now) found.entry.allowed found.entry.touched.now.places.items first.now) }
+pub fn is_closed(alloc: Global, found: Found<'_>) -> Result<bool, AllocError>
+    ensures { IfOk result (λ b. IsTrue b → AreAll found.entry.states.now (groups_of found.entry.touched.now) found.entry.allowed found.entry.touched.now.places.items found.entry.first.now) }
 {
-    let Some(_number) = found.states.number_of(alloc, first, found.touched)? else {
+    if !is_whole(found.first) {
+        return Ok(false);
+    }
+    let Some(_number) = found.states.number_of(alloc, found.first, found.touched)? else {
         return Ok(false);
     };
-    let marks = marks(alloc, found, first)?;
+    let marks = marks(alloc, found)?;
     Ok(are_marked(&marks, found.states.len()))
 }

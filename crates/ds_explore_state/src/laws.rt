@@ -1,9 +1,19 @@
-//! Keys tell states apart.
+//! Keys tell states apart, and what is alike goes on alike.
 
-ghost use Rattle.std.specs.Prelude.{◌≡◌, ℕ, List};
+ghost use Rattle.std.specs.Prelude.{◌≡◌, ◌<◌, ℕ, List, []};
 ghost use Rattle.ds_layout.specs.declared.place.Place.{Place};
+ghost use Rattle.ds_layout.specs.SheetMemory.{memory};
+ghost use Rattle.ds_state.specs.Value.{IsGood, WorldValue, world_of};
 ghost use Rattle.ds_explore_state.specs.States.{IsKey, PlainPart, SameState, state_of};
+ghost use Rattle.ds_explore_state.specs.Alike.{ArePositionsAlike};
+ghost use Rattle.ds_explore_state.specs.Buffers.{HasEmptyBuffer};
+ghost use Rattle.ds_explore_state.specs.Closed.{AreAll, Order, StandsFor};
+ghost use Rattle.ds_explore_state.specs.Following.{KnowsBuffers};
+ghost use Rattle.ds_explore_state.specs.Orders.{Happens, MayHappen};
+ghost use Rattle.ds_explore_state.specs.declared.orders.Allowed.{Allowed};
+ghost use Rattle.ds_explore_state.specs.declared.position.Move.{Move};
 ghost use Rattle.ds_explore_state.specs.declared.position.Position.{Position};
+ghost use Rattle.ds_explore_state.specs.declared.states.States.{States};
 
 /// Positions with one key are the same in both sides of each word of the groups, in what each process does, in what its
 /// buffer holds, and in what it was answered.
@@ -11,4 +21,26 @@ ghost use Rattle.ds_explore_state.specs.declared.position.Position.{Position};
 pub fn keys_tell_states_apart()
     ensures { (numbered : List PlainPart) (key : List ℕ) (groups : List (List Place)) (x y : Position)
         → IsKey numbered key (state_of groups x) → IsKey numbered key (state_of groups y) → SameState groups x y }
+{}
+
+/// Positions that are alike go on alike: what may happen at the one may happen at the other, is answered alike, and leads
+/// to positions that are alike.
+pub fn positions_go_on_alike()
+    ensures may { (allowed : Allowed) (places : List Place) (x y : Position) (move : Move) → ArePositionsAlike x y → MayHappen allowed places x move → MayHappen allowed places y move }
+    ensures alike { (allowed : Allowed) (places : List Place) (move : Move) (x y after other : Position)
+        → ArePositionsAlike x y → MayHappen allowed places x move → Happens x move after → Happens y move other → ArePositionsAlike after other }
+{}
+
+/// Where the states that were found are all, every order of what may happen comes to positions alike to those that stand
+/// for states that were found, if the buffers of the first position are known.
+#[tactic(auto, using(crate::proofs::Ordered::order_stays))]
+pub fn orders_stay_in()
+    ensures { (states : States) (groups : List (List Place)) (allowed : Allowed) (places : List Place) (first : Position) → AreAll states groups allowed places first → KnowsBuffers first
+        → (moves : List Move) (y : Position) → Order allowed places first moves y → StandsFor states groups allowed places first y }
+{}
+
+/// Buffers are empty before the first step of each call, and wherever nothing is flushed that is not written back.
+#[tactic(auto, using(crate::proofs::Buffers::buffer_is_empty))]
+pub fn buffers_are_empty()
+    ensures { (w : WorldValue) (p : ℕ) → IsGood w → p < w.sheet.layout.processes → HasEmptyBuffer ((world_of w).situation p) → (memory w.sheet).buffer p ≡ [] }
 {}

@@ -1,9 +1,10 @@
 //! What may come between the steps of calls.
 
 ghost use Rattle.std.specs.Prelude.{◌≡◌, ◌<◌, ◌↔◌, IsTrue, IsFalse, length};
+ghost use Rattle.ds_explore_state.specs.Following.{CanHappen};
 ghost use Rattle.ds_explore_state.specs.Orders.{HasDirt, IsBusy};
 
-use crate::position::{Position, is_in_call};
+use crate::position::{Move, Position, is_in_call};
 use ds_layout::place::Place;
 use ds_state::world::World;
 
@@ -32,4 +33,15 @@ pub fn is_busy(position: &Position, process: usize) -> bool
     ensures { IsTrue result ↔ IsBusy position.now process }
 {
     process < position.seats.len() && is_in_call(&position.world, process)
+}
+
+/// Whether this can happen at a position: a step or a stop of a process that is in a call, or an eviction of a word whose
+/// sides differ.
+pub fn can_happen(position: &Position, next: Move) -> bool
+    ensures { IsTrue result → CanHappen position.now next }
+{
+    match next {
+        Move::Step(process) | Move::Stop(process) => is_busy(position, process),
+        Move::Evict(place) => is_dirty(&position.world, place),
+    }
 }

@@ -1,10 +1,12 @@
 //! A world with calls under way, and what they were answered.
 
-ghost use Rattle.std.specs.Prelude.{◌≡◌, ◌↔◌, ◌<◌, ◌-◌, ◌^◌, true, ℕ, IfErr, IfOk, IsFalse, IsTrue, OnOk, length, slice_get};
-ghost use Rattle.ds_state.specs.Value.{WorldValue};
+ghost use Rattle.std.specs.Prelude.{◌≡◌, ◌↔◌, ◌<◌, ◌-◌, ◌^◌, true, ℕ, All, None, Some, IfErr, IfOk, IsFalse, IsTrue, OnOk, length, slice_get};
+ghost use Rattle.ds_state.specs.Value.{WorldValue, world_of};
+ghost use Rattle.ds_state.specs.declared.situation.Situation.{Situation};
+ghost use Rattle.ds_work.specs.Reading.{unseen};
 ghost use Rattle.ds_core.specs.Takes.{Fits};
 ghost use Rattle.ds_core.specs.declared.event.Event.TheVariants as events;
-ghost use Rattle.ds_explore_state.specs.Orders.{Happens, IsBusy, IsReady, IsUnderWay, access_in, buffer_after, seat_after, seat_stopped, seats_of};
+ghost use Rattle.ds_explore_state.specs.Orders.{HappensAt, IsBusy, IsReadAnew, IsReady, IsUnderWay, ReadsWhereItShould, access_in, buffer_after, seat_after, seat_stopped, seats_of, written_by};
 ghost use Rattle.ds_explore_state.specs.declared.position.Move.TheVariants as moves;
 ghost use Rattle.ds_script_stops.specs.Reaching.{FallsShort};
 ghost use Rattle.ds_explore_state.specs.States.{lost_seat, seat_of, word_in};
@@ -14,6 +16,8 @@ use ds_calls::finish::step_once;
 use ds_core::event::Event;
 use ds_core::reply::Reply;
 use ds_core::take::take;
+use ds_eval::inputs::Input;
+use ds_eval::value::Value;
 use ds_formula::cells::Shape;
 use ds_layout::layout::Layout;
 use ds_layout::place::{Edition, Place};
@@ -23,6 +27,7 @@ use ds_script_io::line::INPUT_LIMIT;
 use ds_script_stops::reach::{Short, reach};
 use ds_state::answer::Answer;
 use ds_state::situation::Situation;
+use ds_state::work::WorkStage;
 use ds_state::world::World;
 use ds_words::access::{Access, BufferEntry};
 use ds_work::offer::offer_own;
@@ -117,14 +122,75 @@ fn make_ready(world: &mut World, process: usize)
     let _offered = offer_own(world, process);
 }
 
-/// One step of a process, as the command `step` makes it: what it does to the words, and its reply.
-pub fn step(alloc: Global, world: &mut World, process: usize) -> (Access<Place>, Reply)
-    ensures { (mid : WorldValue) × IsReady world.old process mid × (result.0 ≡ access_in mid.sheet.layout.shape (slice_get mid.situations process)) × Fits mid (events.Step process) result.1 world.new }
+// Whether a work of the process is to read its text.
+fn is_to_read(world: &World, process: usize) -> bool
+    ensures { IsFalse result → (s : Situation) → ReadsWhereItShould ((world_of world.now).situation process) s }
+{
+    match world.situations.get(process) {
+        Some(Situation::Working(call)) => matches!(call.stage, WorkStage::Read),
+        _ => false,
+    }
+}
+
+// Whether the reference was not looked at yet.
+fn is_unseen(input: Input) -> bool
+    ensures { IsTrue result → input ≡ unseen input.cell }
+{
+    match input.entry.value {
+        Value::Blank => input.entry.height == 0,
+        _ => false,
+    }
+}
+
+// Whether no reference was looked at yet.
+fn are_unseen(inputs: &[Input]) -> bool
+    ensures { IsTrue result → All (λ input. input ≡ unseen input.cell) inputs.now }
+{
+    for number in 0..inputs.len() {
+        if !is_unseen(inputs[number]) {
+            return false;
+        }
+    }
+    true
+}
+
+// Whether a work of the process has read its text: it did not lack the memory, and has looked at no reference yet.
+fn has_read(world: &World, process: usize) -> bool
+    ensures { IsTrue result → IsReadAnew ((world_of world.now).situation process) }
+{
+    match world.situations.get(process) {
+        Some(Situation::Working(call)) => {
+            !matches!(call.stage, WorkStage::Give) && are_unseen(call.inputs.as_slice())
+        }
+        _ => false,
+    }
+}
+
+// Whether a work of the process has read its text, if it was to.
+fn reads_well(world: &World, process: usize, was_to_read: bool) -> bool
+    ensures { IsTrue result → (before : Situation) → (IsFalse was_to_read → (s : Situation) → ReadsWhereItShould before s) → ReadsWhereItShould before ((world_of world.now).situation process) }
+{
+    !was_to_read || has_read(world, process)
+}
+
+/// One step of a process, as the command `step` makes it: what it does to the words, and its reply. An error means that
+/// an allocation failed.
+pub fn step(
+    alloc: Global,
+    world: &mut World,
+    process: usize,
+) -> Result<(Access<Place>, Reply), AllocError>
+    ensures { IfOk result (λ made. (mid : WorldValue) × IsReady world.old process mid × (made.0 ≡ access_in mid.sheet.layout.shape (slice_get mid.situations process)) × Fits mid (events.Step process) made.1 world.new
+        × ReadsWhereItShould ((world_of mid).situation process) ((world_of world.new).situation process)) }
 {
     make_ready(world, process);
     let access = wanted(world, process);
+    let is_to_read = is_to_read(world, process);
     let reply = step_once(alloc, world, process);
-    (access, reply)
+    if !reads_well(world, process, is_to_read) {
+        return Err(AllocError);
+    }
+    Ok((access, reply))
 }
 
 // How many entries of a buffer are there in a world: those that the call writes back beyond those that it flushes.
@@ -133,7 +199,7 @@ fn entries_at(alloc: Global, world: &World, process: usize) -> Result<usize, All
     let mut flushed = 0usize;
     let mut written = 0usize;
     for _ in 0..u64::MAX {
-        let (access, reply) = step(alloc, &mut world, process);
+        let (access, reply) = step(alloc, &mut world, process)?;
         match access {
             Access::Flush(_) => flushed = flushed.saturating_add(1),
             Access::Back => written = written.saturating_add(1),
@@ -183,6 +249,25 @@ fn buffered(
         _ => {}
     }
     Ok(after)
+}
+
+// The place of the word that an access may write, by a process with this buffer.
+fn written_by(access: Access<Place>, buffer: &[BufferEntry<Place>]) -> Option<Place>
+    ensures { result ≡ written_by access buffer.now }
+{
+    match access {
+        Access::Store(place, _) | Access::Or(place, _) => Some(place),
+        Access::SwapIf {
+            place,
+            expected: _,
+            value: _,
+        } => Some(place),
+        Access::Back => match buffer.first() {
+            Some(entry) => Some(entry.place),
+            None => None,
+        },
+        Access::Nothing | Access::Load(_) | Access::Flush(_) => None,
+    }
 }
 
 impl ProcessState {
@@ -287,21 +372,23 @@ impl Position {
         })
     }
 
-    // A step of a process, and what it was answered.
-    fn step(&mut self, alloc: Global, process: usize) -> Result<(), AllocError>
-        ensures { OnOk result (Happens self.old (moves.Step process) self.new) }
+    // A step of a process, and what it was answered. The word at this place may be written.
+    fn step(&mut self, alloc: Global, process: usize) -> Result<Option<Place>, AllocError>
+        ensures { IfOk result (λ written. HappensAt self.old (moves.Step process) written self.new) }
     {
-        let (access, reply) = step(alloc, &mut self.world, process);
-        if process < self.seats.len() {
-            let seat = self.seats[process].stepped(alloc, &self.world, process, access, reply)?;
-            self.seats[process] = seat;
+        let (access, reply) = step(alloc, &mut self.world, process)?;
+        if process >= self.seats.len() {
+            return Ok(written_by(access, &[]));
         }
-        Ok(())
+        let written = written_by(access, &self.seats[process].buffer);
+        let seat = self.seats[process].stepped(alloc, &self.world, process, access, reply)?;
+        self.seats[process] = seat;
+        Ok(written)
     }
 
     // A stop of a process.
     fn stop(&mut self, alloc: Global, process: usize) -> Result<(), AllocError>
-        ensures { OnOk result (Happens self.old (moves.Stop process) self.new) }
+        ensures { OnOk result (HappensAt self.old (moves.Stop process) None self.new) }
     {
         let reply = take(alloc, &mut self.world, &Event::Stop(process));
         if process < self.seats.len() {
@@ -313,21 +400,25 @@ impl Position {
 
     // An eviction of a word.
     fn evict(&mut self, alloc: Global, place: Place)
-        ensures { Happens self.old (moves.Evict place) self.new }
+        ensures { HappensAt self.old (moves.Evict place) (Some place) self.new }
     {
         let _evicted = take(alloc, &mut self.world, &Event::Evict(place));
     }
 
-    /// What may happen happens. After an error, that an allocation failed, nothing is known of the position.
-    pub fn apply(&mut self, alloc: Global, next: Move) -> Result<(), AllocError>
-        ensures { OnOk result (Happens self.old next self.new) }
+    /// What may happen happens. At most the word at the place that is returned is written. After an error, that an
+    /// allocation failed, nothing is known of the position.
+    pub fn apply(&mut self, alloc: Global, next: Move) -> Result<Option<Place>, AllocError>
+        ensures { IfOk result (λ written. HappensAt self.old next written self.new) }
     {
         match next {
             Move::Step(process) => self.step(alloc, process),
-            Move::Stop(process) => self.stop(alloc, process),
+            Move::Stop(process) => {
+                self.stop(alloc, process)?;
+                Ok(None)
+            }
             Move::Evict(place) => {
                 self.evict(alloc, place);
-                Ok(())
+                Ok(Some(place))
             }
         }
     }

@@ -1,5 +1,10 @@
 //! The words that calls under way may touch.
 
+ghost use Rattle.std.specs.Prelude.{◌≢◌, IsTrue};
+ghost use Rattle.std.specs.List.{AllByRecursion};
+ghost use Rattle.ds_explore_state.specs.Following.{IsOff, IsWithin};
+ghost use Rattle.ds_explore_state.specs.States.{groups_of};
+
 use ds_layout::layout::Layout;
 use ds_layout::place::{DONE_PARTS, Edition, Place, RECORDS};
 use ds_state::situation::Situation;
@@ -157,6 +162,40 @@ impl Touched {
         let places = all(alloc, &groups)?;
         Ok(Touched { groups, places })
     }
+
+    // Whether the place is in one of the groups.
+    fn has(&self, place: Place) -> bool
+        ensures { IsTrue result → IsOff (groups_of self.now) place → ⊥ }
+    {
+        for number in 0..self.groups.len() {
+            if is_in(&self.groups[number], place) {
+                return true;
+            }
+        }
+        false
+    }
+
+    /// Whether the place, if it is one, is in one of the groups.
+    pub fn has_written(&self, written: Option<Place>) -> bool
+        ensures { IsTrue result → IsWithin (groups_of self.now) written }
+    {
+        match written {
+            Some(place) => self.has(place),
+            None => true,
+        }
+    }
+}
+
+// Whether the place is in the group.
+fn is_in(group: &[Place], place: Place) -> bool
+    ensures { IsTrue result → AllByRecursion (λ other. place ≢ other) group.now → ⊥ }
+{
+    for number in 0..group.len() {
+        if group[number] == place {
+            return true;
+        }
+    }
+    false
 }
 
 // The places of all groups.

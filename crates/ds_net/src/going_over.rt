@@ -1,62 +1,49 @@
-//! A server with a store goes over to a new sheet.
+//! A server goes over to a new sheet.
 
-use crate::keeping::Keeping;
-use crate::numbering::numberings;
-use crate::placed::{Placed, placed_all};
-use crate::places::Places;
+ghost use Rattle.std.specs.Prelude.{IfOk};
+ghost use Rattle.ds_net_desks.specs.SeatsOfStores.{AreSeatsOf};
+
+use ds_net_desks::numbered_seat::{NumberedSeat, seats_of};
+use ds_net_desks::seat_pool::SeatPool;
+use ds_net_floor::keeping::Keeping;
 use ds_shared_seats::sheet::OpenSheet;
 use ds_store::fault::StoreFault;
-use ds_store::store::{Renewed, Store};
+use ds_store::store::Store;
 use sqlite::Alter;
 use std::alloc::Global;
 use std::sync::Wait;
 
-/// The sheet that is served now, which of the server's sheets it is, from 0, and where what acts for its processes lies.
+/// The sheet that is served now, the pool of its seats, and which of the server's sheets it is, from 0.
 #[derive(Drop)]
-pub(crate) struct Household<'a> {
+pub(crate) struct ServedSheet<'a> {
     sheet: OpenSheet,
-    places: &'a Places,
-    era: u64,
+    pool: &'a SeatPool,
+    epoch: u64,
 }
 
-// The sheet to which a store has gone over, and what acts for its processes that may be joined.
-#[derive(Drop)]
-struct Newcomers {
-    sheet: OpenSheet,
-    all: Vec<Placed>,
-}
-
-// What acts for the processes of the sheet to which the store has gone over, as the server's sheet of that number.
-fn housed_in<S: Alter + Drop>(
-    alloc: Global,
-    store: &Store<S>,
-    renewed: Renewed,
-    era: u64,
-) -> Result<Newcomers, StoreFault> {
-    let numberings = numberings(alloc, store, &renewed.lines)?;
-    let (sheet, seats) = renewed.sheet.into_parts();
-    let all = placed_all(alloc, seats, store.joins(), &numberings, era)?;
-    Ok(Newcomers { sheet, all })
-}
-
-// The store goes over to a new sheet. Nobody edits meanwhile.
-fn renewed<S: Alter + Drop>(
+// The store goes over to a new sheet, the one of this epoch: that sheet, and the seats of its processes that may be joined.
+// Nobody edits meanwhile.
+fn next_sheet<S: Alter + Drop>(
     alloc: Global,
     store: &mut Store<S>,
-    era: u64,
-) -> Result<Newcomers, StoreFault> {
+    epoch: u64,
+) -> Result<(OpenSheet, Vec<NumberedSeat>), StoreFault>
+    ensures { IfOk result (λ next. AreSeatsOf store.new.layout store.new.joins store.new.counts.counts.items store.new.sums epoch next.1.items) }
+{
     let held = store.lines(alloc)?;
-    let renewed = store.renew(alloc, &held)?;
-    housed_in(alloc, store, renewed, era)
+    let next = store.go_over(alloc, &held)?;
+    let (sheet, seats) = next.sheet.into_parts();
+    let seats = seats_of(alloc, store, &next.lines, seats, epoch)?;
+    Ok((sheet, seats))
 }
 
-impl<'a> Household<'a> {
-    /// Of the first sheet of a server.
-    pub(crate) fn new(sheet: OpenSheet, places: &'a Places) -> Household<'a> {
-        Household {
+impl<'a> ServedSheet<'a> {
+    /// The first sheet of a server.
+    pub(crate) fn new(sheet: OpenSheet, pool: &'a SeatPool) -> ServedSheet<'a> {
+        ServedSheet {
             sheet,
-            places,
-            era: 0,
+            pool,
+            epoch: 0,
         }
     }
 
@@ -75,18 +62,18 @@ impl<'a> Household<'a> {
             let committed = store.keep_all(alloc, edits)?;
             backlog.keep(&committed);
         }
-        let era = self.era.saturating_add(1);
-        let Newcomers { sheet, all } = renewed(alloc, store, era)?;
-        self.places.go_over(rt, all, era);
+        let epoch = self.epoch.saturating_add(1);
+        let (sheet, seats) = next_sheet(alloc, store, epoch)?;
+        self.pool.go_over(rt, seats, epoch);
         self.sheet = sheet;
-        self.era = era;
+        self.epoch = epoch;
         keeping.wake_all();
         Ok(())
     }
 
     /// The newest sheet.
     pub(crate) fn into_sheet(self) -> OpenSheet {
-        let Household { sheet, .. } = self;
+        let ServedSheet { sheet, .. } = self;
         sheet
     }
 }

@@ -1,8 +1,8 @@
 //! The keeper of a store: it keeps the edits that the sessions of a server have made.
 
-use crate::door::Door;
-use crate::going_over::Household;
-use crate::keeping::{Drained, Keeping, News};
+use crate::going_over::ServedSheet;
+use ds_net_floor::door::Door;
+use ds_net_floor::keeping::{Drained, Keeping, News};
 use ds_store::fault::StoreFault;
 use ds_store::store::Store;
 use sqlite::Alter;
@@ -23,7 +23,7 @@ fn keep_on<S: Alter + Drop, R: Wait + Clock, T: Attendant>(
     alloc: Global,
     keeping: &Keeping,
     store: &mut Store<S>,
-    household: &mut Household<'_>,
+    served_sheet: &mut ServedSheet<'_>,
     attendant: &mut T,
 ) -> Result<Drained, StoreFault> {
     for _ in rt.forever() {
@@ -33,7 +33,7 @@ fn keep_on<S: Alter + Drop, R: Wait + Clock, T: Attendant>(
                 let committed = store.keep_all(alloc, edits)?;
                 keeping.count(rt, &committed);
                 if store.is_short() {
-                    household.go_over(rt, alloc, keeping, store)?;
+                    served_sheet.go_over(rt, alloc, keeping, store)?;
                 }
             }
             News::Nothing => {}
@@ -54,10 +54,10 @@ pub(crate) fn keep<S: Alter + Drop, R: Wait + Clock, T: Attendant>(
     keeping: &Keeping,
     door: &Door,
     store: &mut Store<S>,
-    household: &mut Household<'_>,
+    served_sheet: &mut ServedSheet<'_>,
     attendant: &mut T,
 ) -> Result<Drained, StoreFault> {
-    let kept = keep_on(rt, alloc, keeping, store, household, attendant);
+    let kept = keep_on(rt, alloc, keeping, store, served_sheet, attendant);
     if kept.is_err() {
         keeping.fail(rt);
         door.tell();

@@ -1,29 +1,27 @@
-//! A server with a store: sessions in threads beside the keeper, which keeps what they have done.
+//! A server of an open store: sessions in threads beside the keeper, which keeps what they have done.
 
 ghost use Rattle.std.specs.Prelude.{◌≡◌, IfErr, IfOk, IfSome};
-ghost use Rattle.ds_net.specs.Accepting.{IsLasting, IsServed, IsStoredLasting};
+ghost use Rattle.ds_net_connections.specs.Accepting.{IsLasting, IsServed, IsStoredLasting};
 
-use crate::counts::Taken;
-use crate::door::Door;
-use crate::floor::Floor;
-use crate::going_over::Household;
+use crate::going_over::ServedSheet;
 use crate::keeper::{Attendant, keep};
-use crate::keeping::{Drained, Keeping};
-use crate::numbering::numberings;
-use crate::placed::placed_all;
-use crate::places::Places;
-use crate::server::{ServeError, Service, close, serve_floor, sum_up};
-use crate::shared_floor::SharedFloor;
-use crate::stored_floor::StoredFloor;
+use ds_net_connections::counts::Taken;
+use ds_net_connections::entrance::Entrances;
+use ds_net_connections::serving::{ServeError, Service, serve_floor};
+use ds_net_desks::numbered_seat::seats_of;
+use ds_net_desks::seat_pool::SeatPool;
+use ds_net_desks::stored_floor::StoredFloor;
+use ds_net_floor::door::Door;
+use ds_net_floor::floor::Floor;
+use ds_net_floor::keeping::{Drained, Keeping};
 use ds_order::known::KnownReferences;
 use ds_shared_seats::sheet::OpenSheet;
 use ds_store::seated::SeatedSheet;
 use ds_store::store::{Opened, Store};
 use ds_store_journal::journal::read_edit;
-use log::Log;
+use log::{Log, error, info};
 use sqlite::Alter;
 use std::alloc::Global;
-use std::net::TcpListener;
 use std::sync::Wait;
 use std::thread;
 use std::thread::{Promise, PromisedHandle, Scope, Threads};
@@ -38,25 +36,27 @@ pub struct Serves {
 
 impl Promise<Result<Taken, ServeError>> for Serves {
     ghost use Rattle.std.specs.Prelude.{IfErr, IfOk};
-    ghost use Rattle.ds_net.specs.Accepting.{IsLasting, IsServed};
+    ghost use Rattle.ds_net_connections.specs.Accepting.{IsLasting, IsServed};
 
     ghost kept_by = { λ serves ended. IfOk ended (IsServed serves.sessions) × IfErr ended IsLasting };
 }
 
-/// How a server with a store has ended well: with these connections, and with all kept that its sessions have done.
+/// How a server has ended well: with these connections, and with all kept that its sessions have done.
 #[derive(Drop)]
 pub struct StoredEnd {
     /// The connections that it took.
     pub taken: Taken,
     /// That every edit is committed which was done.
     pub drained: Drained,
+    /// Whether the sheet was closed with the seats of all its processes.
+    pub is_closed: bool,
 }
 
 // Serves a sheet, and tells the keeper then that no more edits come.
 fn served<F: Floor + Sync, R: Threads + Wait + Clock + Log + Sync>(
     rt: &R,
     alloc: Global,
-    listener: &TcpListener,
+    entrances: &Entrances,
     floor: &F,
     keeping: &Keeping,
     door: &Door,
@@ -65,7 +65,7 @@ fn served<F: Floor + Sync, R: Threads + Wait + Clock + Log + Sync>(
     ensures served { IfOk result (IsServed service.sessions) }
     ensures lasting { IfErr result IsLasting }
 {
-    let served = serve_floor(rt, alloc, listener, floor, door, service);
+    let served = serve_floor(rt, alloc, entrances, floor, door, service);
     keeping.end(rt);
     served
 }
@@ -76,7 +76,7 @@ fn start<'s, E, F: Floor + Sync, R: Threads + Wait + Clock + Log + Sync>(
     scope: &'s Scope<'s, E>,
     rt: &'s R,
     alloc: Global,
-    listener: &'s TcpListener,
+    entrances: &'s Entrances,
     floor: &'s F,
     keeping: &'s Keeping,
     door: &'s Door,
@@ -89,9 +89,26 @@ fn start<'s, E, F: Floor + Sync, R: Threads + Wait + Clock + Log + Sync>(
     };
     scope
         .spawn_with(promise, move || {
-            served(rt, alloc, listener, floor, keeping, door, service)
+            served(rt, alloc, entrances, floor, keeping, door, service)
         })
         .ok()
+}
+
+// The last line of the log.
+fn sum_up<R: Log>(rt: &R, taken: &Taken, door: &Door) {
+    let totals = door.totals();
+    info!(rt; "served {} connections, {} of them refused as busy; {} sessions joined; edits: {} done, {} overtaken; {} calls refused; {} reports",
+        taken.connections(), taken.refused(), totals.joined, totals.done, totals.overtaken, totals.refused, totals.reports);
+}
+
+// Closes the newest sheet with the seats of all its processes. Whether it could be closed; else the log says that one is lost.
+fn close<R: Wait + Log>(rt: &R, alloc: Global, sheet: OpenSheet, pool: &SeatPool) -> bool {
+    pool.give_back(rt);
+    let is_closed = sheet.close(alloc).is_ok();
+    if !is_closed {
+        error!(rt; "a process was lost");
+    }
+    is_closed
 }
 
 // Serves a sheet, while this thread keeps what its sessions have done.
@@ -103,34 +120,35 @@ fn serve_beside<
 >(
     rt: &R,
     alloc: Global,
-    listener: &TcpListener,
+    entrances: &Entrances,
     floor: &F,
     keeping: &Keeping,
     door: &Door,
     service: Service,
     store: &mut Store<S>,
-    household: &mut Household<'_>,
+    served_sheet: &mut ServedSheet<'_>,
     attendant: &mut T,
-) -> Result<StoredEnd, ServeError>
-    ensures served { IfOk result (λ end. IsServed service.sessions end.taken) }
+) -> Result<(Taken, Drained), ServeError>
+    ensures served { IfOk result (λ end. IsServed service.sessions end.0) }
     ensures lasting { IfErr result IsStoredLasting }
 {
     thread::scope(
         thread::scope_env(),
         rt,
-        |scope| -> Result<StoredEnd, ServeError>
-            ensures served { IfOk result (λ end. IsServed service.sessions end.taken) }
+        |scope| -> Result<(Taken, Drained), ServeError>
+            ensures served { IfOk result (λ end. IsServed service.sessions end.0) }
             ensures lasting { IfErr result IsStoredLasting }
         {
-            let Some(server) = start(scope, rt, alloc, listener, floor, keeping, door, service)
+            let Some(server) = start(scope, rt, alloc, entrances, floor, keeping, door, service)
             else {
                 return Err(ServeError::NoMemory);
             };
-            let kept = keep(rt, alloc, keeping, door, store, household, attendant);
+            let kept = keep(rt, alloc, keeping, door, store, served_sheet, attendant);
             let taken = server.join(rt)?;
-            sum_up(rt, &taken, door);
+            // Where the store has failed, more was done than was answered.
             let drained = kept.map_err(ServeError::Store)?;
-            Ok(StoredEnd { taken, drained })
+            sum_up(rt, &taken, door);
+            Ok((taken, drained))
         },
     )
 }
@@ -147,47 +165,47 @@ fn references(alloc: Global, sheet: &SeatedSheet, lines: &[String]) -> Option<Kn
     Some(references)
 }
 
-// The sheet of a store, where what acts for its processes lies, and what is known of its references.
+// The sheet of a store, the pool of its seats, and what is known of its references.
 #[derive(Drop)]
-struct Housed {
+struct OpenedSheet {
     sheet: OpenSheet,
-    places: Places,
+    pool: SeatPool,
     references: KnownReferences,
 }
 
 // So of the sheet that the store's edits have made. None where an allocation fails.
-fn put_up<S: Alter + Drop, R: Wait>(
+fn opened_with<S: Alter + Drop, R: Wait>(
     rt: &R,
     alloc: Global,
     store: &Store<S>,
     sheet: SeatedSheet,
     lines: &[String],
-) -> Option<Housed> {
+) -> Option<OpenedSheet> {
     let references = references(alloc, &sheet, lines)?;
-    let numberings = numberings(alloc, store, lines).ok()?;
     let (sheet, seats) = sheet.into_parts();
-    let all = placed_all(alloc, seats, store.joins(), &numberings, 0).ok()?;
-    let places = Places::new(rt, alloc, all).ok()?;
-    Some(Housed {
+    let seats = seats_of(alloc, store, lines, seats, 0).ok()?;
+    let pool = SeatPool::new(rt, alloc, seats).ok()?;
+    Some(OpenedSheet {
         sheet,
-        places,
+        pool,
         references,
     })
 }
 
-/// Serves the sheet of an open store, which its threads share, as `server::serve_floor` says, while the calling thread
-/// keeps in the store each edit that its sessions have done. Edits take turns; nothing else takes a lock. No answer leaves
+/// Serves the sheet of an open store, which its threads share, as `serve_floor` says, while the calling thread
+/// keeps in the store each edit that its sessions have done. A join has to have the token, if there is one. Edits take turns; nothing else takes a lock. No answer leaves
 /// before the edits are committed that it could tell of. Where a process has few edits left in the sheet, the server goes
 /// over to a new one, of which clients see nothing: numbers go on. The attendant has its turn between two commits, four times a
-/// second at least. An error is that of `server::serve_floor`, or that an allocation failed; or the store has failed, and
+/// second at least. An error is that of `serve_floor`, or that an allocation failed; or the store has failed, and
 /// the server was stopped: what was committed stands, and no answer has left after it. The store comes back.
 pub fn serve<S: Alter + Drop, T: Attendant, R: Threads + Wait + Clock + Log + Sync>(
     rt: &R,
     alloc: Global,
-    listener: &TcpListener,
+    entrances: &Entrances,
     opened: Opened<S>,
     door: &Door,
     service: Service,
+    token: Option<&[u8]>,
     attendant: &mut T,
 ) -> (Result<StoredEnd, ServeError>, Store<S>)
     ensures served { IfOk result.0 (λ end. IsServed service.sessions end.taken) }
@@ -199,34 +217,38 @@ pub fn serve<S: Alter + Drop, T: Attendant, R: Threads + Wait + Clock + Log + Sy
         lines,
     } = opened;
     let Some(
-        Housed {
+        OpenedSheet {
             sheet,
-            places,
+            pool,
             references,
         },
-    ) = put_up(rt, alloc, &store, sheet, &lines)
+    ) = opened_with(rt, alloc, &store, sheet, &lines)
     else {
         return (Err(ServeError::NoMemory), store);
     };
     drop(lines);
-    let mut household = Household::new(sheet, &places);
+    let mut served_sheet = ServedSheet::new(sheet, &pool);
     let keeping = Keeping::new(alloc);
-    let shared = SharedFloor::new(&references, &places, service.workers);
-    let floor = StoredFloor::new(&shared, &keeping);
+    let floor = StoredFloor::new(&references, &pool, service.workers, token, &keeping);
     let ended = serve_beside(
         rt,
         alloc,
-        listener,
+        entrances,
         &floor,
         &keeping,
         door,
         service,
         &mut store,
-        &mut household,
+        &mut served_sheet,
         attendant,
     );
-    if ended.is_ok() {
-        close(rt, alloc, household.into_sheet(), &places);
-    }
+    let ended = match ended {
+        Ok((taken, drained)) => Ok(StoredEnd {
+            taken,
+            drained,
+            is_closed: close(rt, alloc, served_sheet.into_sheet(), &pool),
+        }),
+        Err(error) => Err(error),
+    };
     (ended, store)
 }

@@ -1,19 +1,15 @@
 //! Standard input of a server: what asks it to stop.
 
-use ds_net::door::Door;
 use ds_net::keeper::Attendant;
+use ds_net_floor::door::Door;
 use mio::unix::SourceFd;
 use mio::{Events, Interest, Poll, Token};
 use std::io::BufRead;
 use std::net::Net;
-use std::sync::Wait;
 use std::time::Duration;
 
 // The line that asks the server to stop.
 const STOP: &[u8] = b"stop";
-
-// How long standard input is waited for before it is asked whether the server has ended, in milliseconds.
-const TICK: u64 = 250;
 
 // The descriptor of standard input.
 const INPUT: i32 = 0;
@@ -67,7 +63,7 @@ fn hears<B: BufRead>(reader: &mut B, heard: &mut Heard, door: &Door) -> bool {
     count > 0
 }
 
-/// Standard input, which is waited for.
+/// Standard input, which is asked whether it has something to read.
 #[derive(Drop)]
 pub struct Control {
     poll: Poll,
@@ -92,12 +88,12 @@ impl Control {
         })
     }
 
-    // Whether there is something to read, when it was waited for so long at most; none where the wait fails.
-    fn is_ready(&mut self, most: Duration) -> Option<bool> {
+    // Whether there is something to read now; none where the system does not say.
+    fn is_ready(&mut self) -> Option<bool> {
         if !self.waits {
             return Some(true);
         }
-        self.poll.poll(&mut self.events, Some(most)).ok()?;
+        self.poll.poll(&mut self.events, Some(Duration::ZERO)).ok()?;
         if self.events.iter().next().is_none() {
             return Some(false);
         }
@@ -106,26 +102,6 @@ impl Control {
             .reregister(&mut SourceFd(&INPUT), Token(0), Interest::READABLE)
             .ok()?;
         Some(true)
-    }
-}
-
-/// Reads standard input, and asks the door to stop at a line `stop`, until the input or the server ends.
-pub fn listen<R: Input + Wait>(rt: &R, mut control: Control, door: &Door) {
-    let mut reader = rt.reader();
-    let mut heard = Heard::Part(0);
-    for _ in rt.forever() {
-        if door.has_ended() {
-            return;
-        }
-        match control.is_ready(Duration::from_millis(TICK)) {
-            Some(true) => {
-                if !hears(&mut reader, &mut heard, door) {
-                    return;
-                }
-            }
-            Some(false) => {}
-            None => return,
-        }
     }
 }
 
@@ -155,7 +131,7 @@ impl<B: BufRead> Attendant for Listening<'_, B> {
         let Some(control) = &mut self.control else {
             return;
         };
-        let hears_on = match control.is_ready(Duration::ZERO) {
+        let hears_on = match control.is_ready() {
             Some(true) => hears(&mut self.reader, &mut self.heard, self.door),
             Some(false) => true,
             None => false,

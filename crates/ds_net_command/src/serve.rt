@@ -2,34 +2,44 @@
 
 ghost use Rattle.ds_cli.specs.Servings.{IsWithinLimits};
 
-use crate::control::{Control, Listening, listen};
+use crate::control::{Control, Listening};
 use crate::watching::Watching;
 use ds_batch::run::no_memory;
 use ds_batch::status::STREAM_FAILED;
+use ds_batch::token::{bytes_of, read_token};
 use ds_cli::serving::Serving;
 use ds_layout::layout::Layout;
-use ds_net::counts::Taken;
-use ds_net::door::Door;
-use ds_net::server::{self, ServeError, Service};
+use ds_net::keeper::Attendant;
 use ds_net::stored::{self, StoredEnd};
+use ds_net_connections::counts::Taken;
+use ds_net_connections::entrance::{Entrance, Entrances, Protocol};
+use ds_net_connections::serving::{ServeError, Service};
+use ds_net_floor::door::Door;
 use ds_store::open::Databases;
 use ds_store::store::{Opened, Store, open_or_make};
 use ds_store_commands::stores::{Disk, close, tell_fault};
-use log::{LevelFilter, Log, Logged};
+use log::{Log, Logged};
+use sqlite::{Alter, Connection, MemStore};
 use std::fs::Files;
+use std::hash::RandomState;
 use std::net::{Net, SocketAddr, TcpListener, TcpStream};
 use std::sync::Wait;
-use std::thread;
 use std::thread::Threads;
 use std::time::Clock;
 
+// What standard error calls the store of a server that was given no file.
+const IN_MEMORY: &str = "the store in memory";
+
 // Reports on standard error where the server listens: with its port, where the system has given it one.
-fn say_where(rt: &impl Eprint, listener: &TcpListener, asked: SocketAddr) {
-    let at = listener.local_addr().unwrap_or(asked);
-    let _reported = eprintln!(rt; "dsheet: listening on {at}");
+fn say_where(rt: &impl Eprint, entrance: &Entrance, asked: SocketAddr) {
+    let at = entrance.listener.local_addr().unwrap_or(asked);
+    let _reported = match entrance.protocol {
+        Protocol::Lines => eprintln!(rt; "dsheet: listening on {at}"),
+        Protocol::Http(_) => eprintln!(rt; "dsheet: HTTP on {at}"),
+    };
 }
 
-// What a server that ended so reports on standard error, and its status. The name is that of its store, if it has one.
+// What a server that ended so reports on standard error, and its status. The name is that of its store.
 fn ended(
     rt: &impl Eprint,
     listen: SocketAddr,
@@ -47,15 +57,17 @@ fn ended(
     }
 }
 
-// Where the server listens. An error is the status, when standard error has the reason.
+// Where the server listens for clients that speak so. An error is the status, when standard error has the reason.
 fn bound<R: Eprint + Net<Stream = TcpStream, Listener = TcpListener>>(
     rt: &R,
     listen: SocketAddr,
-) -> Result<TcpListener, u8> {
+    protocol: Protocol,
+) -> Result<Entrance, u8> {
     match TcpListener::bind(rt, listen) {
         Ok(listener) => {
-            say_where(rt, &listener, listen);
-            Ok(listener)
+            let entrance = Entrance { listener, protocol };
+            say_where(rt, &entrance, listen);
+            Ok(entrance)
         }
         Err(error) => {
             let _reported = eprintln!(rt; "dsheet: {listen}: {error}");
@@ -64,8 +76,39 @@ fn bound<R: Eprint + Net<Stream = TcpStream, Listener = TcpListener>>(
     }
 }
 
+// Where it listens for HTTP, if it does. An error is as above.
+fn bound_http<R: Eprint + Net<Stream = TcpStream, Listener = TcpListener>>(
+    rt: &R,
+    http: Option<SocketAddr>,
+    keys: RandomState,
+) -> Result<Option<Entrance>, u8> {
+    let Some(http) = http else {
+        return Ok(None);
+    };
+    match bound(rt, http, Protocol::Http(keys)) {
+        Ok(entrance) => Ok(Some(entrance)),
+        Err(status) => Err(status),
+    }
+}
+
+// Where it listens. An error is as above.
+fn entrances<R: Eprint + Net<Stream = TcpStream, Listener = TcpListener>>(
+    rt: &R,
+    serving: Serving<'_>,
+    keys: RandomState,
+) -> Result<Entrances, u8> {
+    let first = match bound(rt, serving.listen, Protocol::Lines) {
+        Ok(first) => first,
+        Err(status) => return Err(status),
+    };
+    match bound_http(rt, serving.http, keys) {
+        Ok(beside) => Ok(Entrances { first, beside }),
+        Err(status) => Err(status),
+    }
+}
+
 // What the server is to be beside its sheet.
-fn service_of(serving: Serving) -> Service {
+fn service_of(serving: Serving<'_>) -> Service {
     Service {
         workers: serving.workers,
         sessions: serving.sessions.unwrap_or(0) as u64,
@@ -74,23 +117,63 @@ fn service_of(serving: Serving) -> Service {
     }
 }
 
-// Serves a new sheet that its threads share, with a log up to this level.
-fn serve_new<R: AllocGlobal + Threads + Wait + Clock + Log + Sync>(
-    rt: &R,
-    listener: &TcpListener,
-    layout: Layout,
-    door: &Door,
-    service: Service,
-    level: LevelFilter,
-) -> Result<Taken, ServeError> {
-    let logged = Logged::new(rt, level, rt);
-    server::serve(&logged, rt.alloc(), listener, layout, door, service)
+// What the sheet of the server is to be.
+fn layout_of(serving: Serving<'_>) -> Layout
+    requires { IsWithinLimits serving }
+{
+    Layout {
+        shape: serving.shape,
+        processes: serving.processes,
+    }
 }
 
-/// Serves a new sheet, which the threads of its sessions share with no lock, until it is asked to stop, by a line
-/// `stop` on standard input, or as many sessions have joined a process as are asked for, and all sessions have ended;
-/// and gives the status: 0, or what an error says, which is reported on standard error. Once it listens it says so
-/// there.
+// Serves the sheet of an open store, which keeps the edits that are made.
+fn serve_opened<
+    S: Alter + Drop,
+    T: Attendant,
+    R: AllocGlobal + Threads + Wait + Clock + Log + Sync,
+>(
+    rt: &R,
+    entrances: &Entrances,
+    opened: Opened<S>,
+    door: &Door,
+    serving: Serving<'_>,
+    token: Option<&[u8]>,
+    attendant: &mut T,
+) -> (Result<StoredEnd, ServeError>, Store<S>) {
+    let logged = Logged::new(rt, serving.log, rt);
+    stored::serve(
+        &logged,
+        rt.alloc(),
+        entrances,
+        opened,
+        door,
+        service_of(serving),
+        token,
+        attendant,
+    )
+}
+
+// Makes the store of a new sheet in memory. An error is the status, when standard error has the reason.
+fn opened_in_memory<R: AllocGlobal + Eprint>(
+    rt: &R,
+    serving: Serving<'_>,
+) -> Result<Opened<MemStore>, u8>
+    requires { IsWithinLimits serving }
+{
+    let layout = layout_of(serving);
+    let Ok(conn) = Connection::open_in_memory(rt.alloc()) else {
+        return Err(no_memory(rt));
+    };
+    match Store::make(rt.alloc(), conn, layout) {
+        Ok(opened) => Ok(opened),
+        Err(fault) => Err(tell_fault(rt, IN_MEMORY, &fault)),
+    }
+}
+
+/// Serves a new sheet, whose store is in memory and goes with the server, until it is asked to stop, by a line `stop` on standard
+/// input, or as many sessions have joined a process as are asked for, and all sessions have ended; and gives the status: 0, or
+/// what an error says, which is reported on standard error. Once it listens it says so there.
 pub fn serve<
     R: AllocGlobal
         + Eprint
@@ -100,38 +183,39 @@ pub fn serve<
         + Clock
         + Log
         + Net<Stream = TcpStream, Listener = TcpListener>
+        + Files
         + Sync,
->(rt: &R, serving: Serving) -> u8
+>(rt: &R, serving: Serving<'_>, keys: RandomState) -> u8
     requires { IsWithinLimits serving }
 {
-    let listener = match bound(rt, serving.listen) {
-        Ok(listener) => listener,
+    let token = match read_token(rt, serving.token_file) {
+        Ok(token) => token,
         Err(status) => return status,
     };
-    let control = Control::new(rt);
-    let door = Door::new();
-    let layout = Layout {
-        shape: serving.shape,
-        processes: serving.processes,
+    let opened = match opened_in_memory(rt, serving) {
+        Ok(opened) => opened,
+        Err(status) => return status,
     };
-    let (service, level) = (service_of(serving), serving.log);
-    let (served, ()) = thread::join(
+    let entrances = match entrances(rt, serving, keys) {
+        Ok(entrances) => entrances,
+        Err(status) => return status,
+    };
+    let door = Door::new();
+    let mut listening = Listening::new(Control::new(rt), rt.reader(), &door);
+    let (served, _store) = serve_opened(
         rt,
-        || {
-            let served = serve_new(rt, &listener, layout, &door, service, level);
-            door.end();
-            served
-        },
-        || {
-            if let Some(control) = control {
-                listen(rt, control, &door);
-            }
-        },
+        &entrances,
+        opened,
+        &door,
+        serving,
+        bytes_of(&token),
+        &mut listening,
     );
-    ended(rt, serving.listen, "", &served)
+    let taken = served.map(|end| end.taken);
+    ended(rt, serving.listen, IN_MEMORY, &taken)
 }
 
-// How a server with a store has ended, with its store.
+// How a server whose store lies in a file has ended, with its store.
 #[derive(Drop)]
 struct KeptEnd {
     served: Result<StoredEnd, ServeError>,
@@ -152,20 +236,18 @@ fn serve_kept<
         + Net<Stream = TcpStream, Listener = TcpListener>
         + Files
         + Sync,
->(rt: &R, listener: &TcpListener, opened: Opened<Disk>, serving: Serving, path: &str) -> KeptEnd {
+>(
+    rt: &R,
+    entrances: &Entrances,
+    opened: Opened<Disk>,
+    serving: Serving<'_>,
+    token: Option<&[u8]>,
+    path: &str,
+) -> KeptEnd {
     let door = Door::new();
     let listening = Listening::new(Control::new(rt), rt.reader(), &door);
     let mut watching = Watching::new(listening, rt, path, &door);
-    let logged = Logged::new(rt, serving.log, rt);
-    let (served, store) = stored::serve(
-        &logged,
-        rt.alloc(),
-        listener,
-        opened,
-        &door,
-        service_of(serving),
-        &mut watching,
-    );
+    let (served, store) = serve_opened(rt, entrances, opened, &door, serving, token, &mut watching);
     KeptEnd {
         served,
         store,
@@ -176,15 +258,12 @@ fn serve_kept<
 // Opens the store at this path, or makes it. An error is the status, when standard error has the reason.
 fn opened<R: AllocGlobal + Eprint + Databases>(
     rt: &R,
-    serving: Serving,
+    serving: Serving<'_>,
     path: &str,
 ) -> Result<Opened<Disk>, u8>
     requires { IsWithinLimits serving }
 {
-    let layout = Layout {
-        shape: serving.shape,
-        processes: serving.processes,
-    };
+    let layout = layout_of(serving);
     let opened = match rt.open_database(path) {
         Ok(conn) => open_or_make(rt.alloc(), conn, layout),
         Err(fault) => Err(fault),
@@ -210,22 +289,26 @@ pub fn serve_store<
         + Databases
         + Files
         + Sync,
->(rt: &R, serving: Serving, path: &str) -> u8
+>(rt: &R, serving: Serving<'_>, path: &str, keys: RandomState) -> u8
     requires { IsWithinLimits serving }
 {
+    let token = match read_token(rt, serving.token_file) {
+        Ok(token) => token,
+        Err(status) => return status,
+    };
     let opened = match opened(rt, serving, path) {
         Ok(opened) => opened,
         Err(status) => return status,
     };
-    let listener = match bound(rt, serving.listen) {
-        Ok(listener) => listener,
+    let entrances = match entrances(rt, serving, keys) {
+        Ok(entrances) => entrances,
         Err(status) => return status,
     };
     let KeptEnd {
         served,
         store,
         is_lost,
-    } = serve_kept(rt, &listener, opened, serving, path);
+    } = serve_kept(rt, &entrances, opened, serving, bytes_of(&token), path);
     let taken = served.map(|end| end.taken);
     match ended(rt, serving.listen, path, &taken) {
         0 if is_lost => {

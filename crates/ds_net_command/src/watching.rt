@@ -1,8 +1,8 @@
 //! The file of a store, while it is served.
 
 use crate::control::Listening;
-use ds_net::door::Door;
 use ds_net::keeper::Attendant;
+use ds_net_floor::door::Door;
 use std::fs::{self, Files};
 use std::io::BufRead;
 use std::os::unix::fs::MetadataExt;

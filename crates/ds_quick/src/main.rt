@@ -5,8 +5,8 @@
 mod words;
 
 use crate::words::{Options, options_of};
-use ds_batch::report::report;
-use ds_batch::run::{no_memory, run, run_stops, stops_between};
+use ds_batch::report::{TableForm, report};
+use ds_batch::run::{RunForm, no_memory, run, run_stops, stops_between};
 use ds_batch::source::Source;
 use ds_grid::form::GridForm;
 use std::env;
@@ -29,24 +29,32 @@ fn carry_out<R: AllocGlobal + Input + Print + Eprint + Files<File = File>>(
         file,
         notation,
         labels: keeps_labels,
+        json,
+        strict,
         stops,
         from,
         to,
         ..
     } = options;
     let source = Source::of(file);
+    let form = RunForm { notation, strict };
     match command {
         "run" if stops => {
             let range = stops_between(from as u64, to as u64);
-            Some(run_stops(rt, source, range, notation, shows))
+            Some(run_stops(rt, source, range, form, shows))
         }
-        "run" => Some(run(rt, source, notation)),
+        "run" => Some(run(rt, source, form)),
         "report" => {
             let form = GridForm {
                 notation,
                 keeps_labels,
             };
-            Some(report(rt, source, form))
+            let table = if json {
+                TableForm::Json
+            } else {
+                TableForm::Csv
+            };
+            Some(report(rt, source, form, table))
         }
         _ => None,
     }

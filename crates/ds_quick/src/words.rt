@@ -13,6 +13,10 @@ pub struct Options<'a> {
     pub notation: Notation,
     /// `--labels`.
     pub labels: bool,
+    /// `--json`.
+    pub json: bool,
+    /// `--strict`.
+    pub strict: bool,
     /// `--stops`.
     pub stops: bool,
     /// The step that `--from` names, or the first one.
@@ -29,6 +33,8 @@ impl<'a> Options<'a> {
             named: false,
             notation: Notation::OpenFormula,
             labels: false,
+            json: false,
+            strict: false,
             stops: false,
             from: 1,
             to: 0,
@@ -52,6 +58,8 @@ impl<'a> Options<'a> {
         match name.as_str() {
             "--a1" => options.notation = Notation::A1,
             "--labels" => options.labels = true,
+            "--json" => options.json = true,
+            "--strict" => options.strict = true,
             "--stops" => options.stops = true,
             "--from" => {
                 options.from = after.first()?.parse().ok()?;

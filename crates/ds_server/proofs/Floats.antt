@@ -6,7 +6,7 @@ use Rattle.ds_formula.specs.declared.cells.Shape.{Shape}
 use Rattle.ds_eval.specs.declared.value.Value.{Value}
 use Rattle.ds_server.specs.declared.desk.CallRefusal.{CallRefusal}
 use Rattle.ds_server.specs.declared.desk.CallRefusal.TheVariants as refusal
-use Rattle.ds_server.specs.Replies.{Said, Joined, Done, Overtaken, Settled, Unsettled, Tells, Left, Refused, Faulted}
+use Rattle.ds_server.specs.Replies.{Said, Joined, JoinedLost, Done, Overtaken, Settled, Unsettled, Tells, Left, Refused, Faulted}
 use Rattle.ds_server.specs.SessionTexts.{value_data, row_data, rows_of, said_data, refusal_data}
 
 row_no_float : (values : List Value) → items_have_float (items_of (map value_data values)) ≡ false
@@ -28,6 +28,8 @@ refusal_no_float refusal.NoMemory = refl
 pub said_no_float : (shape : Shape) (said : Said) → has_float (said_data shape said) ≡ false
 said_no_float shape (Joined process None) = refl
 said_no_float shape (Joined process (Some told)) = refl
+said_no_float shape (JoinedLost process None) = refl
+said_no_float shape (JoinedLost process (Some told)) = refl
 said_no_float shape (Done n) = refl
 said_no_float shape (Overtaken n by) = refl
 said_no_float shape (Settled values) = rw (rows_no_float (rows_of shape.columns shape.rows values)) refl

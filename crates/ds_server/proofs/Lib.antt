@@ -5,3 +5,4 @@ pub mod RowLemmas
 pub mod Sessions
 pub mod Runs
 pub mod Worlds
+mod Tokens

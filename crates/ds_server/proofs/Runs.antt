@@ -36,7 +36,7 @@ does_runs old new call said h = record { events = (does_trace old new call said 
 
 obeys_leads : (old new : WorldValue) (joined : Option ℕ) (value : Data) (said : Said) (h : Obeys world_rules old joined value said new) → Leads old (obeys_trace old new joined value said h) new
 obeys_leads old new joined value said (refuses fault is) = refl
-obeys_leads old new joined value said (calls call s n is does) = does_leads old new call said does
+obeys_leads old new joined value said (calls call s n is does) = does_leads old new call s does
 
 answers_leads : (old new : WorldValue) (joined : Option ℕ) (line : List ℕ) (said : Said) (h : Answers world_rules old joined line said new) → Leads old (answers_trace old new joined line said h) new
 answers_leads old new joined line said (no_json is) = refl

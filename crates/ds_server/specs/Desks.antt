@@ -1,16 +1,17 @@
 -- What a desk says of itself.
-use Rattle.std.specs.Prelude.{ℕ, ◌≡◌, Option, Some, None, Result, Ok, Err}
+use Rattle.std.specs.Prelude.{ℕ, ◌≡◌, List, Option, Some, None, Result, Ok, Err}
 use Rattle.ds_formula.specs.declared.cells.Shape.{Shape}
 use Rattle.ds_state.specs.declared.recovery.LastEdit.{LastEdit}
 use Rattle.ds_server.specs.declared.desk.CallRefusal.{CallRefusal}
 use Rattle.ds_server.specs.DeskCalls.{Call, Leave}
-use Rattle.ds_server.specs.Replies.{Said, Joined, Left}
+use Rattle.ds_server.specs.Replies.{Said, Joined, JoinedLost, Left}
 
--- what a desk says of itself: the shape of its sheet; how many processes it has; that the session has this process;
--- that a call may be answered so and leave the desk so
+-- what a desk says of itself: the shape of its sheet; how many processes it has; the token that a join has to have, if any; that
+-- the session has this process; that a call may be answered so and leave the desk so
 pub record Rules (B : Type 0) : Type 1 where
   pub shape : B → Shape
   pub processes : B → ℕ
+  pub token : B → Option (List ℕ)
   pub sits : B → ℕ → Type 0
   pub does : B → Call → Said → B → Type 0
 
@@ -27,6 +28,7 @@ Seated rules (Some process) desk = rules.sits desk process
 -- the process that the session has joined, if any, once this is said
 abbrev pub joined_after : Option ℕ → Said → Option ℕ
 joined_after joined (Joined process last) = Some process
+joined_after joined (JoinedLost process last) = Some process
 joined_after joined said = joined
 
 -- the session gives back the process that it has joined, if any

@@ -9,7 +9,7 @@ use Rattle.ds_server.specs.declared.session.Hindrance.{Hindrance}
 use Rattle.ds_server.specs.declared.session.Hindrance.TheVariants as hindrances
 use Rattle.ds_server.specs.declared.session.SessionEnd.{SessionEnd}
 use Rattle.ds_server.specs.declared.session.SessionEnd.TheVariants as ends
-use Rattle.ds_server.specs.Replies.{Said, Joined, Done, Overtaken, Settled, Unsettled, Tells, Refused, Faulted}
+use Rattle.ds_server.specs.Replies.{Said, Joined, JoinedLost, Done, Overtaken, Settled, Unsettled, Tells, Refused, Faulted}
 use Rattle.ds_server.specs.Desks.{Rules, Seated, joined_after}
 use Rattle.ds_server.specs.SessionTexts.{said_text}
 use Rattle.ds_server.specs.Session.{Answers}
@@ -17,6 +17,7 @@ use Rattle.ds_server.specs.Session.{Answers}
 -- what a response says
 abbrev pub response_view : Response → Said
 response_view (response.Joined process last) = Joined process last
+response_view (response.JoinedLost process last) = JoinedLost process last
 response_view (response.Done number) = Done number
 response_view (response.Overtaken number by) = Overtaken number by
 response_view (response.Settled values) = Settled values.items

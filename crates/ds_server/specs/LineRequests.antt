@@ -1,5 +1,5 @@
 -- What a line asks for.
-use Rattle.std.specs.Prelude.{◌≡◌, ℕ, ◌<◌, nat_lt, List, codes, Option, Some, None, Result, Ok, Err, if◌then◌else◌}
+use Rattle.std.specs.Prelude.{◌≡◌, ℕ, ◌<◌, nat_lt, Bool, true, false, is_some, List, codes, Option, Some, None, Result, Ok, Err, if◌then◌else◌}
 use Rattle.std.specs.Str.{bytes_eq, IsUtf8}
 use Rattle.serde_json.specs.Data.{Data}
 use Rattle.serde_json.specs.Read.{read}
@@ -49,9 +49,24 @@ verb_named word =
 abbrev pub join_by : ℕ → ℕ → Option Call
 join_by processes process = if nat_lt process processes then Some (Join process) else None
 
--- the join that the fields ask for
+-- a field that may be left out is a number where it is there
+abbrev pub is_number : Option Data → Bool
+is_number None = true
+is_number (Some field) = is_some (as_number field >>= as_u64)
+
+-- the join that the fields ask for; the number of the last edit of which the client was answered that it is done may be left out
 abbrev pub join_in : ℕ → Data → Option Call
-join_in processes value = number_field (codes "process") value >>= join_by processes
+join_in processes value = if is_number (get (codes "told") value) then number_field (codes "process") value >>= join_by processes else None
+
+-- whether a word, if there is one, is the token
+abbrev pub is_token : List ℕ → Option (List ℕ) → Bool
+is_token token None = false
+is_token token (Some word) = bytes_eq word token
+
+-- whether a join has the token that it has to have, if any
+abbrev pub admits : Option (List ℕ) → Data → Bool
+admits None value = true
+admits (Some token) value = is_token token (text_field (codes "token") value)
 
 -- the edit by the process that the fields ask for: a cell of the sheet, and a text
 abbrev pub set_in : Shape → ℕ → Data → Option Call
@@ -62,30 +77,34 @@ abbrev pub or_bad_field : Option Call → Result Call LineFault
 or_bad_field None = Err fault.BadField
 or_bad_field (Some call) = Ok call
 
+-- the join that the fields ask for, where they have the token
+abbrev pub join_with : ℕ → Option (List ℕ) → Data → Result Call LineFault
+join_with processes token value = if admits token value then or_bad_field (join_in processes value) else Err fault.Denied
+
 -- the call of the verb and the fields, by the process that the session has joined, if any: a join where it has none,
 -- else one of that process
-abbrev pub call_by : Shape → ℕ → Option ℕ → Operation → Data → Result Call LineFault
-call_by shape processes None verb.Join value = or_bad_field (join_in processes value)
-call_by shape processes (Some process) verb.Join value = Err fault.AlreadyJoined
-call_by shape processes None verb value = Err fault.NotJoined
-call_by shape processes (Some process) verb.Set value = or_bad_field (set_in shape process value)
-call_by shape processes (Some process) verb.Report value = Ok (Report process)
-call_by shape processes (Some process) verb.Last value = Ok (Last process)
+abbrev pub call_by : Shape → ℕ → Option (List ℕ) → Option ℕ → Operation → Data → Result Call LineFault
+call_by shape processes token None verb.Join value = join_with processes token value
+call_by shape processes token (Some process) verb.Join value = Err fault.AlreadyJoined
+call_by shape processes token None verb value = Err fault.NotJoined
+call_by shape processes token (Some process) verb.Set value = or_bad_field (set_in shape process value)
+call_by shape processes token (Some process) verb.Report value = Ok (Report process)
+call_by shape processes token (Some process) verb.Last value = Ok (Last process)
 
 -- the call, where the word after `op` names a verb
-abbrev pub call_with : Shape → ℕ → Option ℕ → Data → Option Operation → Result Call LineFault
-call_with shape processes joined value None = Err fault.UnknownOp
-call_with shape processes joined value (Some verb) = call_by shape processes joined verb value
+abbrev pub call_with : Shape → ℕ → Option (List ℕ) → Option ℕ → Data → Option Operation → Result Call LineFault
+call_with shape processes token joined value None = Err fault.UnknownOp
+call_with shape processes token joined value (Some verb) = call_by shape processes token joined verb value
 
 -- the call, where the field `op` is a text
-abbrev pub call_op : Shape → ℕ → Option ℕ → Data → Option (List ℕ) → Result Call LineFault
-call_op shape processes joined value None = Err fault.BadField
-call_op shape processes joined value (Some op) = call_with shape processes joined value (verb_named op)
+abbrev pub call_op : Shape → ℕ → Option (List ℕ) → Option ℕ → Data → Option (List ℕ) → Result Call LineFault
+call_op shape processes token joined value None = Err fault.BadField
+call_op shape processes token joined value (Some op) = call_with shape processes token joined value (verb_named op)
 
 -- the call that a value asks for, or the first fault: no text after `op`, an unknown one, not joined or already
--- joined, a bad field
-abbrev pub call_of : Shape → ℕ → Option ℕ → Data → Result Call LineFault
-call_of shape processes joined value = call_op shape processes joined value (text_field (codes "op") value)
+-- joined, a join without the token, a bad field
+abbrev pub call_of : Shape → ℕ → Option (List ℕ) → Option ℕ → Data → Result Call LineFault
+call_of shape processes token joined value = call_op shape processes token joined value (text_field (codes "op") value)
 
 -- the call is one that a session may make which has joined this process, if any: a join of a process of the desk, or
 -- a call of its own process, of a cell of the sheet

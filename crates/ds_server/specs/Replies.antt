@@ -1,5 +1,5 @@
 -- What is said to a line.
-use Rattle.std.specs.Prelude.{ℕ, List, Option, Result, Ok, Err}
+use Rattle.std.specs.Prelude.{ℕ, Bool, true, nat_lt, if◌then◌else◌, List, Option, Some, None, Result, Ok, Err}
 use Rattle.ds_eval.specs.declared.value.Value.{Value}
 use Rattle.ds_layout.specs.declared.place.Place.{Place}
 use Rattle.ds_state.specs.declared.answer.EditEnd.{EditEnd}
@@ -11,9 +11,11 @@ use Rattle.ds_server.specs.declared.desk.Reported.{Reported}
 use Rattle.ds_server.specs.declared.desk.Reported.TheVariants as report
 use Rattle.ds_server.specs.declared.request.LineFault.{LineFault}
 
--- what a desk answers to a call; and `Faulted`, what a session says to a line that asks for no call
+-- what a desk answers to a call; and what a session says of itself: `JoinedLost`, to a join whose client was answered a later
+-- edit than the desk has, and `Faulted`, to a line that asks for no call
 pub data Said : Type 0 where
   Joined : ℕ → Option LastEdit → Said
+  JoinedLost : ℕ → Option LastEdit → Said
   Done : ℕ → Said
   Overtaken : ℕ → Other → Said
   Settled : List Value → Said
@@ -22,6 +24,17 @@ pub data Said : Type 0 where
   Left : Said
   Refused : CallRefusal → Said
   Faulted : LineFault → Said
+
+-- the desk has lost an edit: the client was answered that the one of this number is done, and the last one that its process is
+-- known to have announced is none, or an earlier one
+abbrev pub has_lost : ℕ → Option LastEdit → Bool
+has_lost done None = true
+has_lost done (Some last) = nat_lt last.number done
+
+-- what is said to a client that was answered that its edit of this number is done, if it says so, where the desk answers this
+abbrev pub said_to : Option ℕ → Said → Said
+said_to (Some done) (Joined process last) = if has_lost done last then JoinedLost process last else Joined process last
+said_to _ said = said
 
 -- what is said to a join of the process
 abbrev pub joined_view : ℕ → Result (Option LastEdit) CallRefusal → Said

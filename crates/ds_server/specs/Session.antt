@@ -1,6 +1,6 @@
 -- A session: its lines in order, the desk after each, and what is said to them. Over any desk: what a call does and
 -- is answered is what the desk says of itself.
-use Rattle.std.specs.Prelude.{◌≡◌, ◌⊎◌, ℕ, ◌+◌, ◌<◌, ◌≤◌, List, [], ◌++◌, ◌∷◌, length, Option, None, Ok, Err}
+use Rattle.std.specs.Prelude.{◌≡◌, ◌⊎◌, ℕ, ◌+◌, ◌<◌, ◌≤◌, List, [], ◌++◌, ◌∷◌, length, codes, Option, None, Ok, Err}
 use Rattle.serde_json.specs.Data.{Data}
 use Rattle.ds_server.specs.declared.request.LineFault.{LineFault}
 use Rattle.ds_server.specs.declared.request.LineFault.TheVariants.{LineTooLong, NoMemory, NotJson}
@@ -8,18 +8,18 @@ use Rattle.ds_server.specs.declared.session.SessionEnd.{SessionEnd}
 use Rattle.ds_server.specs.declared.session.SessionEnd.TheVariants as ends
 use Rattle.ds_server.specs.SessionLines.{HasNoFeed, IsLine}
 use Rattle.ds_server.specs.DeskCalls.{Call}
-use Rattle.ds_server.specs.Replies.{Said, Faulted}
+use Rattle.ds_server.specs.Replies.{Said, Faulted, said_to}
 use Rattle.ds_server.specs.Desks.{Rules, Leaves, joined_after}
-use Rattle.ds_server.specs.LineRequests.{IsJson, IsNoJson, call_of}
+use Rattle.ds_server.specs.LineRequests.{IsJson, IsNoJson, call_of, number_field}
 use Rattle.ds_server.specs.SessionTexts.{said_text}
 
 -- ---- one line
 
 -- what is said to the value of a line, and the desk before and after it: a fault, which leaves the desk as it is;
--- or the answer to the call that the value asks for
+-- or the answer to the call that the value asks for, and to a join also whether an edit was lost
 pub data Obeys {B : Type 0} (rules : Rules B) (old : B) (joined : Option ℕ) (value : Data) : Said → B → Type 0 where
-  refuses : (fault : LineFault) → call_of (rules.shape old) (rules.processes old) joined value ≡ Err fault → Obeys rules old joined value (Faulted fault) old
-  calls : (call : Call) (said : Said) (new : B) → call_of (rules.shape old) (rules.processes old) joined value ≡ Ok call → rules.does old call said new → Obeys rules old joined value said new
+  refuses : (fault : LineFault) → call_of (rules.shape old) (rules.processes old) (rules.token old) joined value ≡ Err fault → Obeys rules old joined value (Faulted fault) old
+  calls : (call : Call) (said : Said) (new : B) → call_of (rules.shape old) (rules.processes old) (rules.token old) joined value ≡ Ok call → rules.does old call said new → Obeys rules old joined value (said_to (number_field (codes "told") value) said) new
 
 -- what is said to a line: that it is no JSON, just where it is none; or what is said to its value; or, with the desk
 -- as it is, that memory was wanted to read it

@@ -1,6 +1,6 @@
 -- The line that each answer is written as: compact JSON, whose keys are in byte order (our own protocol).
 use Rattle.std.specs.Prelude.{ℕ, zero, suc, Bool, true, false, List, [], ◌∷◌, ◌++◌, take, drop, map, codes, Option, Some, None}
-use Rattle.serde_json.specs.Data.{Data, null, number, unsigned, string, array, object, no_members, member}
+use Rattle.serde_json.specs.Data.{Data, null, boolean, number, unsigned, string, array, object, no_members, member}
 use Rattle.serde_json.specs.View.{items_of}
 use Rattle.serde_json.specs.Written.{compact_text}
 use Rattle.std.specs.Fmt.{decimal}
@@ -18,7 +18,7 @@ use Rattle.ds_server.specs.declared.desk.CallRefusal.{CallRefusal}
 use Rattle.ds_server.specs.declared.desk.CallRefusal.TheVariants as refusal
 use Rattle.ds_server.specs.declared.request.LineFault.{LineFault}
 use Rattle.ds_server.specs.declared.request.LineFault.TheVariants as fault
-use Rattle.ds_server.specs.Replies.{Said, Joined, Done, Overtaken, Settled, Unsettled, Tells, Left, Refused, Faulted}
+use Rattle.ds_server.specs.Replies.{Said, Joined, JoinedLost, Done, Overtaken, Settled, Unsettled, Tells, Left, Refused, Faulted}
 
 -- ---- codes and names
 
@@ -31,6 +31,7 @@ code_of_fault fault.LineTooLong = 5
 code_of_fault fault.NotJoined = 6
 code_of_fault fault.AlreadyJoined = 7
 code_of_fault fault.NoMemory = 15
+code_of_fault fault.Denied = 20
 
 -- the name of a fault of a line
 abbrev pub name_of_fault : LineFault → List ℕ
@@ -41,6 +42,7 @@ name_of_fault fault.LineTooLong = codes "line-too-long"
 name_of_fault fault.NotJoined = codes "not-joined"
 name_of_fault fault.AlreadyJoined = codes "already-joined"
 name_of_fault fault.NoMemory = codes "no-memory"
+name_of_fault fault.Denied = codes "denied"
 
 -- ---- parts of answers
 
@@ -99,6 +101,10 @@ place_text shape other = []
 abbrev pub joined_data : Shape → ℕ → Option LastEdit → Data
 joined_data shape process last = object (member (codes "last") (last_data shape last) (member (codes "ok") (text_data (codes "join")) (member (codes "process") (number_data process) no_members)))
 
+-- the same, where an edit was lost of which the client was answered that it is done: {"last":null,"lost":true,"ok":"join","process":0}
+abbrev pub joined_lost_data : Shape → ℕ → Option LastEdit → Data
+joined_lost_data shape process last = object (member (codes "last") (last_data shape last) (member (codes "lost") (boolean true) (member (codes "ok") (text_data (codes "join")) (member (codes "process") (number_data process) no_members))))
+
 -- the answer of a linearized edit: {"number":0,"ok":"done"}
 abbrev pub done_data : ℕ → Data
 done_data n = object (member (codes "number") (number_data n) (member (codes "ok") (text_data (codes "done")) no_members))
@@ -138,6 +144,7 @@ refusal_data refusal.NoMemory = error_data 15 (codes "no-memory")
 -- what is said, as JSON; that a process is given back is said to nobody
 abbrev pub said_data : Shape → Said → Data
 said_data shape (Joined process last) = joined_data shape process last
+said_data shape (JoinedLost process last) = joined_lost_data shape process last
 said_data shape (Done n) = done_data n
 said_data shape (Overtaken n by) = overtaken_data n by
 said_data shape (Settled values) = settled_data shape values

@@ -29,7 +29,7 @@ does_trace old new call said (leaves p free) = no_trace
 -- of the value of a line
 abbrev pub obeys_trace : (old new : WorldValue) (joined : Option ℕ) (value : Data) (said : Said) → Obeys world_rules old joined value said new → Trace
 obeys_trace old new joined value said (refuses fault is) = no_trace
-obeys_trace old new joined value said (calls call s n is does) = does_trace old new call said does
+obeys_trace old new joined value said (calls call s n is does) = does_trace old new call s does
 
 -- of a line
 abbrev pub answers_trace : (old new : WorldValue) (joined : Option ℕ) (line : List ℕ) (said : Said) → Answers world_rules old joined line said new → Trace

@@ -94,6 +94,7 @@ abbrev pub world_rules : Rules WorldValue
 world_rules = record {
   shape = λ w. w.sheet.layout.shape;
   processes = λ w. w.sheet.layout.processes;
+  token = λ w. None;
   sits = IsSeated;
   does = Does;
 }

@@ -5,7 +5,7 @@ ghost use Rattle.serde_json.specs.View.{view};
 ghost use Rattle.serde_json.specs.Written.{compact_text};
 ghost use Rattle.ds_formula.specs.Cells.{cell_at};
 ghost use Rattle.ds_formula.specs.Names.{cell_text};
-ghost use Rattle.ds_server.specs.SessionTexts.{code_of_fault, name_of_fault, outcome_text, edit_data, last_data, other_data, row_data, rows_data, place_text, joined_data, done_data, overtaken_data, settled_data, unsettled_data, tells_data, error_data, text_fault_data, refusal_data, said_data, said_text};
+ghost use Rattle.ds_server.specs.SessionTexts.{code_of_fault, name_of_fault, outcome_text, edit_data, last_data, other_data, row_data, rows_data, place_text, joined_data, joined_lost_data, done_data, overtaken_data, settled_data, unsettled_data, tells_data, error_data, text_fault_data, refusal_data, said_data, said_text};
 ghost use Rattle.ds_server.specs.LineAnswers.{response_view};
 
 use crate::desk::CallRefusal;
@@ -25,6 +25,8 @@ use std::alloc::{AllocError, Global};
 pub enum Response {
     /// The process is the session's; its last edit that was announced, if any.
     Joined(usize, Option<LastEdit>),
+    /// The same; but the client was answered that a later edit of the process is done, which the desk has not: it has lost it.
+    JoinedLost(usize, Option<LastEdit>),
     /// The edit of this number is linearized.
     Done(usize),
     /// The edit of this number is not linearized: the other edit stood in its place.
@@ -53,6 +55,7 @@ impl LineFault {
             LineFault::NotJoined => 6,
             LineFault::AlreadyJoined => 7,
             LineFault::NoMemory => 15,
+            LineFault::Denied => 20,
         }
     }
 
@@ -67,6 +70,7 @@ impl LineFault {
             LineFault::NotJoined => "not-joined",
             LineFault::AlreadyJoined => "already-joined",
             LineFault::NoMemory => "no-memory",
+            LineFault::Denied => "denied",
         }
     }
 }
@@ -156,6 +160,18 @@ fn joined_value(
     json!(in alloc; {"last": last, "ok": "join", "process": (process as u64)})
 }
 
+fn joined_lost_value(
+    alloc: Global,
+    shape: &Shape,
+    process: usize,
+    last: Option<LastEdit>,
+) -> Result<Json, AllocError>
+    ensures { IfOk result (λ v. view v ≡ joined_lost_data shape.now process last) }
+{
+    let last = last_value(alloc, shape, last)?;
+    json!(in alloc; {"last": last, "lost": true, "ok": "join", "process": (process as u64)})
+}
+
 fn done_value(alloc: Global, number: usize) -> Result<Json, AllocError>
     ensures { IfOk result (λ v. view v ≡ done_data number) }
 {
@@ -224,6 +240,7 @@ fn response_value(alloc: Global, shape: &Shape, response: &Response) -> Result<J
 {
     match response {
         Response::Joined(process, last) => joined_value(alloc, shape, *process, *last),
+        Response::JoinedLost(process, last) => joined_lost_value(alloc, shape, *process, *last),
         Response::Done(number) => done_value(alloc, *number),
         Response::Overtaken(number, by) => overtaken_value(alloc, *number, *by),
         Response::Settled(values) => settled_value(alloc, shape, values),

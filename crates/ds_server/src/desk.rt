@@ -1,6 +1,6 @@
 //! What sessions act on.
 
-ghost use Rattle.std.specs.Prelude.{◌≡◌, ◌<◌};
+ghost use Rattle.std.specs.Prelude.{◌≡◌, ◌<◌, option_map};
 ghost use Rattle.ds_formula.specs.Cells.{IsInside};
 ghost use Rattle.ds_server.specs.DeskCalls.{Join, Set, Report, Last, Leave};
 ghost use Rattle.ds_server.specs.Replies.{Left, joined_view, set_view, report_view, last_view};
@@ -45,7 +45,7 @@ pub enum Reported {
 pub trait Desk {
     ghost use Rattle.ds_server.specs.Desks.{Rules};
 
-    /// What the desk says of itself: its shape, its processes, which process the session has, and
+    /// What the desk says of itself: its shape, its processes, its token, which process the session has, and
     /// what each call may do and answer.
     ghost rules: { Rules Self };
 
@@ -56,6 +56,10 @@ pub trait Desk {
     /// How many processes it has.
     fn processes(&self) -> usize
         ensures { result ≡ rules.processes self.now };
+
+    /// The token that a join has to have, if any.
+    fn token(&self) -> Option<&[u8]>
+        ensures { option_map (λ t. t.now) result ≡ rules.token self.now };
 
     /// The session takes a process, whose recovery reports its last edit that was announced, if any.
     /// What the desk is after an error, its rules say.

@@ -1,8 +1,10 @@
 //! Reads what a line asks for.
 
-ghost use Rattle.std.specs.Prelude.{◌≡◌, option_map, IfOk, IfSome};
+ghost use Rattle.std.specs.Prelude.{◌≡◌, option_map, IfOk, IfSome, codes};
+ghost use Rattle.std.specs.Str.{bytes_eq};
+ghost use Rattle.serde_json.specs.Find.{get};
 ghost use Rattle.serde_json.specs.View.{view};
-ghost use Rattle.ds_server.specs.LineRequests.{verb_named, text_field, number_field, join_in, set_in, call_of, IsCallOf};
+ghost use Rattle.ds_server.specs.LineRequests.{verb_named, text_field, number_field, is_number, admits, join_in, join_with, set_in, call_of, IsCallOf};
 ghost use Rattle.ds_server.specs.Asked.{ReadsJson, request_view, option_view, result_view};
 ghost use Rattle.std.specs.Prelude.{None, Some};
 
@@ -27,6 +29,8 @@ pub enum LineFault {
     AlreadyJoined,
     /// An allocation failed while the line was read. Code 15.
     NoMemory,
+    /// A join without the desk's token. Code 20.
+    Denied,
 }
 
 /// What the field `op` names.
@@ -90,11 +94,58 @@ fn number_of(value: &Value, key: &str) -> Option<u64>
     value.get(key).and_then(Value::as_u64)
 }
 
+// Whether a word is the token. All of it is looked at, so that the time does not tell how much of it is right.
+fn is_token(word: &[u8], token: &[u8]) -> bool
+    ensures { result ≡ bytes_eq word.now token.now }
+{
+    if word.len() != token.len() {
+        return false;
+    }
+    let mut same = true;
+    for at in 0..token.len() {
+        same &= word[at] == token[at];
+    }
+    same
+}
+
+// Whether a join has the token that it has to have, if any.
+fn admits(token: Option<&[u8]>, value: &Value) -> bool
+    ensures { result ≡ admits (option_map (λ t. t.now) token.entry) (view value.now) }
+{
+    let Some(token) = token else {
+        return true;
+    };
+    match text_of(value, "token") {
+        Some(word) => is_token(word.as_bytes(), token),
+        None => false,
+    }
+}
+
+// Whether the field with this key, which may be left out, is a number where it is there.
+fn is_number(value: &Value, key: &str) -> bool
+    ensures { result ≡ is_number (get key.now (view value.now)) }
+{
+    match value.get(key) {
+        Some(field) => field.as_u64().is_some(),
+        None => true,
+    }
+}
+
+/// The number of the last edit of which the client of a join was answered that it is done, if the value says so.
+pub fn done_of(value: &Value) -> Option<u64>
+    ensures { result ≡ number_field (codes "told") (view value.now) }
+{
+    number_of(value, "told")
+}
+
 // The join of a process, where the desk has it.
 fn join_request<'a>(value: &Value, shape: &Shape, processes: usize) -> Option<Request<'a>>
     ensures value { option_view result ≡ join_in processes (view value.now) }
     ensures fits { IfSome result (λ r. IsCallOf shape.now processes None (request_view r)) }
 {
+    if !is_number(value, "told") {
+        return None;
+    }
     let process = number_of(value, "process")?;
     if process < processes as u64 {
         Some(Request::Join(process as usize))
@@ -118,14 +169,33 @@ fn set_request<'a>(
     Some(Request::Set(process, cell, text.as_bytes()))
 }
 
-/// What the value asks for, by the process that the session has joined, if any; or its first fault.
+// A join: the process, where the value has the token that it has to have, if any.
+fn join_with<'a>(
+    value: &Value,
+    shape: &Shape,
+    processes: usize,
+    token: Option<&[u8]>,
+) -> Result<Request<'a>, LineFault>
+    ensures value { result_view result ≡ join_with processes (option_map (λ t. t.now) token.entry) (view value.now) }
+    ensures fits { IfOk result (λ r. IsCallOf shape.now processes None (request_view r)) }
+{
+    if admits(token, value) {
+        join_request(value, shape, processes).ok_or(LineFault::BadField)
+    } else {
+        Err(LineFault::Denied)
+    }
+}
+
+/// What the value asks for, by the process that the session has joined, if any; or its first fault. A join has to have
+/// this token, if there is one.
 pub fn read_request<'a>(
     value: &'a Value,
     shape: &Shape,
     processes: usize,
+    token: Option<&[u8]>,
     joined: Option<usize>,
 ) -> Result<Request<'a>, LineFault>
-    ensures value { result_view result ≡ call_of shape.now processes joined (view value.now) }
+    ensures value { result_view result ≡ call_of shape.now processes (option_map (λ t. t.now) token.entry) joined (view value.now) }
     ensures fits { IfOk result (λ r. IsCallOf shape.now processes joined (request_view r)) }
 {
     let Some(op) = text_of(value, "op") else {
@@ -133,9 +203,7 @@ pub fn read_request<'a>(
     };
     match (verb_named(op), joined) {
         (None, _) => Err(LineFault::UnknownOp),
-        (Some(Operation::Join), None) => join_request(value, shape, processes).ok_or(
-            LineFault::BadField,
-        ),
+        (Some(Operation::Join), None) => join_with(value, shape, processes, token),
         (Some(Operation::Join), Some(_)) => Err(LineFault::AlreadyJoined),
         (Some(_), None) => Err(LineFault::NotJoined),
         (Some(Operation::Set), Some(process)) => {

@@ -7,6 +7,7 @@ ghost use Rattle.ds_formula.specs.Cells.{IsInside};
 ghost use Rattle.ds_script_io.specs.Streams.{reader_of, writer_of, is_flushed, bytes_given, has_ended, read_failed, write_failed};
 ghost use Rattle.ds_server.specs.SessionLimits.{SESSION_LINE_MOST, SESSION_MOST};
 ghost use Rattle.ds_server.specs.DeskCalls.{Join, Set, Report, Last};
+ghost use Rattle.ds_server.specs.Replies.{has_lost, said_to};
 ghost use Rattle.ds_server.specs.Desks.{Seated, Leaves, joined_after};
 ghost use Rattle.ds_server.specs.LineRequests.{IsCallOf};
 ghost use Rattle.ds_server.specs.Asked.{request_view};
@@ -17,10 +18,11 @@ ghost use Rattle.ds_server.specs.declared.session.TheConstants as constants;
 use crate::answer::{Response, response_line};
 use crate::desk::{Desk, Reported};
 use crate::line::{LineEnd, read_line};
-use crate::request::{LineFault, Request, read_json, read_request};
+use crate::request::{LineFault, Request, done_of, read_json, read_request};
 use ds_formula::cells::{Cell, Shape};
 use ds_script_io::streams::{Reading, Writing};
 use ds_state::answer::EditEnd;
+use ds_state::recovery::LastEdit;
 use serde_json::Value;
 use std::alloc::Global;
 use std::fmt;
@@ -136,6 +138,33 @@ fn carry_out<B: Desk>(
     }
 }
 
+// Whether the desk has lost an edit: the client was answered that the one of this number is done, and the last one that its
+// process is known to have announced is none, or an earlier one.
+fn has_lost(done: u64, last: Option<LastEdit>) -> bool
+    ensures { result ≡ has_lost done last }
+{
+    match last {
+        Some(edit) => (edit.number as u64) < done,
+        None => true,
+    }
+}
+
+// What is said to a client that was answered that its edit of this number is done, if it says so.
+fn said_to(done: Option<u64>, response: Response) -> Response
+    ensures { response_view result ≡ said_to done (response_view response) }
+{
+    match (done, response) {
+        (Some(done), Response::Joined(process, last)) => {
+            if has_lost(done, last) {
+                Response::JoinedLost(process, last)
+            } else {
+                Response::Joined(process, last)
+            }
+        }
+        (_, response) => response,
+    }
+}
+
 // Answers the value of a line.
 fn obey_value<B: Desk>(
     alloc: Global,
@@ -149,8 +178,12 @@ fn obey_value<B: Desk>(
 {
     let shape = desk.shape();
     let processes = desk.processes();
-    match read_request(value, &shape, processes, joined) {
-        Ok(request) => carry_out(alloc, desk, joined, request),
+    let token = desk.token();
+    match read_request(value, &shape, processes, token, joined) {
+        Ok(request) => {
+            let response = carry_out(alloc, desk, joined, request);
+            said_to(done_of(value), response)
+        }
         Err(fault) => Response::Faulted(fault),
     }
 }
@@ -172,7 +205,7 @@ fn joined_with(joined: Option<usize>, response: &Response) -> Option<usize>
     ensures { result ≡ joined_after joined (response_view response.now) }
 {
     match response {
-        Response::Joined(process, _) => Some(*process),
+        Response::Joined(process, _) | Response::JoinedLost(process, _) => Some(*process),
         Response::Done(_) | Response::Overtaken(_, _) => joined,
         Response::Settled(_) | Response::Unsettled(_, _) | Response::Tells(_) => joined,
         Response::Refused(_) | Response::Faulted(_) => joined,

@@ -130,6 +130,10 @@ impl Desk for World {
         self.words.layout().processes
     }
 
+    fn token(&self) -> Option<&[u8]> {
+        None
+    }
+
     fn join(&mut self, alloc: Global, process: usize) -> Result<Option<LastEdit>, CallRefusal> {
         recovered(alloc, self, process)
     }

@@ -7,7 +7,7 @@ use Rattle.ds_store_journal.specs.declared.standing.Standing.{Standing}
 use Rattle.ds_store_journal.specs.Joining.{joins_of}
 use Rattle.ds_store_journal.specs.Journals.{KeptEdit}
 use Rattle.ds_store_journal.specs.Standings.{none_made, standing_after, standing_from, standing_of}
-use Rattle.ds_store.specs.Renewals.{GoesOver}
+use Rattle.ds_store.specs.GoingOver.{GoesOver}
 use Rattle.ds_store.specs.Texts.{text_after, text_at}
 
 more_lines : (layout : Layout) (process : ℕ) (s : Standing) (lines more : List (List ℕ)) → standing_from layout process s (lines ++ more) ≡ standing_from layout process (standing_from layout process s lines) more

@@ -2,4 +2,4 @@ pub mod Stores
 pub mod Opened
 pub mod Sound
 pub mod Texts
-pub mod Renewals
+pub mod GoingOver

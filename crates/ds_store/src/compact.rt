@@ -6,10 +6,10 @@ ghost use Rattle.sqlite.specs.Held.{state};
 ghost use Rattle.sqlite.specs.State.{HasCleanDisk};
 ghost use Rattle.ds_store_table.specs.Tables.{Holds, IsBare};
 ghost use Rattle.ds_store.specs.Opened.{Leads};
-ghost use Rattle.ds_store.specs.Renewals.{GoesOver};
+ghost use Rattle.ds_store.specs.GoingOver.{GoesOver};
 
 use crate::fault::StoreFault;
-use crate::renewal::next_lines;
+use crate::going_over::next_lines;
 use crate::store::{Opened, Store};
 use sqlite::{Alter, Connection};
 use std::alloc::Global;

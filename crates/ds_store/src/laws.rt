@@ -5,7 +5,7 @@ ghost use Rattle.ds_formula.specs.Cells.{count_of as cells_in};
 ghost use Rattle.ds_store_journal.specs.Joining.{joins_of};
 ghost use Rattle.ds_store_journal.specs.Journals.{KeptEdit};
 ghost use Rattle.ds_store_journal.specs.Standings.{standing_from, standing_of};
-ghost use Rattle.ds_store.specs.Renewals.{GoesOver};
+ghost use Rattle.ds_store.specs.GoingOver.{GoesOver};
 ghost use Rattle.ds_store.specs.Texts.{text_after, text_at};
 
 /// After a store has gone over to a new sheet, whatever lines follow: each process that may be joined stands as if these

@@ -10,12 +10,12 @@ ghost use Rattle.ds_store_journal.specs.Journals.{KeptEdit, edits_by, size_of};
 ghost use Rattle.ds_store_sums.specs.Taken.{IsAt};
 ghost use Rattle.ds_store_table.specs.Tables.{Holds, IsBare};
 ghost use Rattle.ds_store.specs.Opened.{Leads};
-ghost use Rattle.ds_store.specs.Renewals.{GoesOver, MayGoOver};
+ghost use Rattle.ds_store.specs.GoingOver.{GoesOver, MayGoOver};
 ghost use Rattle.ds_store.specs.Stores.{GoesOn, MayKeep, size_seen};
 
 use crate::committed::Committed;
 use crate::fault::StoreFault;
-use crate::renewal::next_lines;
+use crate::going_over::next_lines;
 use crate::replay::{Replay, replayed};
 use crate::seated::SeatedSheet;
 use crate::summing::{sum_up, summed};
@@ -56,7 +56,7 @@ pub struct Opened<S: Alter + Drop> {
 
 /// A sheet to which a store has gone over.
 #[derive(Drop)]
-pub struct Renewed {
+pub struct NextSheet {
     /// A new sheet, on which the edits were made that give it its texts.
     pub sheet: SeatedSheet,
     /// The lines of the store's journal, all of them.
@@ -244,13 +244,13 @@ impl<S: Alter + Drop> Store<S> {
 
     /// Goes over to a new sheet with the texts of the one that these lines have made, which are those that it holds: they
     /// are replaced, all or none, when it returns. Each process that may be joined stands as it stood.
-    pub fn renew(&mut self, alloc: Global, held: &[String]) -> Result<Renewed, StoreFault>
-        ensures leads { IfOk result (λ renewed. Leads self.new.layout self.new.counts.counts.items renewed.sheet (map string_bytes renewed.lines.items)) }
-        ensures summed { IfOk result (λ renewed. IsAt self.new.sums (map string_bytes renewed.lines.items)) }
-        ensures joins { IfOk result (λ renewed. self.new.joins ≡ joins_of self.new.layout (map string_bytes renewed.lines.items)) }
-        ensures over { IfOk result (λ renewed. GoesOver (map string_bytes held.now) (map string_bytes renewed.lines.items)) }
-        ensures holds { IfOk result (λ renewed. HasCleanDisk (state S.Store self.new.conn) → Holds (map string_bytes held.now) (state S.Store self.old.conn).now
-            → Holds (map string_bytes renewed.lines.items) (state S.Store self.new.conn).now × Holds (map string_bytes renewed.lines.items) (state S.Store self.new.conn).committed) }
+    pub fn go_over(&mut self, alloc: Global, held: &[String]) -> Result<NextSheet, StoreFault>
+        ensures leads { IfOk result (λ next. Leads self.new.layout self.new.counts.counts.items next.sheet (map string_bytes next.lines.items)) }
+        ensures summed { IfOk result (λ next. IsAt self.new.sums (map string_bytes next.lines.items)) }
+        ensures joins { IfOk result (λ next. self.new.joins ≡ joins_of self.new.layout (map string_bytes next.lines.items)) }
+        ensures over { IfOk result (λ next. GoesOver (map string_bytes held.now) (map string_bytes next.lines.items)) }
+        ensures holds { IfOk result (λ next. HasCleanDisk (state S.Store self.new.conn) → Holds (map string_bytes held.now) (state S.Store self.old.conn).now
+            → Holds (map string_bytes next.lines.items) (state S.Store self.new.conn).now × Holds (map string_bytes next.lines.items) (state S.Store self.new.conn).committed) }
         ensures crash { Holds (map string_bytes held.now) (state S.Store self.old.conn).now → Survives (state S.Store self.old.conn) (state S.Store self.new.conn) (MayGoOver (map string_bytes held.now)) }
     {
         let lines = next_lines(alloc, held, "the sheet before")?;
@@ -265,7 +265,7 @@ impl<S: Alter + Drop> Store<S> {
         self.layout = layout;
         self.counts = counts;
         self.sums = sums;
-        Ok(Renewed { sheet, lines })
+        Ok(NextSheet { sheet, lines })
     }
 
     /// How many of its processes may be joined: the first ones.

@@ -1,1 +1,3 @@
+pub mod Logs
 pub mod Statuses
+pub mod Tables

@@ -1,9 +1,8 @@
 //! Clients of a server of two columns, two rows and two processes: what they are answered, and the sheet at the end.
 
-use crate::serving::{Clients, End, Served, serve_shared};
+use crate::serving::{Clients, Served, serve_clients};
 use ds_formula::cells::Shape;
 use ds_layout::layout::Layout;
-use ds_order::known::KnownReferences;
 use std::test::Fail;
 
 const SHAPE: Shape = Shape {
@@ -16,13 +15,9 @@ const LAYOUT: Layout = Layout {
     processes: 2,
 };
 
-// The answers are these, and the sheet is closed with what acts for each process.
+// The answers are these, and the sheet is closed with the seat of each process.
 fn is_right(served: &Served, answers: &str) -> bool {
-    let is_closed = match &served.end {
-        End::Shared(_) => true,
-        End::Lost => false,
-    };
-    is_closed && served.answers.as_slice() == answers.as_bytes()
+    served.is_closed && served.answers.as_slice() == answers.as_bytes()
 }
 
 // What clients say, one after another, with that number of workers; and what they are answered.
@@ -99,11 +94,10 @@ const ROWS: [LoopbackRow; 6] = [
 ];
 
 #[test]
-fn serve_shared_loopback(rt: HostRuntime) -> Result<(), Fail> {
+fn serve_loopback(rt: HostRuntime) -> Result<(), Fail> {
     let alloc = rt.alloc();
     for row in ROWS {
-        let references = KnownReferences::new(alloc, SHAPE)?;
-        let served = serve_shared(&rt, alloc, LAYOUT, &references, row.workers, row.clients)?;
+        let served = serve_clients(&rt, alloc, LAYOUT, row.workers, row.clients)?;
         let got = str::from_utf8(served.answers.as_slice()).unwrap_or("?");
         assert!(rt; is_right(&served, row.answers), "{got}");
     }
@@ -114,20 +108,16 @@ fn serve_shared_loopback(rt: HostRuntime) -> Result<(), Fail> {
 const ONE: &[u8] =
     b"{\"op\":\"join\",\"process\":0}\n{\"op\":\"set\",\"cell\":\"A1\",\"text\":\"1\"}\n";
 
-const MANY: [&[u8]; 200] = [ONE; 200];
+const MANY: [&[u8]; 300] = [ONE; 300];
 
-// 200 clients one after another, each with an edit: the last one's edit is the 200th, and the sheet closes.
+// 300 clients one after another, each with an edit by the same process: the sheet has room for 256 of them, so the server goes
+// over to a new sheet meanwhile. The last one's edit is the 300th, and the sheet closes.
 #[test]
-fn two_hundred_clients_share(rt: HostRuntime) -> Result<(), Fail> {
+fn three_hundred_clients_share(rt: HostRuntime) -> Result<(), Fail> {
     let alloc = rt.alloc();
-    let references = KnownReferences::new(alloc, SHAPE)?;
-    let served = serve_shared(&rt, alloc, LAYOUT, &references, 1, Clients::Each(&MANY))?;
-    let is_closed = match &served.end {
-        End::Shared(_) => true,
-        End::Lost => false,
-    };
-    assert!(rt; is_closed && served.answers.as_slice().ends_with(LAST_OF_MANY));
+    let served = serve_clients(&rt, alloc, LAYOUT, 1, Clients::Each(&MANY))?;
+    assert!(rt; served.is_closed && served.answers.as_slice().ends_with(LAST_OF_MANY));
     Ok(())
 }
 
-const LAST_OF_MANY: &[u8] = b"{\"number\":199,\"ok\":\"done\"}\n";
+const LAST_OF_MANY: &[u8] = b"{\"number\":299,\"ok\":\"done\"}\n";

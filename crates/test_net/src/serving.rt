@@ -1,16 +1,14 @@
 //! A server with its clients.
 
 use ds_layout::layout::Layout;
-use ds_net::door::Door;
-use ds_net::floor::Floor;
-use ds_net::placed::placed_first;
-use ds_net::places::Places;
-use ds_net::server::{Service, serve_floor};
-use ds_net::shared_floor::SharedFloor;
-use ds_order::known::KnownReferences;
-use ds_shared_seats::resting::RestingSheet;
-use ds_store::seated::SeatedSheet;
+use ds_net::keeper::Attendant;
+use ds_net::stored;
+use ds_net_connections::entrance::{Entrance, Entrances, Protocol};
+use ds_net_connections::serving::Service;
+use ds_net_floor::door::Door;
+use ds_store::store::{Opened, Store};
 use log::Log;
+use sqlite::{Connection, MemStore};
 use std::alloc::Global;
 use std::io::{self, Read, Write};
 use std::net::{Net, Shutdown, SocketAddr, TcpListener, TcpStream};
@@ -50,22 +48,13 @@ pub enum Clients {
     },
 }
 
-/// What became of a sheet after its server.
-#[derive(Drop)]
-pub enum End {
-    /// A seat was lost.
-    Lost,
-    /// The sheet that the threads shared.
-    Shared(RestingSheet),
-}
-
 /// What a server and its clients came to.
 #[derive(Drop)]
 pub struct Served {
     /// What the clients were answered, one after the other.
     pub answers: Vec<u8>,
-    /// The sheet.
-    pub end: End,
+    /// Whether the sheet was closed with the seats of all its processes.
+    pub is_closed: bool,
 }
 
 // What one client is answered, which says all of its lines and then reads.
@@ -193,54 +182,69 @@ fn talk_all<R: Net<Stream = TcpStream>>(
     Ok(answers)
 }
 
-// The server runs in a thread, the clients in another.
-fn run<
-    F: Floor + Sync,
+// Nothing is looked after beside the store.
+#[derive(Drop)]
+struct Nothing;
+
+impl Attendant for Nothing {
+    fn attend(&mut self) {}
+}
+
+/// A server of a new sheet, whose store is in memory: the server runs in a thread, the clients in another.
+pub fn serve_clients<
     R: Threads + Wait + Clock + Log + Net<Stream = TcpStream, Listener = TcpListener> + Sync,
->(rt: &R, alloc: Global, floor: &F, workers: usize, clients: Clients) -> Result<Vec<u8>, Fail> {
+>(rt: &R, alloc: Global, layout: Layout, workers: usize, clients: Clients) -> Result<Served, Fail> {
     let listener = TcpListener::bind(rt, "127.0.0.1:0")?;
     let at = listener.local_addr()?;
-    let door = Door::new();
+    let entrances = Entrances {
+        first: Entrance {
+            listener,
+            protocol: Protocol::Lines,
+        },
+        beside: None,
+    };
     let service = Service {
         workers,
         sessions: 0,
         at_once: 64,
         idle: 60,
     };
-    let (answers, served) = thread::join(
+    let opened = opened(alloc, layout)?;
+    let door = Door::new();
+    let (answers, (ended, _store)) = thread::join(
         rt,
         || {
             let answers = talk_all(rt, alloc, at, clients);
             door.tell();
             answers
         },
-        || serve_floor(rt, alloc, &listener, floor, &door, service),
+        || {
+            stored::serve(
+                rt,
+                alloc,
+                &entrances,
+                opened,
+                &door,
+                service,
+                None,
+                &mut Nothing,
+            )
+        },
     );
-    if served.is_err() {
-        return Err(Fail::from("the server ended ill"));
+    match ended {
+        Ok(end) => Ok(Served {
+            answers: answers?,
+            is_closed: end.is_closed,
+        }),
+        Err(_) => Err(Fail::from("the server ended ill")),
     }
-    Ok(answers?)
 }
 
-/// A server of a new sheet that the threads share, with no lock.
-pub fn serve_shared<
-    R: Threads + Wait + Clock + Log + Net<Stream = TcpStream, Listener = TcpListener> + Sync,
->(
-    rt: &R,
-    alloc: Global,
-    layout: Layout,
-    references: &KnownReferences,
-    workers: usize,
-    clients: Clients,
-) -> Result<Served, Fail> {
-    let (sheet, seats) = SeatedSheet::make(alloc, layout)?.into_parts();
-    let places = Places::new(rt, alloc, placed_first(alloc, seats)?)?;
-    let floor = SharedFloor::new(references, &places, workers);
-    let answers = run(rt, alloc, &floor, workers, clients)?;
-    places.give_back(rt);
-    let end = match sheet.close(alloc) {
-        Ok(closed) => End::Shared(closed),
-        Err(_) => End::Lost,
-    };
-    Ok(Served { answers, end })
+// A new store in memory.
+fn opened(alloc: Global, layout: Layout) -> Result<Opened<MemStore>, Fail> {
+    let conn = Connection::open_in_memory(alloc)?;
+    match Store::make(alloc, conn, layout) {
+        Ok(opened) => Ok(opened),
+        Err(_) => Err(Fail::from("the store could not be made")),
+    }
 }

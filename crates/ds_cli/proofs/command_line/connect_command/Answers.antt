@@ -4,4 +4,6 @@ pub returns : goal.returns
 returns c =
     let one = c.with_argument-one.ensures _ _ c.connect_alone.ensures c.file_argument-server.ensures.rule c.file_argument-server.ensures.local in
     let two = c.with_argument-two.ensures _ _ one c.number_option.ensures.rule c.number_option.ensures.local in
-    c.with_argument.ensures _ _ two c.a1_flag.ensures.rule c.a1_flag.ensures.local
+    let three = c.with_argument-three.ensures _ _ two c.number_option-2.ensures.rule c.number_option-2.ensures.local in
+    let four = c.with_argument-four.ensures _ _ three c.token_file_option.ensures.rule c.token_file_option.ensures.local in
+    c.with_argument.ensures _ _ four c.a1_flag.ensures.rule c.a1_flag.ensures.local

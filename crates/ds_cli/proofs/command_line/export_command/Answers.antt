@@ -1,4 +1,7 @@
 use Rattle.ds_cli.proofs.command_line.export_command.Goals as goal
 
 pub returns : goal.returns
-returns c = c.with_argument.ensures _ _ c.file_command-command.ensures c.number_option.ensures.rule c.number_option.ensures.local
+returns c =
+    let one = c.with_argument-one.ensures _ _ c.file_command-command.ensures c.number_option.ensures.rule c.number_option.ensures.local in
+    let two = c.with_argument-two.ensures _ _ one c.flag.ensures.rule c.flag.ensures.local in
+    c.with_argument.ensures _ _ two c.flag-2.ensures.rule c.flag-2.ensures.local

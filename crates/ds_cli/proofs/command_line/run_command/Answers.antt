@@ -6,5 +6,6 @@ returns c =
     let two = c.with_argument-two.ensures _ _ one c.flag.ensures.rule c.flag.ensures.local in
     let three = c.with_argument-three.ensures _ _ two c.number_option.ensures.rule c.number_option.ensures.local in
     let four = c.with_argument-four.ensures _ _ three c.number_option-2.ensures.rule c.number_option-2.ensures.local in
-    let five = c.with_argument-five.ensures _ _ four c.a1_flag.ensures.rule c.a1_flag.ensures.local in
-    c.called.ensures _ five
+    let five = c.with_argument-five.ensures _ _ four c.flag-2.ensures.rule c.flag-2.ensures.local in
+    let six = c.with_argument-six.ensures _ _ five c.a1_flag.ensures.rule c.a1_flag.ensures.local in
+    c.called.ensures _ six

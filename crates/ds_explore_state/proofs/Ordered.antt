@@ -1,0 +1,158 @@
+-- Every order stays in the states that were found.
+use Rattle.std.proofs.Common.{ℕ, zero, suc, ◌≡◌, ◌<◌, ◌≤◌, ◌∙◌, refl, sym, ap, subst, inl, inr, List, [], ◌∷◌, ◌++◌, length, map, arith}
+use Rattle.std.specs.Prelude.{◌≢◌, Option, Some, None, option_map, slice_get, slice_index_or}
+use Rattle.std.specs.List.{AllByRecursion}
+use Rattle.std.proofs.lemmas.Bool.{cases_lt}
+use Rattle.std.proofs.lemmas.List.{length-map}
+use Rattle.ds_words.specs.declared.words.Word.{Word}
+use Rattle.ds_words.specs.declared.access.BufferEntry.{BufferEntry}
+use Rattle.ds_words.specs.Memory.{SameMemory}
+use Rattle.ds_layout.specs.declared.place.Place.{Place}
+use Rattle.ds_layout.specs.declared.layout.Layout.{Layout}
+use Rattle.ds_layout.specs.SheetMemory.{memory}
+use Rattle.ds_state.specs.Value.{WorldValue, world_of, first_rest}
+use Rattle.ds_state.specs.declared.situation.Situation.{Situation}
+use Rattle.ds_state.specs.declared.situation.Situation.TheVariants.{Idle}
+use Rattle.ds_explore_state.specs.declared.orders.Allowed.{Allowed}
+use Rattle.ds_explore_state.specs.declared.position.Move.{Move}
+use Rattle.ds_explore_state.specs.declared.position.Position.{Position}
+use Rattle.ds_explore_state.specs.declared.position.ProcessState.{ProcessState}
+use Rattle.ds_explore_state.specs.declared.states.States.{States}
+use Rattle.ds_explore_state.specs.States.{IsKey, PlainSeat, SameState, seat_of, state_of, word_in}
+use Rattle.ds_explore_state.specs.Alike.{AreAlike, ArePositionsAlike}
+use Rattle.ds_explore_state.specs.Orders.{Happens, MayHappen, no_seat, seats_of}
+use Rattle.ds_explore_state.specs.Following.{IsFollowed, IsOff, KnowsBuffers}
+use Rattle.ds_explore_state.specs.Closed.{AreAll, HasNumber, IsExpanded, Order, StandsFor, keys_of, no_move, one_move_more}
+use Rattle.ds_explore_state.proofs.Parts.{same_by_key}
+use Rattle.ds_explore_state.proofs.Memories.{by_numbers}
+use Rattle.ds_explore_state.proofs.Alike.{get_there, happens_alike, may_alike, place_there}
+
+-- ---- what is alike
+
+pub alike_back : (x y : Position) → ArePositionsAlike x y → ArePositionsAlike y x
+alike_back x y a = record {
+  worlds = record {
+    layout = sym a.worlds.layout;
+    memory = record {
+      cached = λ r. sym (a.worlds.memory.cached r);
+      persisted = λ r. sym (a.worlds.memory.persisted r);
+      buffer = λ q. sym (a.worlds.memory.buffer q);
+    };
+    situation = λ q. sym (a.worlds.situation q);
+  };
+  seats = sym a.seats;
+}
+
+pub alike_on : (x y z : Position) → ArePositionsAlike x y → ArePositionsAlike y z → ArePositionsAlike x z
+alike_on x y z a b = record {
+  worlds = record {
+    layout = b.worlds.layout ∙ a.worlds.layout;
+    memory = record {
+      cached = λ r. b.worlds.memory.cached r ∙ a.worlds.memory.cached r;
+      persisted = λ r. b.worlds.memory.persisted r ∙ a.worlds.memory.persisted r;
+      buffer = λ q. b.worlds.memory.buffer q ∙ a.worlds.memory.buffer q;
+    };
+    situation = λ q. b.worlds.situation q ∙ a.worlds.situation q;
+  };
+  seats = b.seats ∙ a.seats;
+}
+
+-- ---- positions of one state
+
+-- lists that are the same place by place
+same_lists : (xs ys : List ProcessState) → length xs ≡ length ys → ((p : ℕ) → p < length xs → option_map seat_of (slice_get xs p) ≡ option_map seat_of (slice_get ys p)) → map seat_of ys ≡ map seat_of xs
+same_lists [] [] count same = refl
+same_lists [] (y ∷ ys) count same = absurd (let bad : ⊥ = omega (arith, count) in bad)
+same_lists (x ∷ xs) [] count same = absurd (let bad : ⊥ = omega (arith, count) in bad)
+same_lists (x ∷ xs) (y ∷ ys) count same =
+    let first : Some (seat_of x) ≡ Some (seat_of y) = same zero (omega arith) in
+    let one : seat_of y ≡ seat_of x = (let e : seat_of x ≡ seat_of y = cc in sym e) in
+    let rest : map seat_of ys ≡ map seat_of xs = same_lists xs ys (omega (arith, count)) (λ p low. same (suc p) (omega (arith, low))) in
+    cc
+
+-- where words differ at a place, and are the same at the places of a group, the place is none of them
+off_group : (f g : Place → Word) (r : Place) (group : List Place) → ((e : f r ≡ g r) → ⊥) → AllByRecursion (λ place. f place ≡ g place) group → AllByRecursion (λ place. r ≢ place) group
+off_group f g r [] differ same = tt
+off_group f g r (place ∷ group) differ same = ((λ e. differ (subst (λ (q : Place). f q ≡ g q) (sym e) same.0)), off_group f g r group differ same.1)
+
+off_groups : (f g : Place → Word) (r : Place) (groups : List (List Place)) → ((e : f r ≡ g r) → ⊥) → AllByRecursion (AllByRecursion (λ place. f place ≡ g place)) groups → IsOff groups r
+off_groups f g r [] differ same = tt
+off_groups f g r (group ∷ groups) differ same = (off_group f g r group differ same.0, off_groups f g r groups differ same.1)
+
+-- what stands at a place of two lists that are the same there
+same_there : (xs ys : List Situation) (q : ℕ) (d : Situation) → slice_get xs q ≡ slice_get ys q → slice_index_or xs q d ≡ slice_index_or ys q d
+same_there [] [] q d e = refl
+same_there [] (y ∷ ys) zero d e = cc
+same_there [] (y ∷ ys) (suc q) d e = same_there [] ys q d e
+same_there (x ∷ xs) [] zero d e = cc
+same_there (x ∷ xs) [] (suc q) d e = same_there xs [] q d e
+same_there (x ∷ xs) (y ∷ ys) zero d e = cc
+same_there (x ∷ xs) (y ∷ ys) (suc q) d e = same_there xs ys q d e
+
+-- nothing stands beyond the end
+none_there : (xs : List Situation) (q : ℕ) → length xs ≤ q → slice_get xs q ≡ None
+none_there [] q far = refl
+none_there (x ∷ xs) zero far = absurd (let bad : ⊥ = omega (arith, far) in bad)
+none_there (x ∷ xs) (suc q) far = none_there xs q (omega (arith, far))
+
+pub alike_by_state : (groups : List (List Place)) (first x y : Position) → IsFollowed groups first x → IsFollowed groups first y → SameState groups x y → ArePositionsAlike x y
+alike_by_state groups first x y f g same = record {
+  worlds = record {
+    layout = g.layout ∙ sym f.layout;
+    memory = record {
+      cached = λ r. by_numbers ((memory y.world.sheet).cached r) ((memory x.world.sheet).cached r) (λ differ. (
+          let off = off_groups (word_in x.world) (word_in y.world) r groups (λ e. differ (sym (ap (λ (w : Word). w.cached) e))) same.words in
+          g.cached r off ∙ sym (f.cached r off)));
+      persisted = λ r. by_numbers ((memory y.world.sheet).persisted r) ((memory x.world.sheet).persisted r) (λ differ. (
+          let off = off_groups (word_in x.world) (word_in y.world) r groups (λ e. differ (sym (ap (λ (w : Word). w.persisted) e))) same.words in
+          g.persisted r off ∙ sym (f.persisted r off)));
+      buffer = λ q. g.buffers q ∙ ap (λ (l : List PlainSeat). (slice_index_or l q no_seat).buffer) seats ∙ sym (f.buffers q);
+    };
+    situation = λ q. same_there y.world.situations x.world.situations q (Idle first_rest) (sym (situation q));
+  };
+  seats = seats;
+}
+  where
+    seats : seats_of y ≡ seats_of x
+    seats = same_lists x.seats.items y.seats.items same.count same.seats
+
+    situation : (q : ℕ) → slice_get x.world.situations q ≡ slice_get y.world.situations q
+    situation q = elim (cases_lt q (length x.seats.items)) [
+      | inl low ↦ same.situations q low
+      | inr far ↦ (
+          let a = f.count in
+          let b = g.count in
+          let c = f.good.situations in
+          let d = g.good.situations in
+          let e = length-map x.seats.items seat_of in
+          let h = length-map y.seats.items seat_of in
+          let k = same.count in
+          none_there x.world.situations q (omega (arith, a, c, e, far)) ∙ sym (none_there y.world.situations q (omega (arith, b, d, h, k, far))))
+    ]
+
+-- ---- orders
+
+module _ (states : States) (groups : List (List Place)) (allowed : Allowed) (places : List Place) (first : Position) (all : AreAll states groups allowed places first) (known : KnowsBuffers first) where
+  one_number : (x y : Position) (number : ℕ) → HasNumber states groups x number → HasNumber states groups y number → IsFollowed groups first x → IsFollowed groups first y → ArePositionsAlike x y
+  one_number x y number h k f g =
+      let same : Some k.key ≡ Some h.key = sym k.there ∙ h.there in
+      let key : k.key ≡ h.key = cc in
+      alike_by_state groups first x y f g (same_by_key states.numbers h.key groups x y h.is (subst (λ (l : List ℕ). IsKey states.numbers l (state_of groups y)) key k.is))
+
+  -- a position that was found is alike to one that stands for its state
+  stands : (y : Position) (number : ℕ) → HasNumber states groups y number → IsFollowed groups first y → StandsFor states groups allowed places first y
+  stands y number has f =
+      let low : number < length (keys_of states) = place_there (keys_of states) number has.key has.there in
+      let x : IsExpanded states groups allowed places first number = all.closed number low in
+      record { number = number; low = low; expanded = x; alike = one_number x.position y number x.has has (x.kept known) f }
+
+  pub order_stays : (moves : List Move) (y : Position) → Order allowed places first moves y → StandsFor states groups allowed places first y
+  order_stays _ _ no_move = stands first all.there.0 all.there.1 (all.kept known)
+  order_stays _ _ (one_move_more moves move x y order may happens) =
+      let s = order_stays moves x order in
+      let z : Position = s.expanded.position in
+      let can : MayHappen allowed places z move = may_alike allowed places x z move (alike_back z x s.alike) may in
+      let led = s.expanded.stays move can in
+      let alike : ArePositionsAlike led.0 y = happens_alike allowed places move z x led.0 y s.alike can led.1 happens in
+      let t = stands led.0 led.2.0 led.2.1 (led.3 first (s.expanded.kept known)) in
+      record { number = t.number; low = t.low; expanded = t.expanded; alike = alike_on t.expanded.position led.0 y t.alike alike }

@@ -1,0 +1,4 @@
+pub mod Shaking
+pub mod Takings
+pub mod Posting
+pub mod Words

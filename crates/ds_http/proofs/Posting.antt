@@ -1,0 +1,19 @@
+-- What is said to a body that is no JSON, or could not be read.
+use Rattle.std.proofs.Common.{ℕ, List, Err}
+use Rattle.ds_server.specs.declared.request.LineFault.{LineFault}
+use Rattle.ds_server.specs.declared.request.LineFault.TheVariants as faults
+use Rattle.ds_server.specs.Asked.{ReadsJson}
+use Rattle.ds_server.specs.Desks.{Rules}
+use Rattle.ds_server.specs.Replies.{Faulted}
+use Rattle.ds_http.specs.Edits.{Posts, no_json, no_memory}
+
+-- it is answered so, and the desk stays
+pub no_value : {B : Type 0} (rules : Rules B) (old : B) (body : List ℕ) (fault : LineFault) → ReadsJson body (Err fault) → Posts rules old body (Faulted fault) old
+no_value rules old body faults.NotJson h = no_json h
+no_value rules old body faults.NoMemory h = no_memory
+no_value rules old body faults.UnknownOp h = absurd h
+no_value rules old body faults.BadField h = absurd h
+no_value rules old body faults.LineTooLong h = absurd h
+no_value rules old body faults.NotJoined h = absurd h
+no_value rules old body faults.AlreadyJoined h = absurd h
+no_value rules old body faults.Denied h = absurd h

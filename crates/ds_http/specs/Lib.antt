@@ -1,0 +1,11 @@
+pub mod Resources
+pub mod Problems
+pub mod Origins
+pub mod Tokens
+pub mod Bodies
+pub mod Handshakes
+pub mod Statuses
+pub mod Taking
+pub mod Edits
+pub mod Lines
+pub mod Sites

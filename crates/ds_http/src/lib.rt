@@ -1,0 +1,16 @@
+//! A sheet over HTTP: what is answered to each request, and sessions over WebSocket. Over any desk.
+#![tactic(auto)]
+
+mod edits;
+mod handshake;
+mod lines;
+pub mod messages;
+mod origin;
+pub mod page;
+mod problem;
+mod reply;
+mod resource;
+pub mod site;
+mod status;
+mod taking;
+mod token;

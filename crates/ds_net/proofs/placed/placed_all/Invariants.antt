@@ -1,6 +1,0 @@
-use Rattle.std.proofs.Common.{◌≡◌, ◌<◌}
-use Rattle.std.specs.Prelude.{All}
-use Rattle.ds_net.proofs.placed.placed_all.Given as goal
-
-abbrev pub invariant-loop-seat : goal.invariant-loop-seat
-invariant-loop-seat l = All (λ p. (p.numberings.items ≡ l.numberings) × (p.era ≡ l.era) × (p.seat.pass.process < l.joins)) l.all.items

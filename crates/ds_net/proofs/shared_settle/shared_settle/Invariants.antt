@@ -1,9 +1,0 @@
-use Rattle.ds_shared_seats.specs.Sheets.{IsSeatOf}
-use Rattle.ds_net.specs.SharedDesks.{HasWorked, sheet_of}
-use Rattle.ds_net.proofs.shared_settle.shared_settle.Given as goal
-
-abbrev pub invariant-loop : goal.invariant-loop
-invariant-loop g l = record {
-  worked : HasWorked (sheet_of l.fn.seat) l.fn.seat l.seat;
-  sheet : IsSeatOf (sheet_of l.fn.seat) l.seat;
-}

@@ -1,9 +1,0 @@
-pub mod Accepting
-pub mod Counting
-pub mod Numberings
-pub mod Permits
-pub mod PlacedDesks
-pub mod PlacesHeld
-pub mod Placing
-pub mod SharedDesks
-pub mod StoredDesks

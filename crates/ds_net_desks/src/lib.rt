@@ -1,0 +1,10 @@
+//! Sheets that threads share, with a store of their edits: as the desk of one session, and as a floor.
+#![tactic(auto)]
+
+pub mod numbered_seat;
+pub mod numbering;
+pub mod seat_pool;
+pub mod shared_desk;
+mod shared_settle;
+pub mod stored_desk;
+pub mod stored_floor;

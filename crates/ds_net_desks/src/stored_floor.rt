@@ -1,0 +1,160 @@
+//! A sheet that threads share, with a store, as a server serves it.
+
+use crate::numbered_seat::NumberedSeat;
+use crate::seat_pool::SeatPool;
+use crate::shared_desk::SharedDesk;
+use crate::shared_settle::{REST, Round, STEPS_MOST, shared_round};
+use crate::stored_desk::StoredDesk;
+use ds_formula::cells::Shape;
+use ds_http::page::PAGE;
+use ds_http::site::Site;
+use ds_net_floor::floor::Floor;
+use ds_net_floor::keeping::{AllKept, Keeping};
+use ds_net_floor::visit::Visit;
+use ds_order::course::Course;
+use ds_order::known::KnownReferences;
+use ds_script_io::streams::{Reading, Writing};
+use ds_server::desk::CallRefusal;
+use ds_server::session::{SessionEnd, session};
+use ds_shared_seats::seat::Seat;
+use http_server::{Connection, serve};
+use std::alloc::Global;
+use std::io::{self, Read, Write};
+use std::sync::{Mutex, Wait};
+use std::thread;
+use std::time::{Clock, Duration};
+
+/// A shared sheet, with the pool of its seats, what is known of its references, and what its sessions share with the keeper of
+/// its store.
+#[derive(Drop)]
+pub struct StoredFloor<'a> {
+    shape: Shape,
+    pool: &'a SeatPool,
+    open: usize,
+    token: Option<&'a [u8]>,
+    references: &'a KnownReferences,
+    keeping: &'a Keeping,
+}
+
+impl<'a> StoredFloor<'a> {
+    /// A sheet with these references and this pool of seats, of which the last ones, this number of them, are for workers. A
+    /// join has to have this token, if there is one. The keeper hears of each edit that is done.
+    pub fn new(
+        references: &'a KnownReferences,
+        pool: &'a SeatPool,
+        workers: usize,
+        token: Option<&'a [u8]>,
+        keeping: &'a Keeping,
+    ) -> StoredFloor<'a> {
+        StoredFloor {
+            shape: references.shape(),
+            pool,
+            open: pool.len().saturating_sub(workers),
+            token,
+            references,
+            keeping,
+        }
+    }
+}
+
+// One round over the cells. Whether there was work.
+fn round(alloc: Global, seat: &mut Seat, course: &Course) -> bool {
+    match shared_round(alloc, seat, course, None) {
+        Ok(round) => round == Round::Worked,
+        Err(why) => {
+            if why == CallRefusal::Stopped {
+                let _recovered = seat.recover(alloc, STEPS_MOST);
+            }
+            false
+        }
+    }
+}
+
+// Goes round the cells of the newest sheet until it is asked to stop, and rests where there was no work.
+fn go_round<R: Wait + Clock>(
+    rt: &R,
+    alloc: Global,
+    pool: &SeatPool,
+    numbered: &mut NumberedSeat,
+    references: &KnownReferences,
+    stop: &Mutex<bool>,
+) {
+    let mut course = Course::new(alloc);
+    for _ in rt.forever() {
+        if *stop.lock(rt) {
+            break;
+        }
+        pool.catch_up(rt, numbered);
+        course.renew(alloc, references);
+        if !round(alloc, &mut numbered.seat, &course) {
+            thread::sleep(rt, Duration::from_millis(REST));
+        }
+    }
+}
+
+impl<'a> StoredFloor<'a> {
+    // A desk for one session over the sheet.
+    fn desk<'b, R: Wait + Clock>(
+        &'b self,
+        rt: &'b R,
+        alloc: Global,
+        visit: &'b Visit<'b>,
+    ) -> StoredDesk<'b, R> {
+        let shared = SharedDesk::new(
+            rt,
+            alloc,
+            self.shape,
+            self.pool,
+            self.open,
+            self.token,
+            visit,
+            self.references,
+        );
+        StoredDesk::new(shared, self.keeping)
+    }
+}
+
+impl<'a> Floor for StoredFloor<'a> {
+    fn processes(&self) -> usize {
+        self.pool.len()
+    }
+
+    fn permit<R: Wait>(&self, rt: &R) -> Option<AllKept> {
+        self.keeping.wait_for_all(rt)
+    }
+
+    fn sit<I: Read, O: Write, R: Wait + Clock>(
+        &self,
+        rt: &R,
+        alloc: Global,
+        reader: &mut Reading<I>,
+        writer: &mut Writing<O>,
+        visit: &Visit<'_>,
+    ) -> SessionEnd {
+        let mut desk = self.desk(rt, alloc, visit);
+        session(alloc, reader, writer, &mut desk)
+    }
+
+    fn answer<I: Read, O: Write, R: Wait + Clock>(
+        &self,
+        rt: &R,
+        alloc: Global,
+        address: &str,
+        connection: &mut Connection,
+        reader: &mut I,
+        writer: &mut O,
+        visit: &Visit<'_>,
+    ) -> io::Result<()> {
+        let desk = self.desk(rt, alloc, visit);
+        let mut site = Site::new(alloc, address, PAGE, desk);
+        serve(connection, &mut site, reader, writer)
+    }
+
+    fn work<R: Wait + Clock>(&self, rt: &R, alloc: Global, process: usize, stop: &Mutex<bool>) {
+        let Some(mut numbered) = self.pool.take(rt, process) else {
+            return;
+        };
+        go_round(rt, alloc, self.pool, &mut numbered, self.references, stop);
+        self.pool.put_back(rt, numbered);
+    }
+}

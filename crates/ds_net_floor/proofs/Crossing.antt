@@ -1,0 +1,30 @@
+-- That a locked word, a door and what a keeper hears may be shared by threads.
+use Rattle.std.proofs.Crossing.{crosses}
+use denote.Param.Send.{IsSend, IsSync, sendable}
+use denote.Builtin.{bool}
+use Rattle.std.specs.contracts.sync.Mutex as Mutex
+use Rattle.ds_net_floor.specs.contracts.door.Door as Door
+use Rattle.ds_net_floor.specs.contracts.keeping.Keeping as Keeping
+use Rattle.ds_net_floor.specs.contracts.keeping.Backlog as Backlog
+use Rattle.ds_store_journal.specs.contracts.edit.AnsweredEdit as AnsweredEdit
+
+-- a locked truth value may be shared by threads
+pub flag_sync : IsSync (Mutex.the_row bool)
+flag_sync = search (sendable, crosses) depth 40
+
+edit_send : IsSend AnsweredEdit.the_row
+edit_send = search (sendable, crosses) depth 40
+
+backlog_send : IsSend Backlog.the_row
+backlog_send = search (sendable, crosses, edit_send) depth 40
+
+backlog_lock : IsSync (Mutex.the_row Backlog.the_row)
+backlog_lock = search (sendable, crosses, backlog_send) depth 40
+
+-- what sessions share with a keeper may be shared by threads
+pub keeping_sync : IsSync Keeping.the_row
+keeping_sync = search (sendable, crosses, backlog_lock) depth 40
+
+-- the door of a server may be shared by threads
+pub door_sync : IsSync Door.the_row
+door_sync = search (sendable, crosses) depth 60 fits 100000

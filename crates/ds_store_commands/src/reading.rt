@@ -1,0 +1,151 @@
+//! The files of a store, which a server may have open, as they are at one moment. They stay as they are.
+
+use crate::stores::{tell_error, tell_fault};
+use ds_batch::status::STREAM_FAILED;
+use ds_layout::layout::Layout;
+use ds_store::fault::StoreFault;
+use ds_store::snapshot::snapshot;
+use ds_store::store::{Opened, Store};
+use sqlite::{Connection, FileStore};
+use sqlite_disk::Memory;
+use std::alloc::Global;
+use std::fs::{self, Files};
+use std::io;
+
+/// What the bytes of a store's files lie in, once they were read.
+pub(crate) type Copied = FileStore<Memory>;
+
+// The first bytes of a log, which are others as soon as it begins anew: then its lines are in the file.
+const LOG_HEADER: usize = 32;
+
+// How many times both files are read at most: a log begins anew after a thousand pages.
+const READS_MOST: usize = 16;
+
+// The bytes of a store's file, and of its log.
+#[derive(Drop)]
+struct Image {
+    file: Vec<u8>,
+    log: Vec<u8>,
+}
+
+fn header(log: &[u8]) -> &[u8] {
+    log.get(..LOG_HEADER).unwrap_or(log)
+}
+
+// The bytes of a log; none where there is no such file.
+fn read_log<R: AllocGlobal + Files>(rt: &R, path: &str) -> io::Result<Vec<u8>> {
+    match fs::read(rt, path) {
+        Err(error) if error.kind() == io::ErrorKind::NotFound => Ok(Vec::new(rt.alloc())),
+        read => read,
+    }
+}
+
+// Reads both files. None where the log has begun anew meanwhile: then lines may be in neither that was read.
+fn read_image<R: AllocGlobal + Files>(
+    rt: &R,
+    path: &str,
+    log_path: &str,
+) -> io::Result<Option<Image>> {
+    let before = read_log(rt, log_path)?;
+    let file = fs::read(rt, path)?;
+    let log = read_log(rt, log_path)?;
+    let after = read_log(rt, log_path)?;
+    if header(&before) == header(&log) && header(&after) == header(&log) {
+        Ok(Some(Image { file, log }))
+    } else {
+        Ok(None)
+    }
+}
+
+// Reads both files as they are at one moment, whoever has them open. An error says that they cannot be read, or that the log
+// began anew each time.
+fn read_files<R: AllocGlobal + Files>(rt: &R, path: &str) -> io::Result<Image> {
+    // The log lies beside the file itself, where the path is a link.
+    let real = fs::canonicalize(rt, path)?;
+    let log_path = format!(in rt.alloc(); "{}-wal", real.as_str())?;
+    for _ in 0..READS_MOST {
+        if let Some(image) = read_image(rt, real.as_str(), log_path.as_str())? {
+            return Ok(image);
+        }
+    }
+    Err(io::ErrorKind::ResourceBusy.into())
+}
+
+// That a regular file lies at this path. An error is the status, when standard error has the reason.
+fn see_file<R: Eprint + Files>(rt: &R, path: &str) -> Result<(), u8> {
+    match fs::metadata(rt, path) {
+        Ok(data) if data.is_file() => Ok(()),
+        Ok(_) => {
+            let _reported = eprintln!(rt; "dsheet: {path}: it is no regular file");
+            Err(STREAM_FAILED)
+        }
+        Err(error) => Err(tell_error(rt, path, &error)),
+    }
+}
+
+/// The database of the store at this path, in memory. An error is as before.
+pub(crate) fn read_database<R: AllocGlobal + Eprint + Files>(
+    rt: &R,
+    path: &str,
+) -> Result<Connection<Copied>, u8> {
+    see_file(rt, path)?;
+    let image = match read_files(rt, path) {
+        Ok(image) => image,
+        Err(error) => return Err(tell_error(rt, path, &error)),
+    };
+    match snapshot(rt.alloc(), &image.file, &image.log) {
+        Ok(conn) => Ok(conn),
+        Err(fault) => Err(tell_fault(rt, path, &fault)),
+    }
+}
+
+/// What a store has, without its database and its sheet.
+#[derive(Drop)]
+pub(crate) struct ReadStore {
+    /// The shape of its sheet, and how many processes it has.
+    pub layout: Layout,
+    /// How many of its processes may be joined: the first ones.
+    pub joins: usize,
+    /// How many edits of its sheet each process has made.
+    pub edits: Vec<usize>,
+    /// The lines of its journal, all of them.
+    pub lines: Vec<String>,
+}
+
+// What an open store has.
+fn parts_of(alloc: Global, opened: Opened<Copied>) -> Result<ReadStore, StoreFault> {
+    let Opened { store, lines, .. } = opened;
+    let layout = store.layout();
+    let mut edits = Vec::new(alloc);
+    for process in 0..layout.processes {
+        if edits.push(store.edits_of(process)).is_err() {
+            return Err(StoreFault::NoMemory);
+        }
+    }
+    Ok(ReadStore {
+        layout,
+        joins: store.joins(),
+        edits,
+        lines,
+    })
+}
+
+// What the store in a database has.
+fn opened_parts(alloc: Global, conn: Connection<Copied>) -> Result<ReadStore, StoreFault> {
+    parts_of(alloc, Store::open(alloc, conn)?)
+}
+
+/// What the store at this path has: it is sound. An error is as before.
+pub(crate) fn read_store<R: AllocGlobal + Eprint + Files>(
+    rt: &R,
+    path: &str,
+) -> Result<ReadStore, u8> {
+    let conn = match read_database(rt, path) {
+        Ok(conn) => conn,
+        Err(status) => return Err(status),
+    };
+    match opened_parts(rt.alloc(), conn) {
+        Ok(read) => Ok(read),
+        Err(fault) => Err(tell_fault(rt, path, &fault)),
+    }
+}

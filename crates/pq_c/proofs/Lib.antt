@@ -1,0 +1,4 @@
+mod HeldBox
+mod HeldCarried
+mod HeldCrossing
+mod HeldSteps

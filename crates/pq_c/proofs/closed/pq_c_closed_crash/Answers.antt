@@ -1,0 +1,5 @@
+use Rattle.pq_c.proofs.HeldCarried.{carried}
+use Rattle.pq_c.proofs.closed.pq_c_closed_crash.Goals as goal
+
+pub returns : goal.returns
+returns c = carried _ c.in-Some.ensures.some.0 c.deref_mut.ensures.value c.crash_with-answered.ensures.1 c.of.ensures c.crash_with-answered.ensures.2

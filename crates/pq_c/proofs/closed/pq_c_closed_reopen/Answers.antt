@@ -1,0 +1,14 @@
+use Rattle.std.proofs.Common.{refl, subst}
+use Rattle.pq_c.specs.Shared.{moved, fails}
+use Rattle.pq_c.specs.Queues.{Opens, OpensNot}
+use Rattle.pq_c.proofs.closed.pq_c_closed_reopen.Goals as goal
+
+pub returns-in-Ok : goal.returns-in-Ok
+returns-in-Ok c =
+    let did = subst (λ h. Opens h c.reopen.new.held) c.deref_mut.ensures.value c.in-Ok.ensures.ok in
+    moved c.in-Some.held.value c.reopen.new.held c.in-Some.ensures.some.0 c.in-Some.ensures.some.1 (c.if-not-is_empty.ensures.empty refl) c.of.ensures did refl
+
+pub returns-in-Err : goal.returns-in-Err
+returns-in-Err c =
+    let why = subst (λ h. OpensNot h c.in-Err.failure c.reopen.new.held) c.deref_mut.ensures.value c.in-Err.ensures.err in
+    fails c.in-Some.held.value c.reopen.new.held c.in-Err.failure c.in-Some.ensures.some.0 c.of-in-Err.ensures (c.if-not-is_empty.ensures.empty refl) refl why c.number-in-Err.ensures

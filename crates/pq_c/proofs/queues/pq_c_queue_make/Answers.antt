@@ -1,0 +1,9 @@
+use Rattle.std.proofs.Common.{refl}
+use Rattle.pq_c.specs.Queues.{made, fails}
+use Rattle.pq_c.proofs.queues.pq_c_queue_make.Goals as goal
+
+pub returns-in-Ok : goal.returns-in-Ok
+returns-in-Ok c = made c.in-Ok.held.value (c.if-not-is_empty.ensures.empty refl) c.in-Ok.ensures.ok c.of.ensures refl
+
+pub returns-in-Err : goal.returns-in-Err
+returns-in-Err c = fails c.in-Err.failure (c.if-not-is_empty.ensures.empty refl) c.in-Err.ensures.err refl c.number-in-Err.ensures

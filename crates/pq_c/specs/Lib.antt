@@ -1,0 +1,7 @@
+pub mod Failures
+pub mod Answers
+pub mod OwnedHeld
+pub mod Holders
+pub mod Shared
+pub mod Queues
+pub mod Closed

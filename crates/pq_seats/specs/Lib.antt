@@ -1,0 +1,9 @@
+pub mod Places
+pub mod Known
+pub mod Turns
+pub mod Homes
+pub mod Choices
+pub mod Calls
+pub mod Queues
+pub mod Resting
+pub mod Truths
