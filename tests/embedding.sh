@@ -26,7 +26,7 @@ same() {
 }
 
 is_built "$out/libds_c.a" || fail "the library for C is not built of the sources as they stand: (cd crates/ds_c && rt lib)"
-make -s -C examples/c clean sheet
+make -s -C examples/c clean-sheet sheet
 "$out/crash" >"$work/c"
 same "examples/c/crash" examples/c/crash.stdout "$work/c"
 python3 examples/python/dsheet.py >"$work/python"

@@ -17,7 +17,7 @@ work=$(mktemp -d)
 cleanup() { rm -rf "$work"; }
 
 is_built "$out/libpq_c.a" || fail "the queue for C is not built of the sources as they stand: (cd crates/pq_c && rt lib)"
-make -s -C examples/c clean queue
+make -s -C examples/c clean-queue queue
 for _ in $(seq "${THREADS_RUNS:-20}"); do
     "$out/queue" >"$work/queue"
     diff -u examples/c/queue.stdout "$work/queue" >&2 || fail "examples/c/queue: not what it has to say"

@@ -640,7 +640,7 @@ def check_full_copy(program, folder, store):
 
 
 def check_read_only(program, folder, store):
-    """A store that may not be written is refused by what opens it for that, and can be copied. Root runs this as nobody."""
+    """A store that may not be written is refused by a server, and can be checked and copied. Root runs this as nobody."""
     there, copies = os.path.join(folder, "read only"), os.path.join(folder, "copies")
     os.mkdir(there)
     os.mkdir(copies)
@@ -654,7 +654,9 @@ def check_read_only(program, folder, store):
         os.chown(copies, 65534, 65534)
     os.chmod(mine, 0o444)
     os.chmod(there, 0o555)
-    expect("check of a read-only store", run(program, "check", mine, **more), 3, "mine.db")
+    served = run(program, "serve", "--listen", "127.0.0.1:0", *SHAPE, "--store", mine, input="", **more)
+    expect("a server with a read-only store", served, 3, "mine.db")
+    expect("check of a read-only store", run(program, "check", mine, **more), 0, "")
     expect("backup of a read-only store", run(program, "backup", mine, os.path.join(copies, "copy.db"), **more), 0, "")
     os.chmod(there, 0o755)
     if lines_in(os.path.join(copies, "copy.db")) != lines_in(store):
