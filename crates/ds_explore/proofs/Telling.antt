@@ -15,15 +15,19 @@ use Rattle.ds_script_io.specs.declared.ending.ScriptEnd.TheVariants as ends
 use Rattle.ds_script.specs.Script.{Finishes, Concludes}
 use Rattle.ds_script_stops.specs.declared.reach.Short.{Short}
 use Rattle.ds_script_stops.specs.declared.reach.Short.TheVariants as shorts
-use Rattle.ds_script_stops.specs.Reaching.{FallsShort}
+use Rattle.ds_script_stops.specs.Reaching.{MeetsFault}
 use Rattle.ds_formula.specs.declared.cells.Shape.{Shape}
 use Rattle.ds_explore.specs.declared.lines.FoundLine.{FoundLine}
 use Rattle.ds_explore.specs.declared.flaw.Flaw.{Flaw}
-use Rattle.ds_explore.specs.declared.judge.Judge.{Judge}
+use Rattle.ds_explore.specs.declared.options.Options.{Options}
+use Rattle.ds_explore.specs.declared.search.Start.{Start}
+use Rattle.ds_explore_state.specs.declared.position.Position.{Position}
 use Rattle.ds_explore.specs.declared.outcomes.Finding.{Finding}
-use Rattle.ds_explore.specs.Judging.{IsFound, IsPart, texts_of}
+use Rattle.ds_explore.specs.Judging.{ComesTo, IsPart, texts_of}
+use Rattle.ds_explore.specs.Starts.{IsEnd}
+use Rattle.ds_explore.specs.Whole.{Explores}
 use Rattle.ds_explore.specs.Lines.{IsLines, no_line, one_line_more, line_text, GoesOn}
-use Rattle.ds_explore.specs.Explored.{wrong_text, wrong_texts, joined, key_text, IsBlock, IsOutcome, AreOutcomes, one_outcome, one_outcome_more, orders_joined, figures_text, endless_text, WritesAll, Explores, end_of, end_short}
+use Rattle.ds_explore.specs.Explored.{wrong_text, wrong_texts, joined, key_text, IsBlock, IsOutcome, AreOutcomes, one_outcome, one_outcome_more, orders_joined, end_short}
 
 -- a reader over a script that has ended gave all of it
 gave_all : (limit : ℕ) (script : List ℕ) (after : Option (List ℕ)) (ended failed : Bool) (bytes : List ℕ) (end : InputEnd)
@@ -43,17 +47,11 @@ finishes_of limit script after ended failed bytes out short consumed (inr unread
 
 -- ---- ends
 
--- all outcomes are written
-pub explores_all : (script out : List ℕ) (cut wrong : Bool) → WritesAll script wrong out → Explores script out (end_of cut wrong)
-explores_all script out true wrong h = (wrong, h)
-explores_all script out false true h = h
-explores_all script out false false h = h
-
 -- nothing is written of a script that does not end
-pub explores_none : (script : List ℕ) (short : Short) → FallsShort true script (2 ^ 64 - 1) short → Explores script [] (end_short short)
-explores_none script (shorts.Fault line kind) h = (refl, h)
-explores_none script shorts.Ended h = refl
-explores_none script shorts.NoMemory h = refl
+pub explores_none : (script : List ℕ) (options : Options) (short : Short) → MeetsFault true script (2 ^ 64 - 1) short → Explores script options [] (end_short short)
+explores_none script options (shorts.Fault line kind) h = (refl, h)
+explores_none script options shorts.Ended h = refl
+explores_none script options shorts.NoMemory h = refl
 
 -- ---- texts, line by line
 
@@ -94,56 +92,41 @@ joined_at texts i t text new low at is e =
 -- ---- outcomes
 
 -- the outcome with this number, by the text of its script
-pub outcome_of : (shape : Shape) (script longer given : List ℕ) (judge : Judge) (found : Finding) (at orders : ℕ) (flawed : Bool) (key text : List ℕ)
-    → IsFound judge found → key ≡ key_text found → GoesOn shape script longer → given ≡ longer → IsBlock (at + 1) orders given found flawed text
-    → IsOutcome script judge (suc at) orders flawed key text
-outcome_of shape script longer given judge found at orders flawed key text judged key_is goes is block = record {
+pub outcome_of : (shape : Shape) (script longer given : List ℕ) (start : Start) (x : Position) (crashed : Bool) (found : Finding) (at orders : ℕ) (flawed : Bool) (key text : List ℕ)
+    → shape ≡ start.first.world.sheet.layout.shape → IsEnd start x crashed → ComesTo start.judge x crashed found → key ≡ key_text found → GoesOn shape script longer → given ≡ longer → IsBlock (at + 1) orders given found flawed text
+    → IsOutcome script start (suc at) orders flawed key text
+outcome_of shape script longer given start x crashed found at orders flawed key text shape_is end comes key_is goes is block = record {
+  position = x;
+  crashed = crashed;
+  end = end;
   found = found;
-  judged = judged;
+  comes = comes;
   key_is = key_is;
-  shape = shape;
   longer = longer;
-  goes_on = goes;
+  goes_on = subst (λ (s : Shape). GoesOn s script longer) shape_is goes;
   block = subst (λ (n : ℕ). IsBlock n orders longer found flawed text) (add-one at) (subst (λ (s : List ℕ). IsBlock (at + 1) orders s found flawed text) is block);
 }
 
 -- the first outcome
-pub outcomes_first : (script : List ℕ) (judge : Judge) (orders : ℕ) (flawed : Bool) (key : Vec ℕ) (keys : List (Vec ℕ)) (text : List ℕ) → keys ≡ key ∷ [] → IsOutcome script judge 1 orders flawed key.items text
-    → AreOutcomes script judge 1 orders flawed (texts_of keys) text
-outcomes_first script judge orders flawed key keys text is outcome =
-    subst (λ (ks : List (Vec ℕ)). AreOutcomes script judge 1 orders flawed (texts_of ks) text) (sym is) (one_outcome orders flawed key.items text outcome)
+pub outcomes_first : (script : List ℕ) (start : Start) (orders : ℕ) (flawed : Bool) (key : Vec ℕ) (keys : List (Vec ℕ)) (text : List ℕ) → keys ≡ key ∷ [] → IsOutcome script start 1 orders flawed key.items text
+    → AreOutcomes script start 1 orders flawed (texts_of keys) text
+outcomes_first script start orders flawed key keys text is outcome =
+    subst (λ (ks : List (Vec ℕ)). AreOutcomes script start 1 orders flawed (texts_of ks) text) (sym is) (one_outcome orders flawed key.items text outcome)
 
 -- the texts of one more
 pub texts_push : (texts more : List (Vec ℕ)) (text : Vec ℕ) → more ≡ texts ++ text ∷ [] → texts_of texts ++ text.items ∷ [] ≡ texts_of more
 texts_push texts more text is = sym (ap (λ (ts : List (Vec ℕ)). texts_of ts) is ∙ map-append (λ (v : Vec ℕ). v.items) texts (text ∷ []))
 
 -- one outcome more after the others
-pub outcomes_more : (script : List ℕ) (judge : Judge) (count orders more sum : ℕ) (wrong flawed : Bool) (keys : List (List ℕ)) (key out text new : List ℕ) → AreOutcomes script judge (suc count) orders wrong keys out
-    → IsOutcome script judge (suc (count + 1)) more flawed key text → All (λ other. other ≡ key → ⊥) keys
-    → sum ≡ orders_joined orders more → new ≡ out ++ text → AreOutcomes script judge (suc (count + 1)) sum (wrong || flawed) (keys ++ key ∷ []) new
-outcomes_more script judge count orders more sum wrong flawed keys key out text new before outcome fresh is e =
-    let numbered = subst (λ (n : ℕ). IsOutcome script judge (suc n) more flawed key text) (add-one count) outcome in
-    subst (λ (t : List ℕ). AreOutcomes script judge (suc (count + 1)) sum (wrong || flawed) (keys ++ key ∷ []) t) (sym e)
-    (subst (λ (n : ℕ). AreOutcomes script judge (suc (count + 1)) n (wrong || flawed) (keys ++ key ∷ []) (out ++ text)) (sym is)
-    (subst (λ (n : ℕ). AreOutcomes script judge (suc n) (orders_joined orders more) (wrong || flawed) (keys ++ key ∷ []) (out ++ text)) (sym (add-one count))
+pub outcomes_more : (script : List ℕ) (start : Start) (count orders more sum : ℕ) (wrong flawed : Bool) (keys : List (List ℕ)) (key out text new : List ℕ) → AreOutcomes script start (suc count) orders wrong keys out
+    → IsOutcome script start (suc (count + 1)) more flawed key text → All (λ other. other ≡ key → ⊥) keys
+    → sum ≡ orders_joined orders more → new ≡ out ++ text → AreOutcomes script start (suc (count + 1)) sum (wrong || flawed) (keys ++ key ∷ []) new
+outcomes_more script start count orders more sum wrong flawed keys key out text new before outcome fresh is e =
+    let numbered = subst (λ (n : ℕ). IsOutcome script start (suc n) more flawed key text) (add-one count) outcome in
+    subst (λ (t : List ℕ). AreOutcomes script start (suc (count + 1)) sum (wrong || flawed) (keys ++ key ∷ []) t) (sym e)
+    (subst (λ (n : ℕ). AreOutcomes script start (suc (count + 1)) n (wrong || flawed) (keys ++ key ∷ []) (out ++ text)) (sym is)
+    (subst (λ (n : ℕ). AreOutcomes script start (suc n) (orders_joined orders more) (wrong || flawed) (keys ++ key ∷ []) (out ++ text)) (sym (add-one count))
     (one_outcome_more (suc count) orders more wrong flawed keys key out text before numbered fresh)))
-
--- all that is written, by its head and its outcomes
-pub written_of : (script : List ℕ) (judge : Judge) (keys : List (List ℕ)) (head text out : List ℕ) (states orders more : ℕ) (endless flawed : Bool) → head ≡ figures_text states orders ++ endless_text endless
-    → AreOutcomes script judge (suc more) orders flawed keys text → out ≡ head ++ text → WritesAll script (endless || flawed) out
-written_of script judge keys head text out states orders more endless flawed is outcomes e = record {
-  states = states;
-  orders = orders;
-  endless = endless;
-  flawed = flawed;
-  more = more;
-  judge = judge;
-  keys = keys;
-  text = text;
-  outcomes = outcomes;
-  is_wrong = refl;
-  is = e ∙ ap (λ (h : List ℕ). h ++ text) is;
-}
 
 -- ---- parts of texts
 

@@ -1,20 +1,19 @@
 -- What an exploration writes.
-use Rattle.std.specs.Prelude.{ℕ, suc, ◌+◌, ◌≡◌, ◌<◌, ◌-◌, ◌^◌, ◌||◌, ◌⊎◌, min, All, Bool, true, false, List, [], ◌∷◌, ◌++◌, length, codes}
+use Rattle.std.specs.Prelude.{ℕ, suc, ◌+◌, ◌≡◌, ◌-◌, ◌^◌, ◌||◌, ◌⊎◌, min, All, Bool, true, false, List, [], ◌∷◌, ◌++◌, length, codes}
 use Rattle.std.specs.Fmt.{decimal}
-use Rattle.ds_formula.specs.Limits.{INPUT_MOST}
-use Rattle.ds_formula.specs.declared.cells.Shape.{Shape}
 use Rattle.ds_script.specs.Script.{Finishes}
 use Rattle.ds_script_io.specs.ScriptEndings.{name_of_fault}
-use Rattle.ds_script_stops.specs.StopBlocks.{BreaksBefore}
 use Rattle.ds_script_stops.specs.declared.reach.Short.{Short}
 use Rattle.ds_script_stops.specs.declared.reach.Short.TheVariants as shorts
 use Rattle.ds_explore.specs.declared.flaw.Flaw.{Flaw}
 use Rattle.ds_explore.specs.declared.flaw.Flaw.TheVariants as flaw
 use Rattle.ds_explore.specs.declared.explore.ExploreEnd.{ExploreEnd}
 use Rattle.ds_explore.specs.declared.explore.ExploreEnd.TheVariants as ends
-use Rattle.ds_explore.specs.declared.judge.Judge.{Judge}
+use Rattle.ds_explore.specs.declared.search.Start.{Start}
+use Rattle.ds_explore_state.specs.declared.position.Position.{Position}
 use Rattle.ds_explore.specs.declared.outcomes.Finding.{Finding}
-use Rattle.ds_explore.specs.Judging.{Answers, IsFound, texts_of}
+use Rattle.ds_explore.specs.Judging.{Answers, ComesTo, texts_of}
+use Rattle.ds_explore.specs.Starts.{IsEnd}
 use Rattle.ds_explore.specs.Lines.{GoesOn}
 
 -- ---- an outcome
@@ -84,15 +83,17 @@ pub record IsBlock (number orders : ℕ) (script : List ℕ) (found : Finding) (
   pub flawed_is : flawed ≡ is_wrong flaws
   pub is : text ≡ outcome_text number orders (wrong_texts flaws) script answers
 
--- the outcome with this number, to which n orders lead: what one of them came to, by the judge; and a script that goes on
+-- the outcome with this number, to which n orders lead: what one of them comes to, by the judge; and a script that goes on
 -- after the one that was given, and ends. What is written is what is wrong, that script, and what it is answered
-pub record IsOutcome (script : List ℕ) (judge : Judge) (number orders : ℕ) (flawed : Bool) (key text : List ℕ) : Type 0 where
+pub record IsOutcome (script : List ℕ) (start : Start) (number orders : ℕ) (flawed : Bool) (key text : List ℕ) : Type 0 where
+  pub position : Position
+  pub crashed : Bool
+  pub end : IsEnd start position crashed
   pub found : Finding
-  pub judged : IsFound judge found
+  pub comes : ComesTo start.judge position crashed found
   pub key_is : key ≡ key_text found
-  pub shape : Shape
   pub longer : List ℕ
-  pub goes_on : GoesOn shape script longer
+  pub goes_on : GoesOn start.first.world.sheet.layout.shape script longer
   pub block : IsBlock number orders longer found flawed text
 
 -- the orders of all, one outcome more; they are not counted beyond 2^128 - 1
@@ -101,11 +102,11 @@ orders_joined orders more = min (orders + more) (2 ^ 128 - 1)
 
 -- n outcomes, one after the other, from number 1; how many orders lead to them, whether something is wrong with one, and
 -- what distinguishes each from the others
-pub data AreOutcomes (script : List ℕ) (judge : Judge) : ℕ → ℕ → Bool → List (List ℕ) → List ℕ → Type 0 where
-  one_outcome : (orders : ℕ) (flawed : Bool) (key text : List ℕ) → IsOutcome script judge 1 orders flawed key text → AreOutcomes script judge 1 orders flawed (key ∷ []) text
-  one_outcome_more : (count orders more : ℕ) (wrong flawed : Bool) (keys : List (List ℕ)) (key out text : List ℕ) → AreOutcomes script judge count orders wrong keys out
-      → IsOutcome script judge (suc count) more flawed key text → All (λ other. other ≡ key → ⊥) keys
-      → AreOutcomes script judge (suc count) (orders_joined orders more) (wrong || flawed) (keys ++ key ∷ []) (out ++ text)
+pub data AreOutcomes (script : List ℕ) (start : Start) : ℕ → ℕ → Bool → List (List ℕ) → List ℕ → Type 0 where
+  one_outcome : (orders : ℕ) (flawed : Bool) (key text : List ℕ) → IsOutcome script start 1 orders flawed key text → AreOutcomes script start 1 orders flawed (key ∷ []) text
+  one_outcome_more : (count orders more : ℕ) (wrong flawed : Bool) (keys : List (List ℕ)) (key out text : List ℕ) → AreOutcomes script start count orders wrong keys out
+      → IsOutcome script start (suc count) more flawed key text → All (λ other. other ≡ key → ⊥) keys
+      → AreOutcomes script start (suc count) (orders_joined orders more) (wrong || flawed) (keys ++ key ∷ []) (out ++ text)
 
 -- ---- all that is written
 
@@ -118,21 +119,6 @@ abbrev pub endless_text : Bool → List ℕ
 endless_text true = codes "wrong: an order comes to a state again\n\n"
 endless_text false = codes "\n"
 
--- the figures, and at least one outcome after them, no two the same; whether something is wrong. There are as many orders
--- as lead to the outcomes
-pub record WritesAll (script : List ℕ) (wrong : Bool) (out : List ℕ) : Type 0 where
-  pub states : ℕ
-  pub orders : ℕ
-  pub endless : Bool
-  pub flawed : Bool
-  pub more : ℕ
-  pub judge : Judge
-  pub keys : List (List ℕ)
-  pub text : List ℕ
-  pub outcomes : AreOutcomes script judge (suc more) orders flawed keys text
-  pub is_wrong : wrong ≡ (endless || flawed)
-  pub is : out ≡ (figures_text states orders ++ endless_text endless) ++ text
-
 -- how an exploration ends whose outcomes are written: by whether there are more states, and whether something is wrong
 abbrev pub end_of : Bool → Bool → ExploreEnd
 end_of true wrong = ends.TooManyStates
@@ -144,16 +130,6 @@ abbrev pub end_short : Short → ExploreEnd
 end_short (shorts.Fault line kind) = ends.Fault line kind
 end_short shorts.Ended = ends.NoMemory
 end_short shorts.NoMemory = ends.NoMemory
-
--- what is written for a script, by how its exploration ends
-abbrev pub Explores : List ℕ → List ℕ → ExploreEnd → Type 0
-Explores script out ends.Ended = WritesAll script false out
-Explores script out ends.Wrong = WritesAll script true out
-Explores script out ends.TooManyStates = (wrong : Bool) × WritesAll script wrong out
-Explores script out (ends.Fault line kind) = (out ≡ []) × BreaksBefore true script (2 ^ 64 - 1) line kind
-Explores script out ends.TooLong = (out ≡ []) × (INPUT_MOST < length script)
-Explores script out ends.NoMemory = out ≡ []
-Explores script out ends.WriteFailed = Unit {0}
 
 -- the text of how an exploration ended
 abbrev pub end_text : ExploreEnd → List ℕ

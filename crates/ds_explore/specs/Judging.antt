@@ -1,10 +1,15 @@
 -- What is wrong with what an order came to, by what was answered and reported.
-use Rattle.std.specs.Prelude.{ℕ, zero, suc, ◌≡◌, ◌==◌, ◌&&◌, Bool, true, false, List, [], ◌∷◌, ◌++◌, Option, Some, None, Result, Ok, Err, All, drop, length, map, slice_get, if◌then◌else◌, not, nat_eq}
+use Rattle.std.specs.Prelude.{ℕ, zero, suc, ◌≡◌, ◌==◌, ◌&&◌, ◌||◌, Bool, true, false, List, [], ◌∷◌, ◌++◌, Option, Some, None, Result, Ok, Err, All, drop, length, map, slice_get, if◌then◌else◌, not, nat_eq}
 use Rattle.std.specs.List.{starts_with, ends_with}
+use Rattle.std.specs.Str.{bytes_eq}
 use Rattle.std.specs.Global.{Vec}
+use Rattle.ds_layout.specs.Places.{cells_of}
+use Rattle.ds_layout.specs.SheetMemory.{memory}
+use Rattle.ds_state.specs.Shown.{text_at}
 use Rattle.ds_state.specs.Value.{WorldValue}
 use Rattle.ds_state.specs.declared.answer.Answer.{Answer}
 use Rattle.ds_state.specs.declared.answer.Answer.TheVariants as answers
+use Rattle.ds_state.specs.declared.answer.Answer.TheVariants.{Recovery, Show}
 use Rattle.ds_state.specs.declared.answer.EditEnd.TheVariants as edit_ends
 use Rattle.ds_state.specs.declared.recovery.LastEdit.{LastEdit}
 use Rattle.ds_state.specs.declared.recovery.RecoveryEnd.{RecoveryEnd}
@@ -13,12 +18,20 @@ use Rattle.ds_state.specs.declared.refusal.Refusal.{Refusal}
 use Rattle.ds_state.specs.declared.show.ShowEnd.{ShowEnd}
 use Rattle.ds_state.specs.declared.show.ShowEnd.TheVariants.{Settled}
 use Rattle.ds_core.specs.Ends.{Kind, recoveries, reports}
+use Rattle.ds_core.specs.Takes.{Fits}
+use Rattle.ds_core.specs.declared.event.Event.TheVariants as events
 use Rattle.ds_core.specs.declared.reply.Reply.{Reply}
 use Rattle.ds_core.specs.declared.reply.Reply.TheVariants as replies
 use Rattle.ds_calls.specs.declared.settle.SettleEnd.{SettleEnd}
 use Rattle.ds_calls.specs.declared.settle.SettleEnd.TheVariants.{Left}
+use Rattle.ds_calls.specs.declared.settle.SettleStage.TheVariants.{Ends}
+use Rattle.ds_calls.specs.Settling.{Settling}
+use Rattle.ds_calls.specs.Whole.{IsWhole}
 use Rattle.ds_script.specs.Doing.{end_text}
 use Rattle.ds_script.specs.ScriptTexts.{reply_text}
+use Rattle.ds_explore_state.specs.declared.position.Position.{Position}
+use Rattle.ds_explore_state.specs.Orders.{seats_of}
+use Rattle.ds_explore_state.specs.States.{PlainSeat}
 use Rattle.ds_explore.specs.declared.ends.OutcomeEnding.{OutcomeEnding}
 use Rattle.ds_explore.specs.declared.flaw.Flaw.{Flaw}
 use Rattle.ds_explore.specs.declared.flaw.Flaw.TheVariants as flaw
@@ -33,30 +46,34 @@ abbrev pub replied : {E : Type 0} → Kind E → Result E Refusal → Reply
 replied kind (Ok end) = replies.Answered (kind.answer end)
 replied kind (Err why) = replies.Refused why
 
--- the text is what the recoveries reported, one after the other: that of process 0 first
-pub data AreRecoveries : List (Result RecoveryEnd Refusal) → List ℕ → Type 0 where
-  no_recovery : AreRecoveries [] []
-  one_recovery_more : (resolved : List (Result RecoveryEnd Refusal)) (text : List ℕ) (w : WorldValue) (came : Result RecoveryEnd Refusal)
-      → AreRecoveries resolved text → AreRecoveries (resolved ++ came ∷ []) (text ++ reply_text w (length resolved) (replied recoveries came))
+-- the processes recover one after the other, process 0 first; this is what they reported, and its text
+pub data AreRecoveries (first : WorldValue) : List (Result RecoveryEnd Refusal) → List ℕ → WorldValue → Type 0 where
+  no_recovery : AreRecoveries first [] [] first
+  one_recovery_more : (resolved : List (Result RecoveryEnd Refusal)) (text : List ℕ) (old new : WorldValue) (came : Result RecoveryEnd Refusal)
+      → AreRecoveries first resolved text old → IsWhole Recovery (length resolved) (events.BeginRecover (length resolved)) old came new
+      → AreRecoveries first (resolved ++ came ∷ []) (text ++ reply_text new (length resolved) (replied recoveries came)) new
 
--- the text is what was reported after an order: by the recoveries, the settle and the report
-pub record ReportsEnding (ending : OutcomeEnding) (text : List ℕ) : Type 0 where
+-- from this world on all processes recover, then process 0 settles, and reports; the text is what was reported
+pub record ReportsEnding (begun : WorldValue) (ending : OutcomeEnding) (text : List ℕ) (reported : WorldValue) : Type 0 where
   pub resolved : List ℕ
-  pub recovered : AreRecoveries ending.resolved.items resolved
+  pub all : length ending.resolved.items ≡ begun.sheet.layout.processes
+  pub recovered : WorldValue
+  pub recovers : AreRecoveries begun ending.resolved.items resolved recovered
   pub settled : WorldValue
-  pub reported : WorldValue
+  pub settles : Settling 0 recovered (Ends ending.left) settled
+  pub reports_whole : IsWhole Show 0 (events.BeginShow 0) settled ending.reported reported
   pub is : text ≡ resolved ++ (end_text settled 0 ending.left ++ reply_text reported 0 (replied reports ending.reported))
 
--- the text is that of what the process's call was answered, if it was
-abbrev pub IsAnswerText : ℕ → Option Answer → List ℕ → Type 0
-IsAnswerText p (Some answer) text = (w : WorldValue) × (text ≡ reply_text w p (replies.Answered answer))
-IsAnswerText p None text = Unit {0}
+-- the text of what the process's call was answered, in this world; else this other one
+abbrev pub answer_text : WorldValue → ℕ → Option Answer → List ℕ → List ℕ
+answer_text w p (Some answer) other = reply_text w p (replies.Answered answer)
+answer_text w p None other = other
 
--- the texts are those of the answers: that of process 0 first
-pub data AreAnswers : List (Option Answer) → List (List ℕ) → Type 0 where
-  no_answer : AreAnswers [] []
-  one_answer_more : (given : List (Option Answer)) (texts : List (List ℕ)) (answer : Option Answer) (text : List ℕ)
-      → AreAnswers given texts → IsAnswerText (length given) answer text → AreAnswers (given ++ answer ∷ []) (texts ++ text ∷ [])
+-- what the processes were answered, that of process 0 first, and its texts: where a call was not answered, that of its stop
+pub data AreAnswers (w : WorldValue) : List PlainSeat → List (Option Answer) → List (List ℕ) → Type 0 where
+  no_answer : AreAnswers w [] [] []
+  one_answer_more : (seats : List PlainSeat) (given : List (Option Answer)) (texts : List (List ℕ)) (seat : PlainSeat)
+      → AreAnswers w seats given texts → AreAnswers w (seats ++ seat ∷ []) (given ++ seat.answer ∷ []) (texts ++ answer_text w (length given) seat.answer seat.text ∷ [])
 
 -- the part stands in the text
 abbrev pub IsPart : List ℕ → List ℕ → Type 0
@@ -171,10 +188,58 @@ abbrev pub settle_flaw : SettleEnd → Option Flaw
 settle_flaw (Left zero) = None
 settle_flaw _ = Some flaw.NotClean
 
--- the flaw is one of a cell's text
-abbrev pub IsOfText : Flaw → Type 0
-IsOfText (flaw.TextOfNone cell) = Unit {0}
-IsOfText _ = ⊥
+-- the edit that was asked for, if one was, is of this cell, and done
+abbrev pub is_done_in : Option Asked → ℕ → Option (Result RecoveryEnd Refusal) → Bool
+is_done_in (Some asked) cell resolved = (asked.cell == cell) && is_done asked resolved
+is_done_in None cell resolved = false
+
+-- the edit that was asked for, if one was, has this text
+abbrev pub has_text : Option Asked → List ℕ → Bool
+has_text (Some asked) text = bytes_eq asked.text.items text
+has_text None text = false
+
+-- it is so of a number below n
+abbrev pub any_below : (ℕ → Bool) → ℕ → Bool
+any_below f zero = false
+any_below f (suc n) = any_below f n || f n
+
+-- the edit of the process is one of this cell, and done
+abbrev pub is_done_at : Judge → OutcomeEnding → ℕ → ℕ → Bool
+is_done_at judge ending cell p = is_done_in (edit_at judge p) cell (recovery_at ending p)
+
+-- the same, and it has this text
+abbrev pub is_done_with : Judge → OutcomeEnding → ℕ → List ℕ → ℕ → Bool
+is_done_with judge ending cell text p = is_done_at judge ending cell p && has_text (edit_at judge p) text
+
+-- there is a text, and it is this one
+abbrev pub is_text : Option (Vec ℕ) → List ℕ → Bool
+is_text (Some found) text = bytes_eq found.items text
+is_text None text = false
+
+-- the cell may hold this text: of an edit of the cell that is done, where one is; else that which it had where the script
+-- ends, or had left after a crash there
+abbrev pub may_hold : Judge → OutcomeEnding → ℕ → List ℕ → Bool
+may_hold judge ending cell text =
+    if any_below (is_done_at judge ending cell) (length judge.asked.items) then any_below (is_done_with judge ending cell text) (length judge.asked.items)
+    else (is_text (slice_get judge.texts.items cell) text || is_text (slice_get judge.crashed.items cell) text)
+
+-- what is wrong with the text of the cell, if there is one, and something is
+abbrev pub flaw_of_text : Judge → OutcomeEnding → ℕ → Option (Vec ℕ) → Option Flaw
+flaw_of_text judge ending cell (Some text) = if may_hold judge ending cell text.items then None else Some (flaw.TextOfNone cell)
+flaw_of_text judge ending cell None = None
+
+-- the same, of the cell with this number
+abbrev pub text_flaw : Judge → OutcomeEnding → List (Vec ℕ) → ℕ → Option Flaw
+text_flaw judge ending texts cell = flaw_of_text judge ending cell (slice_get texts cell)
+
+-- these of the numbers below n, in their order
+abbrev pub texts_below : (ℕ → List ℕ) → ℕ → List (List ℕ)
+texts_below f zero = []
+texts_below f (suc n) = texts_below f n ++ f n ∷ []
+
+-- the text of each cell of the world, as processes see it
+abbrev pub texts_in : WorldValue → List (List ℕ)
+texts_in w = texts_below (text_at w.sheet.layout (memory w.sheet)) (cells_of w.sheet.layout)
 
 -- the flaw is one of a cell's value
 abbrev pub IsOfValue : Flaw → Type 0
@@ -190,22 +255,37 @@ report_flaws _ values = flaw.NotSettled ∷ []
 abbrev pub Adds : (Flaw → Type 0) → List Flaw → List Flaw → Type 0
 Adds P before after = (more : List Flaw) × All P more × (after ≡ before ++ more)
 
--- what the judge finds: the flaws of each process, some of texts, those of the settle, and those of the report
-pub record IsJudged (judge : Judge) (ending : OutcomeEnding) (flaws : List Flaw) : Type 0 where
-  pub texts : List Flaw
-  pub of_texts : All IsOfText texts
-  pub values : List Flaw
-  pub of_values : All IsOfValue values
-  pub is : flaws ≡ ((flaws_below (process_flaw judge ending) (length ending.answers.items) ++ texts) ++ listed (settle_flaw ending.left)) ++ report_flaws ending.reported values
-
--- the texts of answers
+-- texts
 abbrev pub texts_of : List (Vec ℕ) → List (List ℕ)
 texts_of texts = map (λ text. text.items) texts
 
--- what was found is what was answered and reported of an order, as the judge finds it
-pub record IsFound (judge : Judge) (found : Finding) : Type 0 where
+-- what the judge finds, where the report was made in this world: the flaws of each process, those of the text of each
+-- cell, those of the settle, and those of the report
+pub record IsJudged (judge : Judge) (w : WorldValue) (ending : OutcomeEnding) (flaws : List Flaw) : Type 0 where
+  pub texts : List (Vec ℕ)
+  pub shown : texts_of texts ≡ texts_in w
+  pub values : List Flaw
+  pub of_values : All IsOfValue values
+  pub is : flaws ≡ ((flaws_below (process_flaw judge ending) (length ending.answers.items) ++ flaws_below (text_flaw judge ending texts) (length texts)) ++ listed (settle_flaw ending.left)) ++ report_flaws ending.reported values
+
+-- an order ends in the first of these worlds with a crash, which leads to the second one; or without, in that
+abbrev pub EndsIn : Bool → WorldValue → WorldValue → Type 0
+EndsIn true w begun = (reply : Reply) × Fits w events.Crash reply begun
+EndsIn false w begun = begun ≡ w
+
+-- what is found after an order that leaves this world and has left its processes so: what they were answered, what is
+-- reported, and what the judge finds
+pub record IsFound (judge : Judge) (begun : WorldValue) (seats : List PlainSeat) (crashed : Bool) (found : Finding) : Type 0 where
   pub ending : OutcomeEnding
-  pub judged : IsJudged judge ending found.flaws.items
-  pub answered : AreAnswers ending.answers.items (texts_of found.answers.items)
-  pub resolved : ReportsEnding ending found.tail.items
-  pub crashed : found.crashed ≡ ending.crashed
+  pub reported : WorldValue
+  pub judged : IsJudged judge reported ending found.flaws.items
+  pub answered : AreAnswers begun seats ending.answers.items (texts_of found.answers.items)
+  pub resolved : ReportsEnding begun ending found.tail.items reported
+  pub crashed_is : ending.crashed ≡ crashed
+  pub crashed_found : found.crashed ≡ crashed
+
+-- what an order comes to that ends at this position, with a crash there or without one
+pub record ComesTo (judge : Judge) (x : Position) (crashed : Bool) (found : Finding) : Type 0 where
+  pub begun : WorldValue
+  pub ends : EndsIn crashed x.world begun
+  pub found_so : IsFound judge begun (seats_of x) crashed found

@@ -1,4 +1,5 @@
 pub mod Lines
 pub mod Judging
+pub mod Starts
 pub mod Explored
 pub mod Whole

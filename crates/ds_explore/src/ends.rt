@@ -1,14 +1,17 @@
 //! What is reported after an order: every process recovers, process 0 settles and reports.
 
-ghost use Rattle.std.specs.Prelude.{◌≡◌, IfOk};
-ghost use Rattle.ds_explore.specs.Judging.{AreAnswers, AreRecoveries, IsAnswerText, ReportsEnding, replied, texts_of};
+ghost use Rattle.std.specs.Prelude.{◌≡◌, ◌<◌, IfOk, length, map};
+ghost use Rattle.ds_explore_state.specs.States.{seat_of};
+ghost use Rattle.ds_explore.specs.Judging.{AreAnswers, AreRecoveries, EndsIn, ReportsEnding, answer_text, replied, texts_of};
 
 use ds_calls::call::{whole_recovery, whole_show};
 use ds_calls::settle::{SettleEnd, settle};
 use ds_core::ends::CallEnd;
+use ds_core::event::Event;
 use ds_core::reply::Reply;
+use ds_core::take::take;
 use ds_eval::value::Value;
-use ds_explore_state::position::Position;
+use ds_explore_state::position::ProcessState;
 use ds_script::texts::{end_bytes, reply_bytes};
 use ds_state::answer::Answer;
 use ds_state::recovery::RecoveryEnd;
@@ -51,7 +54,7 @@ fn replied<E: CallEnd>(came: Result<E, Refusal>) -> Reply
     }
 }
 
-// The text of what a process's call was answered, in the world that it leaves; else this one.
+// The text of what a process's call was answered, in this world; else this one.
 fn answer_text(
     alloc: Global,
     world: &World,
@@ -59,7 +62,7 @@ fn answer_text(
     answer: Option<Answer>,
     other: &[u8],
 ) -> Result<Vec<u8>, AllocError>
-    ensures { IfOk result (λ text. IsAnswerText process answer text.items) }
+    ensures { IfOk result (λ text. text.items ≡ answer_text world.now process answer other.now) }
 {
     match answer {
         Some(answer) => reply_bytes(alloc, world, process, Reply::Answered(answer)),
@@ -67,20 +70,34 @@ fn answer_text(
     }
 }
 
-/// What the calls of an order were answered that ends here. An error means that an allocation failed.
-pub(crate) fn what_was_said(alloc: Global, position: &Position) -> Result<Said, AllocError>
-    ensures { IfOk result (λ said. AreAnswers said.answers.items (texts_of said.texts.items)) }
+/// What the calls of an order were answered that ends in this world, and has left its processes so. An error means that
+/// an allocation failed.
+pub(crate) fn what_was_said(
+    alloc: Global,
+    world: &World,
+    seats: &[ProcessState],
+) -> Result<Said, AllocError>
+    ensures { IfOk result (λ said. AreAnswers world.now (map seat_of seats.now) said.answers.items (texts_of said.texts.items)) }
 {
     let mut answers = Vec::new(alloc);
     let mut texts = Vec::new(alloc);
-    for process in 0..position.seats.len() {
-        let seat = &position.seats[process];
+    for process in 0..seats.len() {
+        let seat = &seats[process];
         let answer = seat.answer;
-        let text = answer_text(alloc, &position.world, process, answer, &seat.text)?;
+        let text = answer_text(alloc, world, process, answer, &seat.text)?;
         answers.push(answer)?;
         texts.push(text)?;
     }
     Ok(Said { answers, texts })
+}
+
+/// An order ends in this world, with a crash or without one.
+pub(crate) fn end_order(alloc: Global, world: &mut World, crashed: bool)
+    ensures { EndsIn crashed world.old world.new }
+{
+    if crashed {
+        let _crashed = take(alloc, world, &Event::Crash);
+    }
 }
 
 // What recoveries came to, and their texts.
@@ -92,13 +109,14 @@ struct Recovered {
 
 // Each process recovers, in their order.
 fn recover(alloc: Global, world: &mut World) -> Result<Recovered, AllocError>
-    ensures { IfOk result (λ recovered. AreRecoveries recovered.resolved.items recovered.text.items) }
+    ensures recoveries { IfOk result (λ recovered. AreRecoveries world.old recovered.resolved.items recovered.text.items world.new) }
+    ensures all { IfOk result (λ recovered. length recovered.resolved.items ≡ world.old.sheet.layout.processes) }
 {
     let mut resolved = Vec::new(alloc);
     let mut text = Vec::new(alloc);
     for process in 0..world.words.layout().processes {
         if process >= world.words.layout().processes {
-            return Ok(Recovered { resolved, text });
+            return Err(AllocError);
         }
         let came = whole_recovery(alloc, world, process);
         let line = reply_bytes(alloc, world, process, replied(came))?;
@@ -116,7 +134,7 @@ pub(crate) fn end(
     answers: Vec<Option<Answer>>,
     crashed: bool,
 ) -> Result<(OutcomeEnding, Vec<u8>), AllocError>
-    ensures reports { IfOk result (λ end. ReportsEnding end.0 end.1.items) }
+    ensures reports { IfOk result (λ end. ReportsEnding world.old end.0 end.1.items world.new) }
     ensures answers { IfOk result (λ end. end.0.answers ≡ answers) }
     ensures crashed { IfOk result (λ end. end.0.crashed ≡ crashed) }
 {

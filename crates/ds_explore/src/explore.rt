@@ -3,9 +3,11 @@
 ghost use Rattle.std.specs.Prelude.{◌≡◌, ◌≢◌, ◌++◌, ◌∷◌, ◌||◌, ◌<◌, ◌^◌, ◌-◌, ◌⊎◌, Bool, true, ℕ, suc, List, [], All, IfOk, IfErr, IsFalse, IsTrue, length};
 ghost use Rattle.std.specs.Io.KnownBytes.{Appends};
 ghost use Rattle.ds_script_io.specs.Streams.{writer_of, is_flushed, write_failed};
-ghost use Rattle.ds_explore.specs.Explored.{AreFlaws, IsBlock, IsOutcome, AreOutcomes, WritesAll, Explores, heading_text, figures_text, endless_text, end_of, end_short, is_wrong};
+ghost use Rattle.ds_explore.specs.Explored.{AreFlaws, IsBlock, IsOutcome, AreOutcomes, heading_text, figures_text, endless_text, end_of, end_short, is_wrong};
 ghost use Rattle.ds_explore.specs.Judging.{texts_of};
-ghost use Rattle.ds_explore.specs.Whole.{GoesThroughAll, HasAll};
+ghost use Rattle.ds_explore.specs.Starts.{IsStart};
+ghost use Rattle.ds_explore.specs.Whole.{Explores, HasAll};
+ghost use Rattle.ds_explore.specs.declared.options.Options.{Options};
 
 use crate::answers::{answers_to, continued};
 use crate::flaw::{Flaw, wrong_lines};
@@ -39,8 +41,8 @@ pub enum ExploreEnd {
     TooLong,
     /// The writer failed.
     WriteFailed,
-    /// An allocation failed, a script that was found would be too long, two outcomes are the same, or the states that were
-    /// found are not all. Nothing is written.
+    /// An allocation failed, a script that was found would be too long, two outcomes are the same, or the states or the
+    /// outcomes that were found are not all. Nothing is written.
     NoMemory,
 }
 
@@ -94,9 +96,11 @@ struct OutcomeBlock {
     flawed: bool,
 }
 
-// The text of outcomes, how many orders lead to them, at most 2^128 - 1, and whether something is wrong with one.
+// The text of outcomes, their keys, how many orders lead to them, at most 2^128 - 1, and whether something is wrong with
+// one.
 #[derive(Drop)]
 struct Written {
+    keys: Vec<Vec<u8>>,
     text: Vec<u8>,
     orders: u128,
     flawed: bool,
@@ -200,16 +204,16 @@ fn outcome_block(
     crashed: bool,
     at: usize,
 ) -> Result<OutcomeBlock, AllocError>
-    ensures { IfOk result (λ made. IsOutcome script.now start.now.judge (suc at) made.orders made.flawed made.key.items made.text.items) }
+    ensures { IfOk result (λ made. IsOutcome script.now start.now (suc at) made.orders made.flawed made.key.items made.text.items) }
 {
     let orders = found.orders_of(at).count;
     let path = found.path(alloc, at)?;
     let lines = lines_of(alloc, start, &path, crashed)?;
     let longer = continued(alloc, script, start.shape(), &lines)?;
-    let outcome = start.found_by(alloc, &path, crashed)?;
-    let key = outcome.key(alloc)?;
+    let again = start.again(alloc, &path, crashed)?;
+    let key = again.found.key(alloc)?;
     let number = at as u128 + 1;
-    let block = script_block(alloc, number, orders, &outcome, &longer)?;
+    let block = script_block(alloc, number, orders, &again.found, &longer)?;
     Ok(OutcomeBlock {
         key,
         text: block.text,
@@ -237,7 +241,7 @@ fn all_outcomes(
     start: &Start,
     found: &Found,
 ) -> Result<Written, AllocError>
-    ensures { IfOk result (λ made. (more : ℕ) × ((keys : List (List ℕ)) × AreOutcomes script.now start.now.judge (suc more) made.orders made.flawed keys made.text.items)) }
+    ensures { IfOk result (λ made. (more : ℕ) × AreOutcomes script.now start.now (suc more) made.orders made.flawed (texts_of made.keys.items) made.text.items) }
 {
     let outcomes = &found.search.outcomes;
     let first = outcome_block(alloc, script, start, found, outcomes.first.crashed, 0)?;
@@ -257,6 +261,7 @@ fn all_outcomes(
         keys.push(made.key)?;
     }
     Ok(Written {
+        keys,
         text,
         orders,
         flawed,
@@ -296,33 +301,48 @@ fn ending(is_cut: bool, wrong: bool) -> ExploreEnd
     }
 }
 
-// All that is written, and whether something is wrong.
-fn whole(alloc: Global, script: &[u8], start: &Start, found: &Found) -> Result<Block, AllocError>
-    ensures { IfOk result (λ all. WritesAll script.now all.flawed all.text.items) }
-{
-    let outcomes = all_outcomes(alloc, script, start, found)?;
-    let endless = found.search.is_endless;
-    let mut text = figures(alloc, found.search.states(), outcomes.orders, endless)?;
-    text.extend_from_slice(&outcomes.text)?;
-    Ok(Block {
-        text,
-        flawed: endless | outcomes.flawed,
-    })
-}
-
-// Whether the search was cut. An error means that an allocation failed, or that it was not cut, and the states that it found
-// are not all.
-fn is_cut(alloc: Global, start: &Start, search: &Search) -> Result<bool, AllocError>
-    ensures { IfOk result (λ b. IsFalse b → HasAll start.now search.now.found) }
+// Whether the search was cut. An error means that an allocation failed, or that it was not cut, and the states that it
+// found are not all, or the outcomes with these keys are not.
+fn is_cut(
+    alloc: Global,
+    start: &Start,
+    search: &Search,
+    keys: &[Vec<u8>],
+) -> Result<bool, AllocError>
+    ensures { IfOk result (λ b. IsFalse b → HasAll start.now (texts_of keys.now) search.now.found) }
 {
     if search.is_cut {
         return Ok(true);
     }
-    let all = search.has_all(alloc, start)?;
+    let all = search.has_all(alloc, start, keys)?;
     if !all {
         return Err(AllocError);
     }
     Ok(false)
+}
+
+// All that is written, whether something is wrong, and whether the search was cut.
+#[derive(Drop)]
+struct Exploration {
+    text: Vec<u8>,
+    is_wrong: bool,
+    is_cut: bool,
+}
+
+// All that is written.
+fn whole(alloc: Global, script: &[u8], start: &Start, found: &Found) -> Result<Exploration, AllocError>
+    ensures { (options : Options) → IsStart script.now options start.now → IfOk result (λ all. Explores script.now options all.text.items (end_of all.is_cut all.is_wrong)) }
+{
+    let outcomes = all_outcomes(alloc, script, start, found)?;
+    let is_cut = is_cut(alloc, start, &found.search, &outcomes.keys)?;
+    let endless = found.search.is_endless;
+    let mut text = figures(alloc, found.search.states(), outcomes.orders, endless)?;
+    text.extend_from_slice(&outcomes.text)?;
+    Ok(Exploration {
+        text,
+        is_wrong: endless | outcomes.flawed,
+        is_cut,
+    })
 }
 
 // Writes what was found.
@@ -335,18 +355,14 @@ fn write_found<W: Write>(
 ) -> ExploreEnd
     ensures no_failure { result ≢ ExploreEnd.WriteFailed → write_failed writer.new ≡ write_failed writer.old }
     ensures write_failed { result ≡ ExploreEnd.WriteFailed → write_failed writer.new ≡ true }
-    ensures writes { result ≢ ExploreEnd.WriteFailed → (out : List ℕ) × Appends (W.contents (writer_of writer.old)) (W.contents (writer_of writer.new)) out
-        × Explores script.now out result }
-    ensures all { GoesThroughAll start.now.options result }
+    ensures writes { (options : Options) → IsStart script.now options start.now → result ≢ ExploreEnd.WriteFailed
+        → (out : List ℕ) × Appends (W.contents (writer_of writer.old)) (W.contents (writer_of writer.new)) out × Explores script.now options out result }
 {
-    let Ok(is_cut) = is_cut(alloc, start, &found.search) else {
-        return ExploreEnd::NoMemory;
-    };
     let Ok(all) = whole(alloc, script, start, found) else {
         return ExploreEnd::NoMemory;
     };
     match writer.write_all(&all.text) {
-        Ok(()) => ending(is_cut, all.flawed),
+        Ok(()) => ending(all.is_cut, all.is_wrong),
         Err(_) => ExploreEnd::WriteFailed,
     }
 }
@@ -372,8 +388,7 @@ fn explore_all<W: Write, T: Watcher>(
     ensures no_failure { result ≢ ExploreEnd.WriteFailed → write_failed writer.new ≡ write_failed writer.old }
     ensures write_failed { result ≡ ExploreEnd.WriteFailed → write_failed writer.new ≡ true }
     ensures writes { result ≢ ExploreEnd.WriteFailed → (out : List ℕ) × Appends (W.contents (writer_of writer.old)) (W.contents (writer_of writer.new)) out
-        × Explores script.now out result }
-    ensures all { GoesThroughAll options result }
+        × Explores script.now options out result }
 {
     if script.len() > INPUT_LIMIT {
         return ExploreEnd::TooLong;
@@ -398,7 +413,7 @@ fn explore_all<W: Write, T: Watcher>(
 /// States that were met before are not gone through again: a state is its words, the situations and buffers of its
 /// processes, and what their calls were answered. Numbers of orders end at 2^128 - 1. The watcher is shown how many
 /// states there are, at each event that is tried. Where no more states are said to be, it was checked that nothing that
-/// may happen leads out of those that were found, and every order stays with these.
+/// may happen leads out of those that were found, and that what each order comes to is among the outcomes.
 pub fn explore<W: Write, T: Watcher>(
     alloc: Global,
     script: &[u8],
@@ -410,8 +425,7 @@ pub fn explore<W: Write, T: Watcher>(
     ensures write_failed { result ≡ ExploreEnd.WriteFailed → write_failed writer.new ≡ true }
     ensures flushed { is_flushed writer.old ≡ true → result ≢ ExploreEnd.WriteFailed → is_flushed writer.new ≡ true }
     ensures writes { result ≢ ExploreEnd.WriteFailed → (out : List ℕ) × Appends (W.contents (writer_of writer.old)) (W.contents (writer_of writer.new)) out
-        × Explores script.now out result }
-    ensures all { GoesThroughAll options result }
+        × Explores script.now options out result }
 {
     let end = explore_all(alloc, script, options, writer, watcher);
     match writer.flush() {

@@ -1,7 +1,7 @@
 //! Whether an outcome is one that may be.
 
 ghost use Rattle.std.specs.Prelude.{◌≡◌, ◌++◌, All, List, IfOk, IfSome, OnOk, length, option_copied};
-ghost use Rattle.ds_explore.specs.Judging.{Adds, IsJudged, IsOfText, IsOfValue, answer_at, edit_at, flaws_below, is_contradicted, is_done, is_overtaken_by_none, is_refused, is_reported_done, is_reported_otherwise, is_reported_twice, is_undone, process_flaw, report_flaws, same_bool, same_end, settle_flaw, recovery_at};
+ghost use Rattle.ds_explore.specs.Judging.{Adds, IsJudged, IsOfValue, answer_at, any_below, edit_at, flaws_below, has_text, is_contradicted, is_done, is_done_at, is_done_in, is_done_with, is_overtaken_by_none, is_refused, is_reported_done, is_reported_otherwise, is_reported_twice, is_text, is_undone, may_hold, process_flaw, report_flaws, same_bool, same_end, settle_flaw, recovery_at, text_flaw, texts_in, texts_of};
 ghost use Rattle.ds_explore.specs.declared.flaw.Flaw.{Flaw};
 
 use crate::ends::{OutcomeEnding, values};
@@ -43,7 +43,9 @@ pub(crate) struct Judge {
 }
 
 /// The text of each cell.
-fn texts(alloc: Global, world: &World) -> Result<Vec<Vec<u8>>, AllocError> {
+fn texts(alloc: Global, world: &World) -> Result<Vec<Vec<u8>>, AllocError>
+    ensures { IfOk result (λ texts. texts_of texts.items ≡ texts_in world.now) }
+{
     let mut texts = Vec::new(alloc);
     for cell in 0..world.words.layout().cells() {
         texts.push(shown::text(&world.words, alloc, cell)?)?;
@@ -192,6 +194,40 @@ fn is_reported_otherwise(
     }
 }
 
+// Whether the edit that was asked for is one of the cell, and done.
+fn is_done_in(
+    asked: Option<&Asked>,
+    cell: usize,
+    resolved: Option<Result<RecoveryEnd, Refusal>>,
+) -> bool
+    ensures { result ≡ is_done_in (option_copied asked.entry) cell resolved }
+{
+    match asked {
+        Some(asked) => asked.cell == cell && is_done(asked, resolved),
+        None => false,
+    }
+}
+
+// Whether the edit that was asked for has this text.
+fn has_text(asked: Option<&Asked>, text: &[u8]) -> bool
+    ensures { result ≡ has_text (option_copied asked.entry) text.now }
+{
+    match asked {
+        Some(asked) => asked.text.as_slice() == text,
+        None => false,
+    }
+}
+
+// Whether there is a text, and it is this one.
+fn is_text(found: Option<&Vec<u8>>, text: &[u8]) -> bool
+    ensures { result ≡ is_text (option_copied found.entry) text.now }
+{
+    match found {
+        Some(found) => found.as_slice() == text,
+        None => false,
+    }
+}
+
 // What is wrong with how a settle ended.
 fn settle_flaw(left: SettleEnd) -> Option<Flaw>
     ensures { result ≡ settle_flaw left }
@@ -274,43 +310,60 @@ impl Judge {
         Ok(flaws)
     }
 
-    // How many edits of a cell are done, and whether one of them has this text.
-    fn done_at(&self, ending: &OutcomeEnding, cell: usize, text: &[u8]) -> (usize, bool) {
-        let mut count = 0usize;
-        let mut is_among = false;
-        for (process, asked) in self.asked.iter().enumerate() {
-            if let Some(asked) = asked {
-                if asked.cell == cell && is_done(asked, recovery_at(ending, process)) {
-                    count = count.saturating_add(1);
-                    is_among = is_among || asked.text.as_slice() == text;
-                }
-            }
+    // Whether an edit of the cell is done.
+    fn is_any_done(&self, ending: &OutcomeEnding, cell: usize) -> bool
+        ensures { result ≡ any_below (is_done_at self.now ending.now cell) (length self.now.asked.items) }
+    {
+        let mut any = false;
+        for process in 0..self.asked.len() {
+            any |= is_done_in(self.edit(process), cell, recovery_at(ending, process));
         }
-        (count, is_among)
+        any
     }
 
-    // Whether the cell had this text where the script ends, or a crash leaves it there.
-    fn had(&self, cell: usize, text: &[u8]) -> bool {
-        let now = self.texts.get(cell);
-        let crashed = self.crashed.get(cell);
-        now.is_some_and(|t| t.as_slice() == text) || crashed.is_some_and(|t| t.as_slice() == text)
+    // Whether the edit of a process is one of the cell, done, and has this text.
+    fn is_done_with(&self, ending: &OutcomeEnding, cell: usize, text: &[u8], process: usize) -> bool
+        ensures { result ≡ is_done_with self.now ending.now cell text.now process }
+    {
+        is_done_in(self.edit(process), cell, recovery_at(ending, process))
+            && has_text(self.edit(process), text)
+    }
+
+    // Whether an edit of the cell is done that has this text.
+    fn is_any_done_with(&self, ending: &OutcomeEnding, cell: usize, text: &[u8]) -> bool
+        ensures { result ≡ any_below (is_done_with self.now ending.now cell text.now) (length self.now.asked.items) }
+    {
+        let mut any = false;
+        for process in 0..self.asked.len() {
+            any |= self.is_done_with(ending, cell, text, process);
+        }
+        any
     }
 
     // Whether the cell may hold this text.
-    fn may_hold(&self, ending: &OutcomeEnding, cell: usize, text: &[u8]) -> bool {
-        match self.done_at(ending, cell, text) {
-            (0, _) => self.had(cell, text),
-            (_, is_among) => is_among,
+    fn may_hold(&self, ending: &OutcomeEnding, cell: usize, text: &[u8]) -> bool
+        ensures { result ≡ may_hold self.now ending.now cell text.now }
+    {
+        if self.is_any_done(ending, cell) {
+            self.is_any_done_with(ending, cell, text)
+        } else {
+            is_text(self.texts.get(cell), text) || is_text(self.crashed.get(cell), text)
         }
     }
 
     // What is wrong with the text of a cell.
     fn text_flaw(&self, ending: &OutcomeEnding, texts: &[Vec<u8>], cell: usize) -> Option<Flaw>
-        ensures { IfSome result IsOfText }
+        ensures { result ≡ text_flaw self.now ending.now texts.now cell }
     {
         match texts.get(cell) {
-            Some(text) if !self.may_hold(ending, cell, text) => Some(Flaw::TextOfNone(cell)),
-            _ => None,
+            Some(text) => {
+                if self.may_hold(ending, cell, text) {
+                    None
+                } else {
+                    Some(Flaw::TextOfNone(cell))
+                }
+            }
+            None => None,
         }
     }
 
@@ -321,7 +374,7 @@ impl Judge {
         texts: &[Vec<u8>],
         flaws: &mut Vec<Flaw>,
     ) -> Result<(), AllocError>
-        ensures { OnOk result (Adds IsOfText flaws.old.items flaws.new.items) }
+        ensures { OnOk result (flaws.new.items ≡ flaws.old.items ++ flaws_below (text_flaw self.now ending.now texts.now) (length texts.now)) }
     {
         for cell in 0..texts.len() {
             add(flaws, self.text_flaw(ending, texts, cell))?;
@@ -329,15 +382,15 @@ impl Judge {
         Ok(())
     }
 
-    /// What is wrong with an order that left the calls so, and this world, after which this was answered. An error means
-    /// that an allocation failed.
+    /// What is wrong with an order that left the calls so, after which this was answered, and that left this world. An error
+    /// means that an allocation failed.
     pub(crate) fn flaws(
         &self,
         alloc: Global,
         world: &World,
         ending: &OutcomeEnding,
     ) -> Result<Vec<Flaw>, AllocError>
-        ensures { IfOk result (λ flaws. IsJudged self.now ending.now flaws.items) }
+        ensures { IfOk result (λ flaws. IsJudged self.now world.now ending.now flaws.items) }
     {
         let mut flaws = self.process_flaws(alloc, ending)?;
         let texts = texts(alloc, world)?;

@@ -1,6 +1,8 @@
 //! Scripts whose calls under way are carried out in all orders of their steps.
 #![tactic(auto)]
 
+mod again;
+mod among;
 mod answers;
 mod ends;
 pub mod explore;

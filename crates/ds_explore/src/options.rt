@@ -1,7 +1,7 @@
 //! What may come between the steps of calls.
 
 ghost use Rattle.std.specs.Prelude.{◌≡◌};
-ghost use Rattle.ds_explore.specs.Whole.{allowed_by};
+ghost use Rattle.ds_explore.specs.Starts.{allowed_by};
 
 use ds_explore_state::orders::Allowed;
 
@@ -19,13 +19,14 @@ pub struct Options {
 }
 
 impl Options {
-    /// What may come between the steps of calls, without crashes, which end an order.
+    /// What may come between the steps of calls, or after them.
     pub(crate) fn allowed(self) -> Allowed
         ensures { result ≡ allowed_by self }
     {
         Allowed {
             stops: self.stops,
             evictions: self.evictions,
+            crashes: self.crashes,
         }
     }
 }

@@ -1,17 +1,18 @@
 //! Goes through all orders.
 
 ghost use Rattle.std.specs.Prelude.{◌≡◌, ◌-◌, ◌^◌, true, IfErr, IfOk, IsTrue};
-ghost use Rattle.ds_script_stops.specs.Reaching.{FallsShort};
-ghost use Rattle.ds_explore.specs.Judging.{IsFound};
+ghost use Rattle.ds_script_stops.specs.Reaching.{MeetsFault};
+ghost use Rattle.ds_explore.specs.Judging.{texts_of};
+ghost use Rattle.ds_explore_state.specs.Following.{KnowsBuffers};
+ghost use Rattle.ds_explore_state.specs.Buffers.{HasEmptyBuffers};
+ghost use Rattle.ds_explore.specs.Starts.{IsStart};
 ghost use Rattle.ds_explore.specs.Whole.{HasAll};
 
-use crate::ends::{Said, end, what_was_said};
+use crate::among::Outcomes;
 use crate::graph::{Edge, Node};
 use crate::judge::Judge;
 use crate::options::{Options, Watcher};
 use crate::outcomes::{Finding, Findings};
-use ds_core::event::Event;
-use ds_core::take::take;
 use ds_explore_state::closure::{Found, is_closed};
 use ds_explore_state::orders::{Allowed, is_busy, is_dirty};
 use ds_explore_state::position::{Move, Position, is_in_call, start};
@@ -26,7 +27,8 @@ use std::collections::HashMap;
 /// Where orders begin.
 #[derive(Drop)]
 pub(crate) struct Start {
-    options: Options,
+    /// What the orders are asked to have.
+    pub(crate) options: Options,
     /// The first state.
     pub(crate) first: Position,
     /// The words that orders may touch.
@@ -138,7 +140,8 @@ fn prepared(alloc: Global, world: &World) -> Result<(Touched, Vec<Move>, Judge),
 impl Start {
     // The orders that begin in this state. An error means that an allocation failed.
     fn of(alloc: Global, first: Position, options: Options) -> Result<Start, AllocError>
-        ensures { IfOk result (λ start. start.options ≡ options) }
+        ensures options { IfOk result (λ start. start.options ≡ options) }
+        ensures first { IfOk result (λ start. start.first ≡ first) }
     {
         let (touched, moves, judge) = prepared(alloc, &first.world)?;
         Ok(Start {
@@ -152,7 +155,9 @@ impl Start {
 
     // The orders of the calls that are under way in this world.
     fn within(alloc: Global, world: World, options: Options) -> Result<Start, AllocError>
-        ensures { IfOk result (λ start. start.options ≡ options) }
+        ensures options { IfOk result (λ start. start.options ≡ options) }
+        ensures first { IfOk result (λ start. start.first.world ≡ world) }
+        ensures known { IfOk result (λ start. HasEmptyBuffers world → KnowsBuffers start.first) }
     {
         let first = Position::new(alloc, world)?;
         Start::of(alloc, first, options)
@@ -160,8 +165,8 @@ impl Start {
 
     /// The orders of the calls that are under way where the script ends. An error is why it does not end.
     pub(crate) fn new(alloc: Global, script: &[u8], options: Options) -> Result<Start, Short>
-        ensures short { IfErr result (FallsShort true script.now (2 ^ 64 - 1)) }
-        ensures options { IfOk result (λ start. start.options ≡ options) }
+        ensures short { IfErr result (MeetsFault true script.now (2 ^ 64 - 1)) }
+        ensures begins { IfOk result (IsStart script.now options) }
     {
         let world = start(alloc, script)?;
         match Start::within(alloc, world, options) {
@@ -171,7 +176,9 @@ impl Start {
     }
 
     /// The shape of the sheet.
-    pub(crate) fn shape(&self) -> Shape {
+    pub(crate) fn shape(&self) -> Shape
+        ensures { result ≡ self.now.first.world.sheet.layout.shape }
+    {
         self.first.world.words.layout().shape
     }
 
@@ -188,7 +195,7 @@ impl Start {
         Ok(())
     }
 
-    // Whether this may happen.
+    // Whether this may happen where a call is under way.
     fn may_happen(&self, position: &Position, next: Move) -> bool {
         match next {
             Move::Step(process) => is_busy(position, process),
@@ -244,67 +251,13 @@ impl Start {
         Ok(path)
     }
 
-    // The way straight on from this state, and what that comes to.
-    fn straight_from(
-        &self,
-        alloc: Global,
-        position: &mut Position,
-    ) -> Result<(Finding, Vec<u32>), AllocError> {
-        let path = self.carry(alloc, position)?;
-        let outcome = self.outcome(alloc, position, false)?;
-        Ok((outcome, path))
-    }
-
     /// The calls are carried out one after another, in the order of their processes: what that comes to, and what
     /// happens on the way.
     pub(crate) fn straight(&self, alloc: Global) -> Result<(Finding, Vec<u32>), AllocError> {
         let mut position = self.position(alloc)?;
-        self.straight_from(alloc, &mut position)
-    }
-
-    // What an order comes to that ends in this state.
-    fn ended(&self, alloc: Global, position: &Position) -> Result<Finding, AllocError> {
-        let mut last = position.copy(alloc)?;
-        self.outcome(alloc, &mut last, false)
-    }
-
-    // What an order comes to that ends here.
-    fn outcome(
-        &self,
-        alloc: Global,
-        position: &mut Position,
-        crashed: bool,
-    ) -> Result<Finding, AllocError>
-        ensures { IfOk result (IsFound self.now.judge) }
-    {
-        let Said { answers, texts } = what_was_said(alloc, position)?;
-        let (ending, tail) = end(alloc, &mut position.world, answers, crashed)?;
-        let flaws = self.judge.flaws(alloc, &position.world, &ending)?;
-        Ok(Finding {
-            answers: texts,
-            tail,
-            flaws,
-            crashed,
-        })
-    }
-
-    /// What an order of these events comes to, with a crash after it or not. An error means that an allocation failed.
-    pub(crate) fn found_by(
-        &self,
-        alloc: Global,
-        path: &[u32],
-        crashed: bool,
-    ) -> Result<Finding, AllocError>
-        ensures { IfOk result (IsFound self.now.judge) }
-    {
-        let mut position = self.position(alloc)?;
-        for by in path {
-            self.happen(alloc, &mut position, *by)?;
-        }
-        if crashed {
-            let _crashed = take(alloc, &mut position.world, &Event::Crash);
-        }
-        self.outcome(alloc, &mut position, crashed)
+        let path = self.carry(alloc, &mut position)?;
+        let outcome = self.judge.comes_to(alloc, &position, false)?;
+        Ok((outcome, path))
     }
 }
 
@@ -368,7 +321,7 @@ impl Search {
         if position.is_under_way() {
             return Ok(None);
         }
-        let outcome = start.ended(alloc, position)?;
+        let outcome = start.judge.comes_to(alloc, position, false)?;
         Ok(Some(self.outcomes.number(alloc, outcome)?))
     }
 
@@ -419,9 +372,9 @@ impl Search {
         }
     }
 
-    // The state with this key has this number.
-    fn keep(&mut self, alloc: Global, key: Vec<u32>, state: u32) -> Result<(), AllocError> {
-        self.found.add(alloc, key, state)?;
+    // The state with this key was found.
+    fn keep(&mut self, alloc: Global, key: Vec<u32>) -> Result<(), AllocError> {
+        self.found.add(alloc, key)?;
         self.left.push(false)?;
         Ok(())
     }
@@ -442,7 +395,7 @@ impl Search {
         let Some(state) = self.next_number(start) else {
             return Ok(None);
         };
-        self.keep(alloc, key, state)?;
+        self.keep(alloc, key)?;
         self.lead(by, state)?;
         Ok(Some(state))
     }
@@ -494,9 +447,8 @@ impl Search {
 
     // What an order comes to that ends with a crash in the last state.
     fn crashed(&mut self, alloc: Global, start: &Start) -> Result<Finding, AllocError> {
-        let mut position = self.position(alloc)?;
-        let _crashed = take(alloc, &mut position.world, &Event::Crash);
-        start.outcome(alloc, &mut position, true)
+        let position = self.position(alloc)?;
+        start.judge.comes_to(alloc, &position, true)
     }
 
     // The outcome of a crash in the last state, by what it leaves.
@@ -546,7 +498,7 @@ impl Search {
     fn begin(&mut self, alloc: Global, start: &Start) -> Result<(), AllocError> {
         let position = start.position(alloc)?;
         let key = self.found.key(alloc, &position, &start.touched)?;
-        self.keep(alloc, key, 0)?;
+        self.keep(alloc, key)?;
         self.open(alloc, start, 0, position)
     }
 
@@ -555,10 +507,16 @@ impl Search {
         self.left.len()
     }
 
-    /// Whether the states that were found are all: whether nothing that may happen leads out of them. An error means that
-    /// an allocation failed.
-    pub(crate) fn has_all(&self, alloc: Global, start: &Start) -> Result<bool, AllocError>
-        ensures { IfOk result (λ b. IsTrue b → HasAll start.now self.now.found) }
+    /// Whether the states that were found are all, and the outcomes with these keys, too: whether nothing that may happen
+    /// leads out of the states, and what orders come to that end in them is among the outcomes. An error means that an
+    /// allocation failed.
+    pub(crate) fn has_all(
+        &self,
+        alloc: Global,
+        start: &Start,
+        keys: &[Vec<u8>],
+    ) -> Result<bool, AllocError>
+        ensures { IfOk result (λ b. IsTrue b → HasAll start.now (texts_of keys.now) self.now.found) }
     {
         let found = Found {
             states: &self.found,
@@ -566,7 +524,11 @@ impl Search {
             allowed: start.options.allowed(),
             first: &start.first,
         };
-        is_closed(alloc, found)
+        let outcomes = Outcomes {
+            judge: &start.judge,
+            keys,
+        };
+        is_closed(alloc, found, &outcomes)
     }
 }
 

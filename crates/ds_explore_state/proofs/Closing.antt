@@ -82,15 +82,15 @@ all_led (Ok b) states groups allowed places x f g h = λ yes move may. by_move m
     by_move (Evict place) may k = k place may
 
 -- one mark more
-pub marks_more : (states : States) (groups : List (List Place)) (allowed : Allowed) (places : List Place) (first : Position) (old new : List Bool) (at : ℕ) → MarksHold states groups allowed places first old → IsExpanded states groups allowed places first at → new ≡ set old at true → MarksHold states groups allowed places first new
-marks_more states groups allowed places first old new at hold here e n marked =
+pub marks_more : (states : States) (groups : List (List Place)) (written : Position → Bool → Type 0) (allowed : Allowed) (places : List Place) (first : Position) (old new : List Bool) (at : ℕ) → MarksHold states groups written allowed places first old → IsExpanded states groups written allowed places first at → new ≡ set old at true → MarksHold states groups written allowed places first new
+marks_more states groups written allowed places first old new at hold here e n marked =
     dite (ℕ_discrete n at)
-    (λ is. subst (λ (k : ℕ). IsExpanded states groups allowed places first k) (sym is) here)
+    (λ is. subst (λ (k : ℕ). IsExpanded states groups written allowed places first k) (sym is) here)
     (λ ne. hold n (sym (subst (λ (l : List Bool). get_or l n false ≡ get_or old n false) (sym e) (get_or-set_other old at n true false ne)) ∙ marked))
 
 -- no mark
-pub none_marked : (states : States) (groups : List (List Place)) (allowed : Allowed) (places : List Place) (first : Position) (marks : List Bool) (n : ℕ) → marks ≡ replicate n false → MarksHold states groups allowed places first marks
-none_marked states groups allowed places first marks n e k marked = absurd (unmarked n k (subst (λ (l : List Bool). get_or l k false ≡ true) e marked))
+pub none_marked : (states : States) (groups : List (List Place)) (written : Position → Bool → Type 0) (allowed : Allowed) (places : List Place) (first : Position) (marks : List Bool) (n : ℕ) → marks ≡ replicate n false → MarksHold states groups written allowed places first marks
+none_marked states groups written allowed places first marks n e k marked = absurd (unmarked n k (subst (λ (l : List Bool). get_or l k false ≡ true) e marked))
   where
     unmarked : (n k : ℕ) → get_or (replicate n false) k false ≡ true → ⊥
     unmarked zero k h = cc

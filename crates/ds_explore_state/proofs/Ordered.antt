@@ -1,5 +1,5 @@
 -- Every order stays in the states that were found.
-use Rattle.std.proofs.Common.{ℕ, zero, suc, ◌≡◌, ◌<◌, ◌≤◌, ◌∙◌, refl, sym, ap, subst, inl, inr, List, [], ◌∷◌, ◌++◌, length, map, arith}
+use Rattle.std.proofs.Common.{ℕ, zero, suc, ◌≡◌, ◌<◌, ◌≤◌, ◌∙◌, refl, sym, ap, subst, inl, inr, List, [], ◌∷◌, ◌++◌, length, map, arith, Bool, true, false}
 use Rattle.std.specs.Prelude.{◌≢◌, Option, Some, None, option_map, slice_get, slice_index_or}
 use Rattle.std.specs.List.{AllByRecursion}
 use Rattle.std.proofs.lemmas.Bool.{cases_lt}
@@ -15,15 +15,16 @@ use Rattle.ds_state.specs.declared.situation.Situation.{Situation}
 use Rattle.ds_state.specs.declared.situation.Situation.TheVariants.{Idle}
 use Rattle.ds_explore_state.specs.declared.orders.Allowed.{Allowed}
 use Rattle.ds_explore_state.specs.declared.position.Move.{Move}
+use Rattle.ds_explore_state.specs.declared.position.Move.TheVariants.{Step}
 use Rattle.ds_explore_state.specs.declared.position.Position.{Position}
 use Rattle.ds_explore_state.specs.declared.position.ProcessState.{ProcessState}
 use Rattle.ds_explore_state.specs.declared.states.States.{States}
-use Rattle.ds_explore_state.specs.States.{IsKey, PlainSeat, SameState, seat_of, state_of, word_in}
-use Rattle.ds_explore_state.specs.Alike.{AreAlike, ArePositionsAlike}
-use Rattle.ds_explore_state.specs.Orders.{Happens, MayHappen, no_seat, seats_of}
+use Rattle.ds_explore_state.specs.States.{IsKey, PlainPart, PlainSeat, SameState, crashed_state_of, lost_in, lost_process_in, lost_seat, parts_below, seat_of, state_of, word_in}
+use Rattle.ds_explore_state.specs.Alike.{AreAlike, ArePositionsAlike, LeaveAlike}
+use Rattle.ds_explore_state.specs.Orders.{Happens, IsBusy, MayHappen, no_seat, seats_of}
 use Rattle.ds_explore_state.specs.Following.{IsFollowed, IsOff, KnowsBuffers}
-use Rattle.ds_explore_state.specs.Closed.{AreAll, HasNumber, IsExpanded, Order, StandsFor, keys_of, no_move, one_move_more}
-use Rattle.ds_explore_state.proofs.Parts.{same_by_key}
+use Rattle.ds_explore_state.specs.Closed.{AreAll, HasNumber, IsExpanded, Order, OrdersAreWritten, StandsFor, keys_of, no_move, one_move_more}
+use Rattle.ds_explore_state.proofs.Parts.{apart, parts_count, parts_same, same_by_key}
 use Rattle.ds_explore_state.proofs.Memories.{by_numbers}
 use Rattle.ds_explore_state.proofs.Alike.{get_there, happens_alike, may_alike, place_there}
 
@@ -60,14 +61,14 @@ alike_on x y z a b = record {
 -- ---- positions of one state
 
 -- lists that are the same place by place
-same_lists : (xs ys : List ProcessState) → length xs ≡ length ys → ((p : ℕ) → p < length xs → option_map seat_of (slice_get xs p) ≡ option_map seat_of (slice_get ys p)) → map seat_of ys ≡ map seat_of xs
-same_lists [] [] count same = refl
-same_lists [] (y ∷ ys) count same = absurd (let bad : ⊥ = omega (arith, count) in bad)
-same_lists (x ∷ xs) [] count same = absurd (let bad : ⊥ = omega (arith, count) in bad)
-same_lists (x ∷ xs) (y ∷ ys) count same =
-    let first : Some (seat_of x) ≡ Some (seat_of y) = same zero (omega arith) in
-    let one : seat_of y ≡ seat_of x = (let e : seat_of x ≡ seat_of y = cc in sym e) in
-    let rest : map seat_of ys ≡ map seat_of xs = same_lists xs ys (omega (arith, count)) (λ p low. same (suc p) (omega (arith, low))) in
+same_lists : (f : ProcessState → PlainSeat) (xs ys : List ProcessState) → length xs ≡ length ys → ((p : ℕ) → p < length xs → option_map f (slice_get xs p) ≡ option_map f (slice_get ys p)) → map f ys ≡ map f xs
+same_lists f [] [] count same = refl
+same_lists f [] (y ∷ ys) count same = absurd (let bad : ⊥ = omega (arith, count) in bad)
+same_lists f (x ∷ xs) [] count same = absurd (let bad : ⊥ = omega (arith, count) in bad)
+same_lists f (x ∷ xs) (y ∷ ys) count same =
+    let first : Some (f x) ≡ Some (f y) = same zero (omega arith) in
+    let one : f y ≡ f x = (let e : f x ≡ f y = cc in sym e) in
+    let rest : map f ys ≡ map f xs = same_lists f xs ys (omega (arith, count)) (λ p low. same (suc p) (omega (arith, low))) in
     cc
 
 -- where words differ at a place, and are the same at the places of a group, the place is none of them
@@ -114,7 +115,7 @@ alike_by_state groups first x y f g same = record {
 }
   where
     seats : seats_of y ≡ seats_of x
-    seats = same_lists x.seats.items y.seats.items same.count same.seats
+    seats = same_lists seat_of x.seats.items y.seats.items same.count same.seats
 
     situation : (q : ℕ) → slice_get x.world.situations q ≡ slice_get y.world.situations q
     situation q = elim (cases_lt q (length x.seats.items)) [
@@ -130,9 +131,41 @@ alike_by_state groups first x y f g same = record {
           none_there x.world.situations q (omega (arith, a, c, e, far)) ∙ sym (none_there y.world.situations q (omega (arith, b, d, h, k, far))))
     ]
 
+-- positions that are alike are alike after a crash
+leave_alike : (x y : Position) → ArePositionsAlike x y → LeaveAlike x y
+leave_alike x y a = record { layout = a.worlds.layout; persisted = a.worlds.memory.persisted; answered = lost_same x.seats.items y.seats.items a.seats }
+  where
+    lost_same : (xs ys : List ProcessState) → map seat_of ys ≡ map seat_of xs → map lost_seat ys ≡ map lost_seat xs
+    lost_same [] [] e = refl
+    lost_same [] (y ∷ ys) e = cc
+    lost_same (x ∷ xs) [] e = cc
+    lost_same (x ∷ xs) (y ∷ ys) e =
+        let one : seat_of y ≡ seat_of x = cc in
+        let rest : map seat_of ys ≡ map seat_of xs = cc in
+        let first : lost_seat y ≡ lost_seat x = ap (λ (s : PlainSeat). let l : PlainSeat = record { buffer = []; answer = s.answer; text = s.text } in l) one in
+        let others = lost_same xs ys rest in
+        cc
+
+leave_alike_on : (x y z : Position) → LeaveAlike x y → LeaveAlike y z → LeaveAlike x z
+leave_alike_on x y z a b = record { layout = b.layout ∙ a.layout; persisted = λ r. b.persisted r ∙ a.persisted r; answered = b.answered ∙ a.answered }
+
+-- positions of which a crash leaves one state
+leave_alike_by_state : (groups : List (List Place)) (first x y : Position) → IsFollowed groups first x → IsFollowed groups first y → crashed_state_of groups x ≡ crashed_state_of groups y → LeaveAlike x y
+leave_alike_by_state groups first x y f g e =
+    let k = apart (lost_in x.world) (lost_in y.world) groups (parts_below (lost_process_in x) (length x.seats.items)) (parts_below (lost_process_in y) (length y.seats.items)) e in
+    let count : length x.seats.items ≡ length y.seats.items = sym (parts_count (lost_process_in x) (length x.seats.items)) ∙ ap (λ (l : List PlainPart). length l) k.1 ∙ parts_count (lost_process_in y) (length y.seats.items) in
+    let all : parts_below (lost_process_in x) (length x.seats.items) ≡ parts_below (lost_process_in y) (length x.seats.items) = k.1 ∙ ap (λ (n : ℕ). parts_below (lost_process_in y) n) (sym count) in
+    record {
+      layout = g.layout ∙ sym f.layout;
+      persisted = λ r. by_numbers ((memory y.world.sheet).persisted r) ((memory x.world.sheet).persisted r) (λ differ. (
+          let off = off_groups (lost_in x.world) (lost_in y.world) r groups (λ e. differ (sym (ap (λ (w : Word). w.persisted) e))) k.0 in
+          g.persisted r off ∙ sym (f.persisted r off)));
+      answered = same_lists lost_seat x.seats.items y.seats.items count (λ p low. (let one = parts_same (lost_process_in x) (lost_process_in y) (length x.seats.items) p all low in cc));
+    }
+
 -- ---- orders
 
-module _ (states : States) (groups : List (List Place)) (allowed : Allowed) (places : List Place) (first : Position) (all : AreAll states groups allowed places first) (known : KnowsBuffers first) where
+module _ (states : States) (groups : List (List Place)) (written : Position → Bool → Type 0) (allowed : Allowed) (places : List Place) (first : Position) (all : AreAll states groups written allowed places first) (known : KnowsBuffers first) where
   one_number : (x y : Position) (number : ℕ) → HasNumber states groups x number → HasNumber states groups y number → IsFollowed groups first x → IsFollowed groups first y → ArePositionsAlike x y
   one_number x y number h k f g =
       let same : Some k.key ≡ Some h.key = sym k.there ∙ h.there in
@@ -140,13 +173,13 @@ module _ (states : States) (groups : List (List Place)) (allowed : Allowed) (pla
       alike_by_state groups first x y f g (same_by_key states.numbers h.key groups x y h.is (subst (λ (l : List ℕ). IsKey states.numbers l (state_of groups y)) key k.is))
 
   -- a position that was found is alike to one that stands for its state
-  stands : (y : Position) (number : ℕ) → HasNumber states groups y number → IsFollowed groups first y → StandsFor states groups allowed places first y
+  stands : (y : Position) (number : ℕ) → HasNumber states groups y number → IsFollowed groups first y → StandsFor states groups written allowed places first y
   stands y number has f =
       let low : number < length (keys_of states) = place_there (keys_of states) number has.key has.there in
-      let x : IsExpanded states groups allowed places first number = all.closed number low in
+      let x : IsExpanded states groups written allowed places first number = all.closed number low in
       record { number = number; low = low; expanded = x; alike = one_number x.position y number x.has has (x.kept known) f }
 
-  pub order_stays : (moves : List Move) (y : Position) → Order allowed places first moves y → StandsFor states groups allowed places first y
+  pub order_stays : (moves : List Move) (y : Position) → Order allowed places first moves y → StandsFor states groups written allowed places first y
   order_stays _ _ no_move = stands first all.there.0 all.there.1 (all.kept known)
   order_stays _ _ (one_move_more moves move x y order may happens) =
       let s = order_stays moves x order in
@@ -156,3 +189,25 @@ module _ (states : States) (groups : List (List Place)) (allowed : Allowed) (pla
       let alike : ArePositionsAlike led.0 y = happens_alike allowed places move z x led.0 y s.alike can led.1 happens in
       let t = stands led.0 led.2.0 led.2.1 (led.3 first (s.expanded.kept known)) in
       record { number = t.number; low = t.low; expanded = t.expanded; alike = alike_on t.expanded.position led.0 y t.alike alike }
+
+  -- wherever an order ends, what it comes to is written
+  pub order_written : (moves : List Move) (y : Position) → Order allowed places first moves y → OrdersAreWritten states groups written allowed places first y
+  order_written moves y order =
+      let s = order_stays moves y order in
+      let z : Position = s.expanded.position in record {
+        stands = s;
+        rests = λ none. (
+            let rest : (p : ℕ) → IsBusy z p → ⊥ = λ p busy. none p (may_alike allowed places z y (Step p) s.alike busy) in
+            record { position = z; alike = s.alike; is = s.expanded.ends.rests rest });
+        crashes = λ may. (
+            let c = s.expanded.ends.crashes may in
+            record {
+              position = c.position;
+              alike = leave_alike_on c.position z y (leave_alike_by_state groups first c.position z (c.kept known) (s.expanded.kept known) c.same) (leave_alike z y s.alike);
+              is = c.is;
+            });
+      }
+
+pub orders_written : (states : States) (groups : List (List Place)) (written : Position → Bool → Type 0) (allowed : Allowed) (places : List Place) (first : Position) → AreAll states groups written allowed places first → KnowsBuffers first
+    → (moves : List Move) (y : Position) → Order allowed places first moves y → OrdersAreWritten states groups written allowed places first y
+orders_written states groups written allowed places first all known moves y order = order_written states groups written allowed places first all known moves y order

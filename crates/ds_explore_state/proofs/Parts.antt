@@ -101,7 +101,7 @@ group_same f g [] e = tt
 group_same f g (place ∷ group) e = let h : f place ≡ g place = cc in let r : map f group ≡ map g group = cc in (h, group_same f g group r)
 
 -- the words and the rest of two states that are the same
-apart : (f g : Place → Word) (groups : List (List Place)) (xs ys : List PlainPart) → words_by f groups ++ xs ≡ words_by g groups ++ ys
+pub apart : (f g : Place → Word) (groups : List (List Place)) (xs ys : List PlainPart) → words_by f groups ++ xs ≡ words_by g groups ++ ys
     → AllByRecursion (AllByRecursion (λ place. f place ≡ g place)) groups × (xs ≡ ys)
 apart f g [] xs ys e = (tt, e)
 apart f g (group ∷ groups) xs ys e =
@@ -112,12 +112,12 @@ apart f g (group ∷ groups) xs ys e =
     ((group_same f g group w, q.0), q.1)
 
 -- as many parts as numbers
-parts_count : (part : ℕ → PlainPart) (n : ℕ) → length (parts_below part n) ≡ n
+pub parts_count : (part : ℕ → PlainPart) (n : ℕ) → length (parts_below part n) ≡ n
 parts_count part zero = refl
 parts_count part (suc n) = length_push (parts_below part n) (part n) ∙ ap (λ (k : ℕ). k + 1) (parts_count part n) ∙ add-one n
 
 -- the parts of numbers that are the same
-parts_same : (f g : ℕ → PlainPart) (n p : ℕ) → parts_below f n ≡ parts_below g n → p < n → f p ≡ g p
+pub parts_same : (f g : ℕ → PlainPart) (n p : ℕ) → parts_below f n ≡ parts_below g n → p < n → f p ≡ g p
 parts_same f g zero p e low = absurd (omega (arith, low))
 parts_same f g (suc n) p e low =
     let k = same_from_push (parts_below f n) (parts_below g n) (f n) (g n) e in

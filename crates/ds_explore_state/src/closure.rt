@@ -1,28 +1,30 @@
-//! Whether anything that may happen leads out of the states that were found.
+//! Whether anything that may happen leads out of the states that were found, and what orders come to is written.
 
-ghost use Rattle.std.specs.Prelude.{◌≡◌, ◌<◌, ℕ, List, true, false, IfOk, IfSome, IsTrue, OnOk, length, replicate, slice_index_or};
+ghost use Rattle.std.specs.Prelude.{◌≡◌, ◌<◌, ℕ, All, List, true, false, IfOk, IfSome, IsTrue, OnOk, length, replicate, slice_index_or};
 ghost use Rattle.ds_layout.specs.declared.place.Place.{Place};
-ghost use Rattle.ds_explore_state.specs.Closed.{AreAll, AreKept, LeadsInto, MarksHold, StaysIn};
+ghost use Rattle.ds_explore_state.specs.Closed.{AreAll, AreKept, IsKeyWritten, LeadsInto, MarksHold, StaysIn, keys_in};
 ghost use Rattle.ds_explore_state.specs.Following.{IsFollowed, IsKept};
 ghost use Rattle.ds_explore_state.specs.Orders.{Happens, HasDirt, IsBusy, MayHappen};
 ghost use Rattle.ds_explore_state.specs.States.{groups_of};
 ghost use Rattle.ds_explore_state.specs.declared.position.Move.TheVariants.{Evict, Step, Stop};
 ghost use Rattle.ds_explore_state.specs.declared.position.Position.{Position};
 
+use crate::endings::{Endings, ends_are_written};
+use crate::keys::Keys;
 use crate::orders::{Allowed, can_happen, is_busy, is_dirty};
 use crate::position::{Move, Position};
 use crate::states::States;
 use crate::touched::Touched;
 use std::alloc::{AllocError, Global};
 
-/// The states that were found, the words that are followed, and what may come between steps.
+/// The states that were found, the words that are followed, and what may come between steps or after them.
 #[derive(Clone, Copy)]
 pub struct Found<'a> {
     /// The states.
     pub states: &'a States,
     /// The words.
     pub touched: &'a Touched,
-    /// What may come between steps.
+    /// What may come between steps, or after them.
     pub allowed: Allowed,
     /// The position in which all orders begin.
     pub first: &'a Position,
@@ -266,17 +268,21 @@ fn stays_in(
     allowed_evictions_lead(alloc, found, position, successors)
 }
 
-// Marks the state of a position, where all that may happen there leads to states that were found: its successors. None
-// where it is marked already, or something leads out.
-fn mark(
+// Marks the state of a position, where all that may happen there leads to states that were found, and it is written what
+// orders come to that end there: its successors. None where it is marked already, or that is not so.
+fn mark<E: Endings>(
     alloc: Global,
     found: Found<'_>,
+    endings: &E,
     position: &Position,
+    crashes: &mut Keys,
     marks: &mut Vec<bool>,
 ) -> Result<Option<Vec<Successor>>, AllocError>
-    requires marks { MarksHold found.states.now (groups_of found.touched.now) found.allowed found.touched.now.places.items found.first.now marks.old.items }
+    requires marks { MarksHold found.states.now (groups_of found.touched.now) (E.written endings.now) found.allowed found.touched.now.places.items found.first.now marks.old.items }
+    requires keys { All (IsKeyWritten found.states.now (groups_of found.touched.now) (E.written endings.now) found.first.now) (keys_in crashes.old) }
     requires kept { IsKept (groups_of found.touched.now) found.first.now position.now }
-    ensures { OnOk result (MarksHold found.entry.states.now (groups_of found.entry.touched.now) found.entry.allowed found.entry.touched.now.places.items found.entry.first.now marks.new.items) }
+    ensures marks { OnOk result (MarksHold found.entry.states.now (groups_of found.entry.touched.now) (E.written endings.now) found.entry.allowed found.entry.touched.now.places.items found.entry.first.now marks.new.items) }
+    ensures keys { OnOk result (All (IsKeyWritten found.entry.states.now (groups_of found.entry.touched.now) (E.written endings.now) found.entry.first.now) (keys_in crashes.new)) }
 {
     let Some(number) = found.states.number_of(alloc, position, found.touched)? else {
         return Ok(None);
@@ -288,6 +294,10 @@ fn mark(
     let mut successors = Vec::new(alloc);
     let stays = stays_in(alloc, found, position, &mut successors)?;
     if !stays {
+        return Ok(None);
+    }
+    let written = ends_are_written(alloc, found, endings, position, crashes)?;
+    if !written {
         return Ok(None);
     }
     marks[at] = true;
@@ -375,16 +385,18 @@ fn unmarked(alloc: Global, count: usize) -> Result<Vec<bool>, AllocError>
     Ok(marks)
 }
 
-// Marks the states from which nothing leads out of those that were found, from the first one on.
-fn marks(alloc: Global, found: Found<'_>) -> Result<Vec<bool>, AllocError>
+// Marks the states from which nothing leads out of those that were found, and at which it is written what orders come to,
+// from the first one on.
+fn marks<E: Endings>(alloc: Global, found: Found<'_>, endings: &E) -> Result<Vec<bool>, AllocError>
     requires { IsKept (groups_of found.touched.now) found.first.now found.first.now }
-    ensures { IfOk result (λ marks. MarksHold found.entry.states.now (groups_of found.entry.touched.now) found.entry.allowed found.entry.touched.now.places.items found.entry.first.now marks.items) }
+    ensures { IfOk result (λ marks. MarksHold found.entry.states.now (groups_of found.entry.touched.now) (E.written endings.now) found.entry.allowed found.entry.touched.now.places.items found.entry.first.now marks.items) }
 {
     let mut marks = unmarked(alloc, found.states.len())?;
+    let mut crashes = Keys::new(alloc);
     let mut visits = Vec::new(alloc);
     let mut position = found.first.copy(alloc)?;
     for _ in 0..u64::MAX {
-        if let Some(ahead) = mark(alloc, found, &position, &mut marks)? {
+        if let Some(ahead) = mark(alloc, found, endings, &position, &mut crashes, &mut marks)? {
             visits.push(Visit {
                 position: Some(position),
                 ahead,
@@ -417,10 +429,14 @@ fn is_whole(position: &Position) -> bool
     position.seats.len() == position.world.words.layout().processes
 }
 
-/// Whether the states that were found are all: the first one is there, and nothing that may happen leads out of them. An
-/// error means that an allocation failed.
-pub fn is_closed(alloc: Global, found: Found<'_>) -> Result<bool, AllocError>
-    ensures { IfOk result (λ b. IsTrue b → AreAll found.entry.states.now (groups_of found.entry.touched.now) found.entry.allowed found.entry.touched.now.places.items found.entry.first.now) }
+/// Whether the states that were found are all: the first one is there, nothing that may happen leads out of them, and it is
+/// written what orders come to that end in one of them. An error means that an allocation failed.
+pub fn is_closed<E: Endings>(
+    alloc: Global,
+    found: Found<'_>,
+    endings: &E,
+) -> Result<bool, AllocError>
+    ensures { IfOk result (λ b. IsTrue b → AreAll found.entry.states.now (groups_of found.entry.touched.now) (E.written endings.now) found.entry.allowed found.entry.touched.now.places.items found.entry.first.now) }
 {
     if !is_whole(found.first) {
         return Ok(false);
@@ -428,6 +444,6 @@ pub fn is_closed(alloc: Global, found: Found<'_>) -> Result<bool, AllocError>
     let Some(_number) = found.states.number_of(alloc, found.first, found.touched)? else {
         return Ok(false);
     };
-    let marks = marks(alloc, found)?;
+    let marks = marks(alloc, found, endings)?;
     Ok(are_marked(&marks, found.states.len()))
 }

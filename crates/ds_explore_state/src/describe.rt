@@ -245,6 +245,20 @@ impl Numbers {
         self.known_key(alloc, &parts)
     }
 
+    /// The key of the state that a crash leaves of a position, where each part has a number. An error means that an
+    /// allocation failed.
+    pub fn find_crashed(
+        &self,
+        alloc: Global,
+        position: &Position,
+        touched: &Touched,
+    ) -> Result<Option<Vec<u32>>, AllocError>
+        ensures { IfOk result (λ some. IfSome some (λ key. IsKey self.now key.items (crashed_state_of (groups_of touched.now) position.now))) }
+    {
+        let parts = lost_parts_of(alloc, position, touched)?;
+        self.known_key(alloc, &parts)
+    }
+
     /// The key of the state of a position: the words of these groups, and its processes. An error means that an allocation
     /// failed, or that there are more than 2^32 - 1 parts.
     pub fn state(

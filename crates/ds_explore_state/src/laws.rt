@@ -7,13 +7,15 @@ ghost use Rattle.ds_state.specs.Value.{IsGood, WorldValue, world_of};
 ghost use Rattle.ds_explore_state.specs.States.{IsKey, PlainPart, SameState, state_of};
 ghost use Rattle.ds_explore_state.specs.Alike.{ArePositionsAlike};
 ghost use Rattle.ds_explore_state.specs.Buffers.{HasEmptyBuffer};
-ghost use Rattle.ds_explore_state.specs.Closed.{AreAll, Order, StandsFor};
+ghost use Rattle.ds_explore_state.specs.Closed.{AreAll, Order, OrdersAreWritten};
 ghost use Rattle.ds_explore_state.specs.Following.{KnowsBuffers};
 ghost use Rattle.ds_explore_state.specs.Orders.{Happens, MayHappen};
 ghost use Rattle.ds_explore_state.specs.declared.orders.Allowed.{Allowed};
 ghost use Rattle.ds_explore_state.specs.declared.position.Move.{Move};
 ghost use Rattle.ds_explore_state.specs.declared.position.Position.{Position};
 ghost use Rattle.ds_explore_state.specs.declared.states.States.{States};
+
+use crate::endings::Endings;
 
 /// Positions with one key are the same in both sides of each word of the groups, in what each process does, in what its
 /// buffer holds, and in what it was answered.
@@ -32,15 +34,18 @@ pub fn positions_go_on_alike()
 {}
 
 /// Where the states that were found are all, every order of what may happen comes to positions alike to those that stand
-/// for states that were found, if the buffers of the first position are known.
-#[tactic(auto, using(crate::proofs::Ordered::order_stays))]
-pub fn orders_stay_in()
-    ensures { (states : States) (groups : List (List Place)) (allowed : Allowed) (places : List Place) (first : Position) → AreAll states groups allowed places first → KnowsBuffers first
-        → (moves : List Move) (y : Position) → Order allowed places first moves y → StandsFor states groups allowed places first y }
-{}
+/// for states that were found, if the buffers of the first position are known; and wherever an order ends, it is written
+/// what it comes to: of a position that is alike, or of one of which a crash leaves the same.
+pub fn orders_are_written<E: Endings>(endings: &E)
+    ensures { (states : States) (groups : List (List Place)) (allowed : Allowed) (places : List Place) (first : Position) → AreAll states groups (E.written endings.now) allowed places first → KnowsBuffers first
+        → (moves : List Move) (y : Position) → Order allowed places first moves y → OrdersAreWritten states groups (E.written endings.now) allowed places first y }
+{
+    // The body does not use it: the signature or a clause names it.
+    let _endings = endings;
+}
 
 /// Buffers are empty before the first step of each call, and wherever nothing is flushed that is not written back.
-#[tactic(auto, using(crate::proofs::Buffers::buffer_is_empty))]
+#[tactic(auto, using(crate::proofs::EmptyBuffers::buffer_is_empty))]
 pub fn buffers_are_empty()
     ensures { (w : WorldValue) (p : ℕ) → IsGood w → p < w.sheet.layout.processes → HasEmptyBuffer ((world_of w).situation p) → (memory w.sheet).buffer p ≡ [] }
 {}

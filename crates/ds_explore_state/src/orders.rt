@@ -1,4 +1,4 @@
-//! What may come between the steps of calls.
+//! What may come between the steps of calls, or after them.
 
 ghost use Rattle.std.specs.Prelude.{◌≡◌, ◌<◌, ◌↔◌, IsTrue, IsFalse, length};
 ghost use Rattle.ds_explore_state.specs.Following.{CanHappen};
@@ -8,13 +8,15 @@ use crate::position::{Move, Position, is_in_call};
 use ds_layout::place::Place;
 use ds_state::world::World;
 
-/// What may come between the steps of calls.
+/// What may come between the steps of calls, or after them.
 #[derive(Clone, Copy, Debug, PartialEq, Eq)]
 pub struct Allowed {
     /// Stops of processes that are in calls.
     pub stops: bool,
     /// Evictions of words whose sides differ.
     pub evictions: bool,
+    /// Crashes, each at the end of an order.
+    pub crashes: bool,
 }
 
 /// Whether both sides of the word at a place differ.

@@ -1,16 +1,19 @@
 //! A world with calls under way, and what they were answered.
 
-ghost use Rattle.std.specs.Prelude.{◌≡◌, ◌↔◌, ◌<◌, ◌-◌, ◌^◌, true, ℕ, All, None, Some, IfErr, IfOk, IsFalse, IsTrue, OnOk, length, slice_get};
+ghost use Rattle.std.specs.Prelude.{◌≡◌, ◌↔◌, ◌<◌, ◌-◌, ◌^◌, [], true, ℕ, All, None, Some, IfErr, IfOk, IsFalse, IsTrue, OnOk, length, slice_get};
 ghost use Rattle.ds_state.specs.Value.{WorldValue, world_of};
 ghost use Rattle.ds_state.specs.declared.situation.Situation.{Situation};
 ghost use Rattle.ds_work.specs.Reading.{unseen};
 ghost use Rattle.ds_core.specs.Takes.{Fits};
 ghost use Rattle.ds_core.specs.declared.event.Event.TheVariants as events;
+ghost use Rattle.ds_explore_state.specs.Buffers.{HasEmptyBuffer, HasEmptyBuffers};
+ghost use Rattle.ds_explore_state.specs.Following.{KnowsBuffers};
 ghost use Rattle.ds_explore_state.specs.Orders.{HappensAt, IsBusy, IsReadAnew, IsReady, IsUnderWay, ReadsWhereItShould, access_in, buffer_after, seat_after, seat_stopped, seats_of, written_by};
 ghost use Rattle.ds_explore_state.specs.declared.position.Move.TheVariants as moves;
-ghost use Rattle.ds_script_stops.specs.Reaching.{FallsShort};
+ghost use Rattle.ds_script_stops.specs.Reaching.{EndsHere, MeetsFault};
 ghost use Rattle.ds_explore_state.specs.States.{lost_seat, seat_of, word_in};
 
+use crate::buffers::has_empty_buffer;
 use crate::describe::word_at;
 use ds_calls::finish::step_once;
 use ds_core::event::Event;
@@ -66,7 +69,8 @@ pub struct Position {
 
 /// The world that a script leads to. An error is why it does not end.
 pub fn start(alloc: Global, script: &[u8]) -> Result<World, Short>
-    ensures { IfErr result (FallsShort true script.now (2 ^ 64 - 1)) }
+    ensures ends { IfOk result (EndsHere true script.now (2 ^ 64 - 1)) }
+    ensures faults { IfErr result (MeetsFault true script.now (2 ^ 64 - 1)) }
 {
     if script.len() > INPUT_LIMIT {
         return Err(Short::NoMemory);
@@ -212,8 +216,23 @@ fn entries_at(alloc: Global, world: &World, process: usize) -> Result<usize, All
     Ok(written.saturating_sub(flushed))
 }
 
+// How many entries of a buffer are there in a world.
+fn entries_of(alloc: Global, world: &World, process: usize) -> Result<usize, AllocError>
+    ensures { IfOk result (λ entries. HasEmptyBuffer ((world_of world.now).situation process) → entries ≡ 0) }
+{
+    if has_empty_buffer(world, process) {
+        return Ok(0);
+    }
+    entries_at(alloc, world, process)
+}
+
 // A buffer of that number of entries that are not known, but are the same in each order.
-fn unknown(alloc: Global, count: usize) -> Result<Vec<BufferEntry<Place>>, AllocError> {
+fn unknown(alloc: Global, count: usize) -> Result<Vec<BufferEntry<Place>>, AllocError>
+    ensures { IfOk result (λ buffer. count ≡ 0 → buffer.items ≡ []) }
+{
+    if count == 0 {
+        return Ok(Vec::new(alloc));
+    }
     let mut buffer = Vec::new(alloc);
     for number in 0..count {
         buffer.push(BufferEntry {
@@ -272,7 +291,9 @@ fn written_by(access: Access<Place>, buffer: &[BufferEntry<Place>]) -> Option<Pl
 
 impl ProcessState {
     // A process with that number of entries in its buffer.
-    fn new(alloc: Global, entries: usize) -> Result<ProcessState, AllocError> {
+    fn new(alloc: Global, entries: usize) -> Result<ProcessState, AllocError>
+        ensures { IfOk result (λ seat. entries ≡ 0 → seat.buffer.items ≡ []) }
+    {
         Ok(ProcessState {
             buffer: unknown(alloc, entries)?,
             answer: None,
@@ -348,11 +369,15 @@ impl ProcessState {
 
 impl Position {
     /// A world that a script leads to, before its calls go on.
-    pub fn new(alloc: Global, world: World) -> Result<Position, AllocError> {
+    pub fn new(alloc: Global, world: World) -> Result<Position, AllocError>
+        ensures world { IfOk result (λ position. position.world ≡ world) }
+        ensures known { IfOk result (λ position. HasEmptyBuffers world → KnowsBuffers position) }
+    {
         let mut seats = Vec::new(alloc);
         for process in 0..world.words.layout().processes {
-            let entries = entries_at(alloc, &world, process)?;
-            seats.push(ProcessState::new(alloc, entries)?)?;
+            let entries = entries_of(alloc, &world, process)?;
+            let seat = ProcessState::new(alloc, entries)?;
+            seats.push(seat)?;
         }
         Ok(Position { world, seats })
     }
@@ -434,7 +459,8 @@ impl Position {
 
     /// Whether a call is under way.
     pub fn is_under_way(&self) -> bool
-        ensures { IsFalse result → (p : ℕ) → IsBusy self.now p → ⊥ }
+        ensures none { IsFalse result → (p : ℕ) → IsBusy self.now p → ⊥ }
+        ensures one { IsTrue result → (p : ℕ) × IsBusy self.now p }
     {
         for process in 0..self.seats.len() {
             if is_in_call(&self.world, process) {

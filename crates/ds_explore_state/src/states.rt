@@ -1,14 +1,14 @@
 //! The states that were found, by their keys.
 
-ghost use Rattle.std.specs.Prelude.{◌≡◌, Some, IfOk, IfSome, IsTrue, length, slice_get};
+ghost use Rattle.std.specs.Prelude.{◌≡◌, Some, IfOk, IfSome, length, slice_get};
 ghost use Rattle.ds_explore_state.specs.Closed.{HasNumber, keys_of};
-ghost use Rattle.ds_explore_state.specs.States.{groups_of};
+ghost use Rattle.ds_explore_state.specs.States.{IsKey, crashed_state_of, groups_of};
 
 use crate::describe::Numbers;
+use crate::keys::Keys;
 use crate::position::Position;
 use crate::touched::Touched;
 use std::alloc::{AllocError, Global};
-use std::collections::HashMap;
 
 /// The states that were found, numbered in the order in which they were.
 #[derive(Drop)]
@@ -16,16 +16,7 @@ pub struct States {
     // Numbers of their parts.
     numbers: Numbers,
     // The key of each.
-    keys: Vec<Vec<u32>>,
-    // Their numbers, by their keys.
-    seen: HashMap<Vec<u32>, u32>,
-}
-
-// Whether a key that was found is this one.
-fn is_key(found: &Vec<u32>, key: &[u32]) -> bool
-    ensures { IsTrue result → found.now.items ≡ key.now }
-{
-    found.as_slice() == key
+    keys: Keys,
 }
 
 impl States {
@@ -33,8 +24,7 @@ impl States {
     pub fn new(alloc: Global) -> States {
         States {
             numbers: Numbers::new(alloc),
-            keys: Vec::new(alloc),
-            seen: HashMap::new(alloc),
+            keys: Keys::new(alloc),
         }
     }
 
@@ -47,7 +37,7 @@ impl States {
 
     /// Whether there is none.
     pub fn is_empty(&self) -> bool {
-        self.keys.is_empty()
+        self.keys.len() == 0
     }
 
     /// The key of the state of a position. Errors are those of `Numbers::state`.
@@ -74,21 +64,25 @@ impl States {
     pub fn find(&self, key: &[u32]) -> Option<u32>
         ensures { IfSome result (λ number. slice_get (keys_of self.now) number ≡ Some key.now) }
     {
-        let number = match self.seen.get(key) {
-            Some(number) => *number,
-            None => return None,
-        };
-        match self.keys.get(number as usize) {
-            Some(found) if is_key(found, key) => Some(number),
-            _ => None,
-        }
+        self.keys.find(key)
     }
 
-    /// The state with this key is found now, under this number. An error means that an allocation failed.
-    pub fn add(&mut self, alloc: Global, key: Vec<u32>, number: u32) -> Result<(), AllocError> {
-        self.keys.push(Vec::from_slice(alloc, &key)?)?;
-        self.seen.insert(key, number)?;
-        Ok(())
+    /// The state with this key is found now. An error means that an allocation failed, or that there are 2^32 states.
+    pub fn add(&mut self, alloc: Global, key: Vec<u32>) -> Result<(), AllocError> {
+        self.keys.add(alloc, key)
+    }
+
+    /// The key of the state that a crash leaves of a position, where each part of it has a number. An error means that
+    /// an allocation failed.
+    pub fn find_crashed(
+        &self,
+        alloc: Global,
+        position: &Position,
+        touched: &Touched,
+    ) -> Result<Option<Vec<u32>>, AllocError>
+        ensures { IfOk result (λ some. IfSome some (λ key. IsKey self.now.numbers key.items (crashed_state_of (groups_of touched.now) position.now))) }
+    {
+        self.numbers.find_crashed(alloc, position, touched)
     }
 
     /// The number of the state of a position, if it was found. An error means that an allocation failed.

@@ -41,19 +41,19 @@ blocks_more range whole script out text k w blocks stands (inr other) =
     (subst (λ (t : List ℕ). Blocks range whole script (suc k) t) (sym (append-nil out))
     (one_left_out k out blocks (λ is. other.0 (subst (λ (n : ℕ). IsIn range n) (sym e) is)))))
 
-ends_by : (range : StopRange) (whole : Bool) (script out : List ℕ) (k : ℕ) (short : Short) → Blocks range whole script k out → FallsShort whole script (suc k) short → StopsWith range whole script out (end_of whole short)
-ends_by range true script out k shorts.Ended blocks h = (refl, record { stops = k; blocks = blocks; ends = h })
-ends_by range false script out k shorts.Ended blocks h = (refl, record { stops = k; blocks = blocks; ends = h })
-ends_by range true script out k (shorts.Fault line kind) blocks h = record { stops = k; blocks = blocks; breaks = h }
-ends_by range false script out k (shorts.Fault line kind) blocks h = record { stops = k; blocks = blocks; breaks = h }
-ends_by range true script out k shorts.NoMemory blocks h = (k, blocks)
-ends_by range false script out k shorts.NoMemory blocks h = (k, blocks)
+ends_by : (range : StopRange) (whole : Bool) (script out : List ℕ) (k : ℕ) (w : WorldValue) (short : Short) → Blocks range whole script k out → FallsShort whole script (suc k) w short → StopsWith range whole script out (end_of whole short)
+ends_by range true script out k w shorts.Ended blocks h = (refl, record { stops = k; blocks = blocks; ends = h.ends })
+ends_by range false script out k w shorts.Ended blocks h = (refl, record { stops = k; blocks = blocks; ends = h.ends })
+ends_by range true script out k w (shorts.Fault line kind) blocks h = record { stops = k; blocks = blocks; breaks = h }
+ends_by range false script out k w (shorts.Fault line kind) blocks h = record { stops = k; blocks = blocks; breaks = h }
+ends_by range true script out k w shorts.NoMemory blocks h = (k, blocks)
+ends_by range false script out k w shorts.NoMemory blocks h = (k, blocks)
 
 -- where a run falls short of the next step, the blocks of those before are what is written
-pub ends_with : (range : StopRange) (whole : Bool) (script out : List ℕ) (k : ℕ) (short : Short) (end : ScriptEnd) → Blocks range whole script k out → FallsShort whole script (k + 1) short → end ≡ end_of whole short → StopsWith range whole script out end
-ends_with range whole script out k short end blocks h is =
+pub ends_with : (range : StopRange) (whole : Bool) (script out : List ℕ) (k : ℕ) (w : WorldValue) (short : Short) (end : ScriptEnd) → Blocks range whole script k out → FallsShort whole script (k + 1) w short → end ≡ end_of whole short → StopsWith range whole script out end
+ends_with range whole script out k w short end blocks h is =
     let e : k + 1 ≡ suc k = omega arith in
-    subst (λ (x : ScriptEnd). StopsWith range whole script out x) (sym is) (ends_by range whole script out k short blocks (subst (λ (n : ℕ). FallsShort whole script n short) e h))
+    subst (λ (x : ScriptEnd). StopsWith range whole script out x) (sym is) (ends_by range whole script out k w short blocks (subst (λ (n : ℕ). FallsShort whole script n w short) e h))
 
 -- how a script ends is never by a write that failed, but where one did
 pub writes : (whole : Bool) (short : Short) → end_of whole short ≢ ends.WriteFailed

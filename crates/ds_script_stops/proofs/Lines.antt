@@ -19,10 +19,10 @@ use Rattle.ds_script_stops.specs.declared.reach.ScriptPosition.{ScriptPosition}
 use Rattle.ds_script_stops.specs.declared.reach.StepPoint.{StepPoint}
 use Rattle.ds_script_stops.specs.declared.reach.Hindrance.{Hindrance}
 use Rattle.ds_script_stops.specs.declared.reach.Hindrance.TheVariants as hindrances
-use Rattle.ds_script_stops.specs.StopBlocks.{EndsBefore, BreaksBefore}
+use Rattle.ds_script_stops.specs.StopBlocks.{BreaksBefore}
 use Rattle.ds_script_stops.specs.declared.turn.Left.{Left}
 use Rattle.ds_script_stops.specs.ScriptTurns.{doing_of}
-use Rattle.ds_script_stops.specs.Reaching.{Ends, Halts, EndsOrder, HaltsOrder, PassesLine, StopsLine, Led, IsInside, IsAtLeft, IsAt, FallsShort, short_at}
+use Rattle.ds_script_stops.specs.Reaching.{Ends, Halts, EndsOrder, HaltsOrder, PassesLine, StopsLine, Led, IsInside, IsAtLeft, IsAt, EndsHere, FallsShort, short_at}
 use Rattle.ds_script_stops.proofs.Playing.{count_on}
 use Rattle.ds_script_stops.proofs.Carrying.{way_ends, way_halts}
 
@@ -135,8 +135,8 @@ module _ (whole : Bool) (script : List ℕ) (lines : ℕ) (point : StepPoint) (w
   )
 
   -- a line that stops the run
-  pub line_stops : (last : ℕ) (stop : Hindrance) → point.taken < last → StopsLine w point line stop → FallsShort whole script last (short_at (lines + 1) stop)
-  line_stops last (hindrances.Fault kind) below h = record {
+  pub line_stops : (last : ℕ) (stop : Hindrance) → point.taken < last → StopsLine w point line stop → (new : WorldValue) → FallsShort whole script last new (short_at (lines + 1) stop)
+  line_stops last (hindrances.Fault kind) below h new = record {
     out = led.out;
     breaks = record {
       lines = lines;
@@ -148,7 +148,7 @@ module _ (whole : Bool) (script : List ℕ) (lines : ℕ) (point : StepPoint) (w
     };
     fewer = let count = led.count in omega (arith, count, below);
   }
-  line_stops last hindrances.NoMemory below h = tt
+  line_stops last hindrances.NoMemory below h new = tt
 
 -- ---- in a command
 
@@ -176,11 +176,14 @@ module _ (whole : Bool) (script : List ℕ) (lines : ℕ) (point : StepPoint) (r
 -- ---- its end
 
 module _ (whole : Bool) (script : List ℕ) (lines : ℕ) (point : StepPoint) (w : WorldValue) (rest : List ℕ) (last : ℕ) (led : Led whole script lines point w rest) (below : point.taken < last) where
-  pub ends_short : next_of whole rest ≡ NoLine → EndsBefore whole script last
+  pub ends_short : next_of whole rest ≡ NoLine → EndsHere whole script last w
   ends_short none = record {
-    out = led.out;
-    finishes = record { lines = lines; progress = led.progress; rest = rest; carried = led.carried; none = none };
-    fewer = let count = led.count in omega (arith, count, below);
+    ends = record {
+      out = led.out;
+      finishes = record { lines = lines; progress = led.progress; rest = rest; carried = led.carried; none = none };
+      fewer = let count = led.count in omega (arith, count, below);
+    };
+    world_is = led.world_is;
   }
 
   pub breaks_long : next_of whole rest ≡ LongLine → BreaksBefore whole script last (lines + 1) LineTooLong

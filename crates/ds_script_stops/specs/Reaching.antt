@@ -178,16 +178,27 @@ IsAtLeft whole script lines point rest (Some l) w = IsInside whole script lines 
 abbrev pub IsAt : Bool → List ℕ → ScriptPosition → WorldValue → Type 0
 IsAt whole script place w = IsAtLeft whole script place.lines place.point place.rest.now place.left w
 
--- why a run of the script does not come to a step: it ends before, it meets a fault before, or an allocation fails
-abbrev pub FallsShort : Bool → List ℕ → ℕ → Short → Type 0
-FallsShort whole script last shorts.Ended = EndsBefore whole script last
-FallsShort whole script last (shorts.Fault line kind) = BreaksBefore whole script last line kind
-FallsShort whole script last shorts.NoMemory = Unit {0}
+-- a run of the script comes to its end with fewer steps, in this world
+pub record EndsHere (whole : Bool) (script : List ℕ) (last : ℕ) (w : WorldValue) : Type 0 where
+  pub ends : EndsBefore whole script last
+  pub world_is : ends.finishes.progress.world ≡ w
+
+-- why a run of the script does not come to a step, and the world where it ends before: it ends, it meets a fault, or an
+-- allocation fails
+abbrev pub FallsShort : Bool → List ℕ → ℕ → WorldValue → Short → Type 0
+FallsShort whole script last w shorts.Ended = EndsHere whole script last w
+FallsShort whole script last w (shorts.Fault line kind) = BreaksBefore whole script last line kind
+FallsShort whole script last w shorts.NoMemory = Unit {0}
+
+-- where a run of the script does not come to a step by a fault, it meets that before
+abbrev pub MeetsFault : Bool → List ℕ → ℕ → Short → Type 0
+MeetsFault whole script last (shorts.Fault line kind) = BreaksBefore whole script last line kind
+MeetsFault whole script last short = Unit {0}
 
 -- how far a run of the script has come that goes up to a step: it stands there; or why it does not come so far
 abbrev pub Reaches : Bool → List ℕ → ℕ → WorldValue → Result (Unit {0}) Short → Type 0
 Reaches whole script last w (Ok reached) = StandsAt whole script last w
-Reaches whole script last w (Err short) = FallsShort whole script last short
+Reaches whole script last w (Err short) = FallsShort whole script last w short
 
 -- why a run does not come to its step that is stopped at a line
 abbrev pub short_at : ℕ → Hindrance → Short

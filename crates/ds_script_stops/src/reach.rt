@@ -130,7 +130,7 @@ fn through_lines<'a>(
     ensures taken { IfOk result (λ now. now.point.taken ≡ last) }
     ensures within { IfOk result (λ now. IfSome now.left (IsWithin world.new)) }
     ensures short { IfOk result (λ now. now.lines + length now.rest.now ≤ from.entry.lines + length from.entry.rest.now) }
-    ensures falls { IfErr result (λ short. (script : List ℕ) → IsAt whole script from.entry world.old → FallsShort whole script last short) }
+    ensures falls { IfErr result (λ short. (script : List ℕ) → IsAt whole script from.entry world.old → FallsShort whole script last world.new short) }
 {
     let mut lines = from.lines;
     let mut point = from.point;
@@ -203,7 +203,7 @@ pub fn go_on<'a>(
     ensures taken { IfOk result (λ now. now.point.taken ≡ last) }
     ensures within { IfOk result (λ now. IfSome now.left (IsWithin world.new)) }
     ensures short { IfOk result (λ now. now.lines + length now.rest.now ≤ place.entry.lines + length place.entry.rest.now) }
-    ensures falls { IfErr result (λ short. (script : List ℕ) → IsAt whole script place.entry world.old → FallsShort whole script last short) }
+    ensures falls { IfErr result (λ short. (script : List ℕ) → IsAt whole script place.entry world.old → FallsShort whole script last world.new short) }
 {
     let Some(left) = place.left else {
         return through_lines(alloc, whole, place, last, world);
@@ -240,7 +240,7 @@ pub fn go_on<'a>(
 
 /// Carries a script out in a new world of two columns, two rows and two processes, without any output, until it has
 /// taken n steps: it stands after the last one then, in the middle of a command or at its end. An error is why
-/// it does not come so far. Where the script is not `whole`, a last piece without a line feed is no line.
+/// it does not come so far; where the script has ended, the world is the one that it leads to. Where the script is not `whole`, a last piece without a line feed is no line.
 pub fn reach(
     alloc: Global,
     script: &[u8],

@@ -4,6 +4,6 @@ use Rattle.ds_explore.proofs.ends.recover.Given as goal
 
 abbrev pub invariant-loop-process : goal.invariant-loop-process
 invariant-loop-process l = record {
-  are : AreRecoveries l.resolved.items l.text.items;
+  are : AreRecoveries l.fn.world l.resolved.items l.text.items l.world;
   count : length l.resolved.items ≡ l.process;
 }

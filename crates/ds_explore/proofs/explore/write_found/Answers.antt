@@ -1,18 +1,13 @@
 use Rattle.std.proofs.Common.{List, subst, sym, ℕ}
 use Rattle.std.specs.Io.KnownBytes.{Appends}
 use Rattle.ds_script_io.specs.Streams.{writer_of}
-use Rattle.ds_explore.specs.Explored.{Explores}
+use Rattle.ds_explore.specs.Whole.{Explores}
 use Rattle.ds_explore.specs.declared.explore.ExploreEnd.{ExploreEnd}
-use Rattle.ds_explore.proofs.Going.{goes_through}
-use Rattle.ds_explore.proofs.Telling.{explores_all}
 use Rattle.ds_explore.proofs.explore.write_found.Goals as goal
 
 pub returns-in-Ok-write_all-clause-writes : goal.returns-in-Ok-write_all-clause-writes
-returns-in-Ok-write_all-clause-writes g c = λ ne. (
+returns-in-Ok-write_all-clause-writes g c = λ options begins ne. (
   c.in-Ok-whole.all.text.items,
   subst (λ (t : List ℕ). Appends (g.W.Write.contents (writer_of c.args.writer.now)) (g.W.Write.contents (writer_of c.write_all.new.self)) t) c.deref.ensures.value c.in-Ok-write_all.ensures.bytes,
-  subst (λ (e : ExploreEnd). Explores c.args.script.now c.in-Ok-whole.all.text.items e) (sym c.ending.ensures) (explores_all c.args.script.now c.in-Ok-whole.all.text.items c.in-Ok.is_cut c.in-Ok-whole.all.flawed c.in-Ok-whole.ensures),
+  subst (λ (e : ExploreEnd). Explores c.args.script.now options c.in-Ok-whole.all.text.items e) (sym c.ending.ensures) (c.in-Ok-whole.ensures options begins),
 )
-
-pub returns-in-Ok-write_all-clause-all : goal.returns-in-Ok-write_all-clause-all
-returns-in-Ok-write_all-clause-all g c = goes_through c.args.start.now c.args.found.now.search.found c.in-Ok.is_cut c.in-Ok-whole.all.flawed c.ending.result c.in-Ok.ensures c.ending.ensures

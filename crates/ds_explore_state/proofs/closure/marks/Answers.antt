@@ -8,18 +8,20 @@ use Rattle.ds_explore_state.specs.States.{groups_of}
 use Rattle.ds_explore_state.specs.Closed.{AreKept}
 use Rattle.ds_explore_state.specs.Following.{IsKept}
 use Rattle.ds_explore_state.proofs.Closing.{kept_copy, no_visits, none_marked}
+use Rattle.ds_explore_state.proofs.WrittenEnds.{keys_none}
 use Rattle.ds_explore_state.proofs.closure.marks.Goals.{in-Some+in_ok-push, in_default}
 use Rattle.ds_explore_state.proofs.closure.marks.Goals as goal
 
 pub loop-init : goal.loop-init
-loop-init c = record {
-  marks = none_marked c.args.found.states.now (groups_of c.args.found.touched.now) c.args.found.allowed c.args.found.touched.now.places.items c.args.found.first.now c.in_ok-marks.marks.items _ c.in_ok-marks.ensures;
+loop-init g c = record {
+  marks = none_marked c.args.found.states.now (groups_of c.args.found.touched.now) (g.E.Endings.written c.args.endings.now) c.args.found.allowed c.args.found.touched.now.places.items c.args.found.first.now c.in_ok-marks.marks.items _ c.in_ok-marks.ensures;
+  keys = keys_none c.args.found.states.now (groups_of c.args.found.touched.now) (g.E.Endings.written c.args.endings.now) c.args.found.first.now _ c.new-crashes.ensures;
   kept = kept_copy (groups_of c.args.found.touched.now) c.args.found.first.now c.args.found.first.now c.in_ok-position.position c.in_ok-position.ensures.world c.in_ok-position.ensures.seats c.requires;
   visits = no_visits (groups_of c.args.found.touched.now) c.args.found.first.now c.new-visits.result.items c.new-visits.ensures.items;
 }
 
 pub loop-preserved : goal.loop-preserved
-loop-preserved c =
+loop-preserved g c =
     let visits : AreKept (groups_of c.args.found.touched.now) c.args.found.first.now c.match-branch-4.visits.items = elim c.match-branch-4.branch [
       | in-Some+in_ok-push w ↦
           subst (λ (l : List Visit). AreKept (groups_of c.args.found.touched.now) c.args.found.first.now l) (sym (ap (λ (v : Vec Visit). v.items) w.visits-is ∙ w.in_ok-push.ensures.items))
@@ -27,7 +29,8 @@ loop-preserved c =
       | in_default w ↦ subst (λ (v : Vec Visit). AreKept (groups_of c.args.found.touched.now) c.args.found.first.now v.items) (sym w.visits-is) c.loop.invariant.visits
     ] in
     record {
-      marks = c.in_ok-ahead.ensures;
+      marks = c.in_ok-ahead.ensures.marks;
+      keys = c.in_ok-ahead.ensures.keys;
       kept = subst (λ (o : Option Position). IfSome o (IsKept (groups_of c.args.found.touched.now) c.args.found.first.now)) c.in-Some-2.is (c.in_ok-after.ensures.next c.args.found.first.now visits);
       visits = c.in_ok-after.ensures.kept c.args.found.first.now visits;
     }

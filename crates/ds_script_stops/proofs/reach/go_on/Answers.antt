@@ -26,8 +26,8 @@ pub returns-in-Ended-clause-falls : goal.returns-in-Ended-clause-falls
 returns-in-Ended-clause-falls c =
     let between : ScriptPosition = record { lines = c.args.place.lines; point = record { begun = c.args.place.point.begun; taken = c.in-Ended.taken }; left = None; rest = c.args.place.rest } in
     if_err c.through_lines-in-Ended.result
-    (λ short. (script : List ℕ) → IsAt c.args.whole script between c.play.new.world → FallsShort c.args.whole script c.args.last short)
-    (λ short. (script : List ℕ) → IsAt c.args.whole script c.args.place c.args.world.now → FallsShort c.args.whole script c.args.last short)
+    (λ short. (script : List ℕ) → IsAt c.args.whole script between c.play.new.world → FallsShort c.args.whole script c.args.last c.through_lines-in-Ended.new.world short)
+    (λ short. (script : List ℕ) → IsAt c.args.whole script c.args.place c.args.world.now → FallsShort c.args.whole script c.args.last c.through_lines-in-Ended.new.world short)
     (λ short f. λ script h. f script (inside_ends c.args.whole script c.args.place.lines c.args.place.point c.args.place.rest.now c.in-Some.left c.args.world.now
     (inside c.args.whole script c.args.place c.in-Some.left c.args.world.now c.in-Some.is h) c.in-Ended.taken c.play.new.world c.in-Ended.ensures.0))
     c.through_lines-in-Ended.ensures.falls

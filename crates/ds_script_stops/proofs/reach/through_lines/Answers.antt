@@ -48,6 +48,6 @@ returns-in-Ok-Halted-clause-stands c = λ script h.
 
 pub returns-in-Err-clause-falls : goal.returns-in-Err-clause-falls
 returns-in-Err-clause-falls c = λ script h.
-    subst (λ (s : Short). FallsShort c.args.whole script c.args.last s) (sym c.stop_at.ensures)
+    subst (λ (s : Short). FallsShort c.args.whole script c.args.last c.obey.new.world s) (sym c.stop_at.ensures)
     (line_stops c.args.whole script c.lines.lines c.lines.point c.lines.world c.lines.rest.now c.in-Line.line.now c.in-Line.behind.now (c.lines.invariant.led script h) (sym c.in-Line.ensures)
-    c.args.last c.in-Err.stop c.lines.invariant.below c.in-Err.ensures.stops)
+    c.args.last c.in-Err.stop c.lines.invariant.below c.in-Err.ensures.stops c.obey.new.world)

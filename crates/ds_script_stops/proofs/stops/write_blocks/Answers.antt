@@ -26,7 +26,7 @@ returns-in-Err-clause-writes g c = λ ne.
     let w = c.loop-stops.invariant in (
       w.out,
       w.written,
-      ends_with c.args.range c.args.whole c.args.script.now w.out c.loop-stops.stops c.in-Err.short c.ending.result w.blocks (c.in-Err.ensures.falls c.args.script.now w.at) c.ending.ensures,
+      ends_with c.args.range c.args.whole c.args.script.now w.out c.loop-stops.stops c.go_on.new.world c.in-Err.short c.ending.result w.blocks (c.in-Err.ensures.falls c.args.script.now w.at) c.ending.ensures,
     )
 
 pub loop-stops-preserved : goal.loop-stops-preserved

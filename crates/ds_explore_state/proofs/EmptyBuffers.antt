@@ -1,5 +1,7 @@
 -- Where buffers are empty.
-use Rattle.std.proofs.Common.{ℕ, ◌≡◌, ◌<◌, ◌∙◌, List, [], sym, subst}
+use Rattle.std.proofs.Common.{ℕ, zero, suc, refl, inl, inr, ◌≡◌, ◌<◌, ◌∙◌, List, [], ◌∷◌, ◌++◌, map, sym, subst}
+use Rattle.std.specs.Prelude.{slice_index_or}
+use Rattle.std.proofs.lemmas.Bool.{cases_lt}
 use Rattle.ds_words.specs.declared.access.BufferEntry.{BufferEntry}
 use Rattle.ds_layout.specs.declared.place.Place.{Place}
 use Rattle.ds_layout.specs.SheetMemory.{memory}
@@ -15,7 +17,12 @@ use Rattle.ds_state.specs.declared.migration.MigrateStage.{MigrateStage}
 use Rattle.ds_state.specs.declared.migration.MigrateStage.TheVariants as stages
 use Rattle.ds_state.specs.declared.situation.Situation.{Situation}
 use Rattle.ds_state.specs.declared.situation.Situation.TheVariants.{Idle, Stopped, Editing, Working, Showing, Recovering, Migrating}
-use Rattle.ds_explore_state.specs.Buffers.{HasEmptyBuffer, MigratesEmpty}
+use Rattle.ds_explore_state.specs.declared.position.Position.{Position}
+use Rattle.ds_explore_state.specs.declared.position.ProcessState.{ProcessState}
+use Rattle.ds_explore_state.specs.Following.{KnowsBuffers}
+use Rattle.ds_explore_state.specs.Orders.{no_seat}
+use Rattle.ds_explore_state.specs.States.{seat_of}
+use Rattle.ds_explore_state.specs.Buffers.{HasEmptyBuffer, HasEmptyBuffers, MigratesEmpty}
 
 migrates_empty : (w : PlainWorld) (p : ℕ) (e : PlainMigrateCall) (stage : MigrateStage) → MigratesEmpty stage → MigrationHolds w p e stage → w.memory.buffer p ≡ []
 migrates_empty w p e (stages.BackNew at) none holds = absurd none
@@ -39,3 +46,27 @@ empty_by w p (Migrating e) fits none = migrates_empty w p e e.stage none fits.bu
 
 pub buffer_is_empty : (w : WorldValue) (p : ℕ) → IsGood w → p < w.sheet.layout.processes → HasEmptyBuffer ((world_of w).situation p) → (memory w.sheet).buffer p ≡ []
 buffer_is_empty w p good low none = empty_by (world_of w) p ((world_of w).situation p) (good.sound.calls p low) none
+
+-- ---- the first position
+
+-- one process more that has nothing in its buffer
+pub buffers_push : (old new : List ProcessState) (seat : ProcessState) → ((q : ℕ) → (slice_index_or (map seat_of old) q no_seat).buffer ≡ []) → seat.buffer.items ≡ [] → new ≡ old ++ seat ∷ [] → (q : ℕ) → (slice_index_or (map seat_of new) q no_seat).buffer ≡ []
+buffers_push old new seat all none e q = subst (λ (l : List ProcessState). (slice_index_or (map seat_of l) q no_seat).buffer ≡ []) (sym e) (pushed old q all)
+  where
+    pushed : (old : List ProcessState) (q : ℕ) → ((q : ℕ) → (slice_index_or (map seat_of old) q no_seat).buffer ≡ []) → (slice_index_or (map seat_of (old ++ seat ∷ [])) q no_seat).buffer ≡ []
+    pushed [] zero all = none
+    pushed [] (suc q) all = refl
+    pushed (x ∷ old) zero all = all zero
+    pushed (x ∷ old) (suc q) all = pushed old q (λ q. all (suc q))
+
+-- where no process of the sheet has anything in its buffer, nor says so, buffers are known
+pub all_known : (x : Position) (w : WorldValue) (seats : List ProcessState) → IsGood w → x.world ≡ w → x.seats.items ≡ seats → (HasEmptyBuffers w → (q : ℕ) → (slice_index_or (map seat_of seats) q no_seat).buffer ≡ []) → HasEmptyBuffers w → KnowsBuffers x
+all_known x w seats good e f says none q =
+    subst (λ (v : WorldValue). (memory v.sheet).buffer q ≡ (slice_index_or (map seat_of x.seats.items) q no_seat).buffer) (sym e)
+    (subst (λ (l : List ProcessState). (memory w.sheet).buffer q ≡ (slice_index_or (map seat_of l) q no_seat).buffer) (sym f) (real ∙ sym (says none q)))
+  where
+    real : (memory w.sheet).buffer q ≡ []
+    real = elim (cases_lt q w.sheet.layout.processes) [
+      | inl low ↦ buffer_is_empty w q good low (none.empty q low)
+      | inr far ↦ none.others q far
+    ]

@@ -1,0 +1,33 @@
+-- Where orders begin, and where they end.
+use Rattle.std.specs.Prelude.{ℕ, ◌≡◌, ◌^◌, ◌-◌, Bool, true, false, IsTrue, List}
+use Rattle.ds_script_stops.specs.Reaching.{EndsHere}
+use Rattle.ds_explore_state.specs.declared.orders.Allowed.{Allowed}
+use Rattle.ds_explore_state.specs.declared.position.Move.{Move}
+use Rattle.ds_explore_state.specs.declared.position.Position.{Position}
+use Rattle.ds_explore_state.specs.Buffers.{HasEmptyBuffers}
+use Rattle.ds_explore_state.specs.Closed.{Order}
+use Rattle.ds_explore_state.specs.Following.{KnowsBuffers}
+use Rattle.ds_explore_state.specs.Orders.{IsBusy}
+use Rattle.ds_explore.specs.declared.options.Options.{Options}
+use Rattle.ds_explore.specs.declared.search.Start.{Start}
+
+-- what may come between the steps of calls, or after them
+abbrev pub allowed_by : Options → Allowed
+allowed_by options = record { stops = options.stops; evictions = options.evictions; crashes = options.crashes }
+
+-- orders begin where the script ends, with what these options ask for; what buffers hold there is known where it is nothing
+pub record IsStart (script : List ℕ) (options : Options) (start : Start) : Type 0 where
+  pub asked : start.options ≡ options
+  pub ends : EndsHere true script (2 ^ 64 - 1) start.first.world
+  pub known : HasEmptyBuffers start.first.world → KnowsBuffers start.first
+
+-- an order may end at the position: with a crash, where crashes may come; without one, where no call is under way
+abbrev pub MayEnd : Options → Position → Bool → Type 0
+MayEnd options x true = IsTrue options.crashes
+MayEnd options x false = (p : ℕ) → IsBusy x p → ⊥
+
+-- an order from this start ends at the position, with a crash there or without one
+pub record IsEnd (start : Start) (x : Position) (crashed : Bool) : Type 0 where
+  pub moves : List Move
+  pub order : Order (allowed_by start.options) start.touched.places.items start.first moves x
+  pub may : MayEnd start.options x crashed
