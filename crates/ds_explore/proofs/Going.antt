@@ -37,6 +37,7 @@ module _ (script : List ℕ) (options : Options) (start : Start) (begins : IsSta
 
   pub explores_of : (cut endless flawed : Bool) → head ≡ figures_text states orders ++ endless_text endless → AreOutcomes script start (suc more) orders flawed keys text → out ≡ head ++ text → (IsFalse cut → HasAll start keys found)
       → Explores script options out (end_of cut (endless || flawed))
+  unfolding writes_of
   explores_of true endless flawed is outcomes e has = (endless || flawed, writes_of endless flawed is outcomes e)
   explores_of false true flawed is outcomes e has = record { writes = writes_of true flawed is outcomes e; through = goes_through start keys found (has refl) }
   explores_of false false true is outcomes e has = record { writes = writes_of false true is outcomes e; through = goes_through start keys found (has refl) }

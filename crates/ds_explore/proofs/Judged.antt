@@ -1,7 +1,7 @@
 -- Flaws, one after the other, and texts of answers.
-use Rattle.std.proofs.Common.{ℕ, ◌+◌, ◌≡◌, add-one, List, [], ◌∷◌, ◌++◌, length, Some, None, Ok, Err, sym, subst, ap, ◌∙◌, append_assoc}
+use Rattle.std.proofs.Common.{ℕ, ◌+◌, ◌≡◌, ◌<◌, get_or, map, take, add-one, List, [], ◌∷◌, ◌++◌, length, Some, None, Ok, Err, sym, subst, ap, ◌∙◌, append_assoc}
 use Rattle.std.specs.Prelude.{Option, IfSome, IfOk, All, Result}
-use Rattle.std.proofs.lemmas.List.{append-nil, length_push, map-append}
+use Rattle.std.proofs.lemmas.List.{append-nil, length_push, map-append, map_more}
 use Rattle.std.proofs.lemmas.List.Elements.{All-nil, All-push}
 use Rattle.std.specs.Global.{Vec}
 use Rattle.ds_state.specs.Value.{WorldValue}
@@ -16,7 +16,8 @@ use Rattle.ds_explore.specs.declared.judge.Judge.{Judge}
 use Rattle.ds_state.specs.declared.answer.Answer.TheVariants.{Recovery}
 use Rattle.ds_core.specs.declared.event.Event.TheVariants.{BeginRecover}
 use Rattle.ds_calls.specs.Whole.{IsWhole}
-use Rattle.ds_explore_state.specs.States.{PlainSeat}
+use Rattle.ds_explore_state.specs.declared.position.ProcessState.{ProcessState}
+use Rattle.ds_explore_state.specs.States.{PlainSeat, seat_of}
 use Rattle.ds_explore.specs.Judging.{Adds, AreAnswers, AreRecoveries, IsJudged, IsOfValue, answer_text, flaws_below, listed, no_answer, no_recovery, one_answer_more, one_recovery_more, process_flaw, replied, report_flaws, settle_flaw, text_flaw, texts_below, texts_in, texts_of}
 
 -- ---- flaws
@@ -76,6 +77,10 @@ recoveries_more first old new resolved text line p came resolved' text' are coun
     subst (λ (t : List (Result RecoveryEnd Refusal)). AreRecoveries first t text' new) (sym e)
     (subst (λ (t : List ℕ). AreRecoveries first (resolved ++ came ∷ []) t new) (sym (f ∙ ap (λ (l : List ℕ). text ++ l) (is ∙ ap (λ (n : ℕ). reply_text new n (replied recoveries came)) (sym count))))
     (one_recovery_more resolved text old new came are (subst (λ (n : ℕ). IsWhole Recovery n (BeginRecover n) old came new) (sym count) whole)))
+
+-- the processes up to one more
+pub seats_more : (xs : List ProcessState) (p : ℕ) (x : ProcessState) → p < length xs → x ≡ get_or xs p x → map seat_of (take (p + 1) xs) ≡ map seat_of (take p xs) ++ seat_of x ∷ []
+seats_more xs p x low at = map_more seat_of xs p x low ∙ ap (λ (v : ProcessState). map seat_of (take p xs) ++ seat_of v ∷ []) (sym at)
 
 -- a list of one more is one longer
 pub longer : {X : Type 0} (xs ys : List X) (x : X) (n : ℕ) → length xs ≡ n → ys ≡ xs ++ x ∷ [] → length ys ≡ n + 1

@@ -1,3 +1,4 @@
 pub mod Telling
 pub mod Judged
 pub mod Going
+pub mod Leading

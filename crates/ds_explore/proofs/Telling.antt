@@ -1,9 +1,9 @@
 -- Scripts that are answered, and the outcomes that are written.
-use Rattle.std.proofs.Common.{ℕ, suc, ◌+◌, ◌||◌, add-one, ◌≡◌, ◌≤◌, ◌<◌, get_or, Bool, true, false, List, [], ◌++◌, Option, Some, length, take, refl, sym, subst, ap, ◌∙◌, ◌∷◌, append_assoc, inl, inr}
+use Rattle.std.proofs.Common.{ℕ, zero, suc, arith, map, Ok, Err, ◌+◌, ◌||◌, add-one, ◌≡◌, ◌≤◌, ◌<◌, get_or, Bool, true, false, List, [], ◌++◌, Option, Some, length, take, refl, sym, subst, ap, ◌∙◌, ◌∷◌, append_assoc, inl, inr}
 use Rattle.std.proofs.lemmas.List.{append-nil, map-append, take_all, take_more}
 use Rattle.std.specs.Global.{Vec}
 use Rattle.std.proofs.KnownBytes.{Consumes-all}
-use Rattle.std.specs.Prelude.{◌-◌, ◌^◌, All, nat_eq}
+use Rattle.std.specs.Prelude.{◌-◌, ◌^◌, All, IfOk, Result, nat_eq, slice_get}
 use Rattle.std.specs.List.{ends_with}
 use Rattle.std.specs.Str.{bytes_eq}
 use Rattle.std.proofs.lemmas.Slice.Eq.{bytes_eq-Decides}
@@ -23,9 +23,13 @@ use Rattle.ds_explore.specs.declared.options.Options.{Options}
 use Rattle.ds_explore.specs.declared.search.Start.{Start}
 use Rattle.ds_explore_state.specs.declared.position.Position.{Position}
 use Rattle.ds_explore.specs.declared.outcomes.Finding.{Finding}
-use Rattle.ds_explore.specs.Judging.{ComesTo, IsPart, texts_of}
+use Rattle.ds_state.specs.Value.{WorldValue}
+use Rattle.ds_explore_state.specs.declared.position.ProcessState.{ProcessState}
+use Rattle.ds_explore_state.specs.States.{seat_of}
+use Rattle.ds_explore.specs.declared.judge.Judge.{Judge}
+use Rattle.ds_explore.specs.Judging.{ComesTo, EndsIn, IsFound, IsPart, texts_of}
 use Rattle.ds_explore.specs.Starts.{IsEnd}
-use Rattle.ds_explore.specs.Whole.{Explores}
+use Rattle.ds_explore.specs.Whole.{Explores, IsAmong}
 use Rattle.ds_explore.specs.Lines.{IsLines, no_line, one_line_more, line_text, GoesOn}
 use Rattle.ds_explore.specs.Explored.{wrong_text, wrong_texts, joined, key_text, IsBlock, IsOutcome, AreOutcomes, one_outcome, one_outcome_more, orders_joined, end_short}
 
@@ -148,3 +152,28 @@ differs read items key is unlike same =
 pub fresh_as : (keys now : List (Vec ℕ)) (key read : List ℕ) → now ≡ keys → read ≡ key → All (λ other. other ≡ read → ⊥) (texts_of now) → All (λ other. other ≡ key → ⊥) (texts_of keys)
 fresh_as keys now key read is same h =
     subst (λ (ks : List (Vec ℕ)). All (λ other. other ≡ key → ⊥) (texts_of ks)) is (subst (λ (k : List ℕ). All (λ other. other ≡ k → ⊥) (texts_of now)) same h)
+
+-- ---- what is among the outcomes
+
+-- a key that was found has its number
+pub key_there : (keys : List (Vec ℕ)) (n : ℕ) (found : Vec ℕ) (key : List ℕ) → n < length keys → found ≡ get_or keys n found → found.items ≡ key → slice_get (texts_of keys) n ≡ Some key
+key_there keys n found key low at is = there keys n low at ∙ ap (λ (t : List ℕ). Some t) is
+  where
+    there : (keys : List (Vec ℕ)) (n : ℕ) → n < length keys → found ≡ get_or keys n found → slice_get (texts_of keys) n ≡ Some found.items
+    there [] n low at = absurd (let bad : ⊥ = omega (arith, low) in bad)
+    there (k ∷ keys) zero low at = ap (λ (v : Vec ℕ). Some v.items) (sym at)
+    there (k ∷ keys) (suc n) low at = there keys n (omega (arith, low)) at
+
+-- what an order comes to is among the outcomes
+pub among_of : (judge : Judge) (keys : List (List ℕ)) (x : Position) (crashed : Bool) (found : Finding) (key : List ℕ) (n : ℕ) → ComesTo judge x crashed found → slice_get keys n ≡ Some key → key ≡ key_text found → IsAmong judge keys x crashed
+among_of judge keys x crashed found key n comes there is = record { found = found; comes = comes; number = n; there = there ∙ ap (λ (t : List ℕ). Some t) is }
+
+-- what is found in the world that an order leaves is what it comes to
+pub comes_ok : {E : Type 0} (r : Result Finding E) (judge : Judge) (x : Position) (crashed : Bool) (copy begun : WorldValue) (seats : List ProcessState) → copy ≡ x.world → EndsIn crashed copy begun → seats ≡ x.seats.items → IfOk r (IsFound judge begun (map seat_of seats) crashed)
+    → IfOk r (ComesTo judge x crashed)
+comes_ok (Ok found) judge x crashed copy begun seats e ends f h = record {
+  begun = begun;
+  ends = subst (λ (w : WorldValue). EndsIn crashed w begun) e ends;
+  found_so = subst (λ (l : List ProcessState). IsFound judge begun (map seat_of l) crashed found) f h;
+}
+comes_ok (Err e) judge x crashed copy begun seats d ends f h = tt

@@ -7,7 +7,7 @@ use Rattle.ds_explore_state.specs.declared.position.Position.{Position}
 use Rattle.ds_explore_state.specs.Buffers.{HasEmptyBuffers}
 use Rattle.ds_explore_state.specs.Closed.{Order}
 use Rattle.ds_explore_state.specs.Following.{KnowsBuffers}
-use Rattle.ds_explore_state.specs.Orders.{IsBusy}
+use Rattle.ds_explore_state.specs.Orders.{IsBusy, seats_of}
 use Rattle.ds_explore.specs.declared.options.Options.{Options}
 use Rattle.ds_explore.specs.declared.search.Start.{Start}
 
@@ -26,8 +26,15 @@ abbrev pub MayEnd : Options → Position → Bool → Type 0
 MayEnd options x true = IsTrue options.crashes
 MayEnd options x false = (p : ℕ) → IsBusy x p → ⊥
 
--- an order from this start ends at the position, with a crash there or without one
-pub record IsEnd (start : Start) (x : Position) (crashed : Bool) : Type 0 where
+-- an order from this start leads to a position of the same world, whose processes have the same
+pub record IsLedTo (start : Start) (x : Position) : Type 0 where
   pub moves : List Move
-  pub order : Order (allowed_by start.options) start.touched.places.items start.first moves x
+  pub position : Position
+  pub order : Order (allowed_by start.options) start.touched.places.items start.first moves position
+  pub world : x.world ≡ position.world
+  pub seats : seats_of x ≡ seats_of position
+
+-- an order from this start ends there, with a crash or without one
+pub record IsEnd (start : Start) (x : Position) (crashed : Bool) : Type 0 where
+  pub led : IsLedTo start x
   pub may : MayEnd start.options x crashed

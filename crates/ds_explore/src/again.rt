@@ -1,12 +1,10 @@
 //! An order, carried out again.
 
-ghost use Rattle.std.specs.Prelude.{◌≡◌, ℕ, IfOk, IsTrue, List, OnOk, Some, slice_get};
-ghost use Rattle.ds_explore_state.specs.Closed.{Order};
+ghost use Rattle.std.specs.Prelude.{◌≡◌, ℕ, IfOk, IsTrue, OnOk, Some, slice_get};
 ghost use Rattle.ds_explore_state.specs.Orders.{MayHappen};
-ghost use Rattle.ds_explore_state.specs.declared.position.Move.{Move};
 ghost use Rattle.ds_explore_state.specs.declared.position.Move.TheVariants.{Evict};
 ghost use Rattle.ds_explore.specs.Judging.{ComesTo};
-ghost use Rattle.ds_explore.specs.Starts.{IsEnd, MayEnd, allowed_by};
+ghost use Rattle.ds_explore.specs.Starts.{IsEnd, IsLedTo, MayEnd, allowed_by};
 
 use crate::outcomes::Finding;
 use crate::search::Start;
@@ -60,8 +58,7 @@ impl Start {
 
     // What has this number happens, if it may. An error is also that it may not.
     fn go_on(&self, alloc: Global, position: &mut Position, by: u32) -> Result<(), AllocError>
-        ensures { (moves : List Move) → Order (allowed_by self.now.options) self.now.touched.places.items self.now.first moves position.old
-            → OnOk result ((more : List Move) × Order (allowed_by self.now.options) self.now.touched.places.items self.now.first more position.new) }
+        ensures { IsLedTo self.now position.old → OnOk result (IsLedTo self.now position.new) }
     {
         let next = match self.moves.get(by as usize) {
             Some(next) => *next,
@@ -76,7 +73,7 @@ impl Start {
 
     // The position that an order of these events leads to.
     fn led_to(&self, alloc: Global, path: &[u32]) -> Result<Position, AllocError>
-        ensures { IfOk result (λ position. (moves : List Move) × Order (allowed_by self.now.options) self.now.touched.places.items self.now.first moves position) }
+        ensures { IfOk result (IsLedTo self.now) }
     {
         let mut position = self.position(alloc)?;
         for by in path {

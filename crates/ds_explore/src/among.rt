@@ -60,12 +60,19 @@ pub(crate) struct Outcomes<'a> {
     pub(crate) keys: &'a [Vec<u8>],
 }
 
+// Whether the key that is there is this one.
+fn is_key(found: &Vec<u8>, key: &[u8]) -> bool
+    ensures { IsTrue result → found.now.items ≡ key.now }
+{
+    found.as_slice() == key
+}
+
 // Whether this is one of the keys.
 fn has_key(keys: &[Vec<u8>], key: &[u8]) -> bool
     ensures { IsTrue result → (number : ℕ) × (slice_get (texts_of keys.now) number ≡ Some key.now) }
 {
     for number in 0..keys.len() {
-        if keys[number].as_slice() == key {
+        if is_key(&keys[number], key) {
             return true;
         }
     }

@@ -70,6 +70,20 @@ fn answer_text(
     }
 }
 
+// What a process's call was answered that an order has left so, and the text of that, or of its stop.
+fn said_by(
+    alloc: Global,
+    world: &World,
+    process: usize,
+    seat: &ProcessState,
+) -> Result<(Option<Answer>, Vec<u8>), AllocError>
+    ensures { IfOk result (λ said. (said.0 ≡ seat.now.answer) × (said.1.items ≡ answer_text world.now process seat.now.answer seat.now.text.items)) }
+{
+    let answer = seat.answer;
+    let text = answer_text(alloc, world, process, answer, &seat.text)?;
+    Ok((answer, text))
+}
+
 /// What the calls of an order were answered that ends in this world, and has left its processes so. An error means that
 /// an allocation failed.
 pub(crate) fn what_was_said(
@@ -82,9 +96,7 @@ pub(crate) fn what_was_said(
     let mut answers = Vec::new(alloc);
     let mut texts = Vec::new(alloc);
     for process in 0..seats.len() {
-        let seat = &seats[process];
-        let answer = seat.answer;
-        let text = answer_text(alloc, world, process, answer, &seat.text)?;
+        let (answer, text) = said_by(alloc, world, process, &seats[process])?;
         answers.push(answer)?;
         texts.push(text)?;
     }

@@ -330,7 +330,12 @@ struct Exploration {
 }
 
 // All that is written.
-fn whole(alloc: Global, script: &[u8], start: &Start, found: &Found) -> Result<Exploration, AllocError>
+fn whole(
+    alloc: Global,
+    script: &[u8],
+    start: &Start,
+    found: &Found,
+) -> Result<Exploration, AllocError>
     ensures { (options : Options) → IsStart script.now options start.now → IfOk result (λ all. Explores script.now options all.text.items (end_of all.is_cut all.is_wrong)) }
 {
     let outcomes = all_outcomes(alloc, script, start, found)?;

@@ -4,6 +4,7 @@ ghost use Rattle.std.specs.Prelude.{◌≡◌, ◌-◌, ◌^◌, true, IfErr, If
 ghost use Rattle.ds_script_stops.specs.Reaching.{MeetsFault};
 ghost use Rattle.ds_explore.specs.Judging.{texts_of};
 ghost use Rattle.ds_explore_state.specs.Following.{KnowsBuffers};
+ghost use Rattle.ds_explore_state.specs.Orders.{seats_of};
 ghost use Rattle.ds_explore_state.specs.Buffers.{HasEmptyBuffers};
 ghost use Rattle.ds_explore.specs.Starts.{IsStart};
 ghost use Rattle.ds_explore.specs.Whole.{HasAll};
@@ -183,7 +184,10 @@ impl Start {
     }
 
     /// The first state.
-    pub(crate) fn position(&self, alloc: Global) -> Result<Position, AllocError> {
+    pub(crate) fn position(&self, alloc: Global) -> Result<Position, AllocError>
+        ensures world { IfOk result (λ copy. copy.world ≡ self.now.first.world) }
+        ensures seats { IfOk result (λ copy. seats_of copy ≡ seats_of self.now.first) }
+    {
         self.first.copy(alloc)
     }
 

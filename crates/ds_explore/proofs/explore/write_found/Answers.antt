@@ -7,7 +7,7 @@ use Rattle.ds_explore.proofs.explore.write_found.Goals as goal
 
 pub returns-in-Ok-write_all-clause-writes : goal.returns-in-Ok-write_all-clause-writes
 returns-in-Ok-write_all-clause-writes g c = λ options begins ne. (
-  c.in-Ok-whole.all.text.items,
+  c.in-Ok.all.text.items,
   subst (λ (t : List ℕ). Appends (g.W.Write.contents (writer_of c.args.writer.now)) (g.W.Write.contents (writer_of c.write_all.new.self)) t) c.deref.ensures.value c.in-Ok-write_all.ensures.bytes,
-  subst (λ (e : ExploreEnd). Explores c.args.script.now options c.in-Ok-whole.all.text.items e) (sym c.ending.ensures) (c.in-Ok-whole.ensures options begins),
+  subst (λ (e : ExploreEnd). Explores c.args.script.now options c.in-Ok.all.text.items e) (sym c.ending.ensures) (c.in-Ok.ensures options begins),
 )
