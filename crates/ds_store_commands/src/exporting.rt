@@ -1,6 +1,6 @@
 //! `dsheet export`.
 
-use crate::reading::{read_database, read_store};
+use crate::reading::{Copied, read_database, read_store};
 use crate::status::store_status;
 use crate::stores::{tell_fault, written};
 use crate::tables::{Cells, table_of};
@@ -8,6 +8,7 @@ use ds_cli::exporting::{ExportForm, Exporting};
 use ds_store::fault::StoreFault;
 use ds_store::sound::{SoundLines, first_sound};
 use ds_store_sums::sums::is_sum;
+use sqlite::Connection;
 use std::fs::Files;
 use std::io::{self, BufWriter, Write};
 
@@ -85,20 +86,28 @@ fn tell_left_out<R: Eprint>(rt: &R, path: &str, sound: &SoundLines) -> u8 {
     0
 }
 
-// The lines of a store that are sound, this number of them at most. An error is the status, when standard error has the reason.
+// The lines in a database that are sound, this number of them at most. An error is the status, when standard error has the
+// reason.
+fn sound_of<R: AllocGlobal + Eprint>(
+    rt: &R,
+    path: &str,
+    conn: &mut Connection<Copied>,
+    until: usize,
+) -> Result<SoundLines, u8> {
+    match first_sound(rt.alloc(), conn, until) {
+        Ok(sound) => Ok(sound),
+        Err(fault) => Err(tell_fault(rt, path, &fault)),
+    }
+}
+
+// The same of the store at this path.
 fn read_sound<R: AllocGlobal + Eprint + Files>(
     rt: &R,
     path: &str,
     until: usize,
 ) -> Result<SoundLines, u8> {
-    let mut conn = match read_database(rt, path) {
-        Ok(conn) => conn,
-        Err(status) => return Err(status),
-    };
-    match first_sound(rt.alloc(), &mut conn, until) {
-        Ok(sound) => Ok(sound),
-        Err(fault) => Err(tell_fault(rt, path, &fault)),
-    }
+    let mut conn = read_database(rt, path)?;
+    sound_of(rt, path, &mut conn, until)
 }
 
 // Writes what is asked for of sound lines, and reports on standard error which were left out. Gives the status.

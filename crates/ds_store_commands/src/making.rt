@@ -6,6 +6,7 @@ use ds_store::fault::StoreFault;
 use ds_store::open::Databases;
 use ds_store::store::{Store, is_bare};
 use sqlite::Connection;
+use std::alloc::Global;
 use std::fs::{self, File, Files};
 use std::io;
 
@@ -21,35 +22,47 @@ fn make_file<R: Eprint + Files<File = File>>(rt: &R, path: &str) -> Result<(), u
     }
 }
 
-// Opens a database at this path that has nothing, and is made where there is none. An error is as before.
-fn open_new<R: AllocGlobal + Eprint + Databases>(
-    rt: &R,
-    path: &str,
-) -> Result<Connection<Disk>, u8> {
-    let conn = match rt.open_database(path) {
-        Ok(conn) => conn,
-        Err(fault) => return Err(tell_fault(rt, path, &fault)),
-    };
-    if is_bare(&conn) {
-        Ok(conn)
-    } else {
-        let _reported = eprintln!(rt; "dsheet: {path}: it has a store, or something else, already");
-        Err(BAD_STORE)
+// That a database at this path has nothing. An error is as before.
+fn see_bare<R: Eprint>(rt: &R, path: &str, conn: &Connection<Disk>) -> Result<(), u8> {
+    if is_bare(conn) {
+        return Ok(());
+    }
+    let _reported = eprintln!(rt; "dsheet: {path}: it has a store, or something else, already");
+    Err(BAD_STORE)
+}
+
+// Opens a database at this path, which is made where there is none. An error is as before.
+fn open_any<R: Eprint + Databases>(rt: &R, path: &str) -> Result<Connection<Disk>, u8> {
+    match rt.open_database(path) {
+        Ok(conn) => Ok(conn),
+        Err(fault) => Err(tell_fault(rt, path, &fault)),
     }
 }
 
-// Makes a store of these lines in the empty file at this path, and gives the status.
-fn fill<R: AllocGlobal + Eprint + Files<File = File> + Databases>(
-    rt: &R,
-    path: &str,
+// The same of one that has nothing.
+fn open_new<R: Eprint + Databases>(rt: &R, path: &str) -> Result<Connection<Disk>, u8> {
+    let conn = open_any(rt, path)?;
+    see_bare(rt, path, &conn)?;
+    Ok(conn)
+}
+
+// A store of these lines in a database that has nothing.
+fn made(
+    alloc: Global,
+    conn: Connection<Disk>,
     lines: Vec<String>,
-) -> u8 {
+) -> Result<Store<Disk>, StoreFault> {
+    Ok(Store::of_lines(alloc, conn, lines)?.store)
+}
+
+// Makes a store of these lines in the empty file at this path, and gives the status.
+fn fill<R: AllocGlobal + Eprint + Databases>(rt: &R, path: &str, lines: Vec<String>) -> u8 {
     let conn = match open_new(rt, path) {
         Ok(conn) => conn,
         Err(status) => return status,
     };
-    match Store::of_lines(rt.alloc(), conn, lines) {
-        Ok(opened) => close(rt, path, opened.store),
+    match made(rt.alloc(), conn, lines) {
+        Ok(store) => close(rt, path, store),
         Err(fault) => tell_fault(rt, path, &fault),
     }
 }

@@ -3,9 +3,10 @@
 use crate::stores::{tell_error, tell_fault};
 use ds_batch::status::STREAM_FAILED;
 use ds_layout::layout::Layout;
+use ds_store::backup::lines_of;
 use ds_store::fault::StoreFault;
 use ds_store::snapshot::snapshot;
-use ds_store::store::{Opened, Store};
+use ds_store_journal::journal::read_sheet;
 use sqlite::{Connection, FileStore};
 use sqlite_disk::Memory;
 use std::alloc::Global;
@@ -104,35 +105,36 @@ pub(crate) fn read_database<R: AllocGlobal + Eprint + Files>(
 pub(crate) struct ReadStore {
     /// The shape of its sheet, and how many processes it has.
     pub layout: Layout,
-    /// How many of its processes may be joined: the first ones.
-    pub joins: usize,
-    /// How many edits of its sheet each process has made.
-    pub edits: Vec<usize>,
     /// The lines of its journal, all of them.
     pub lines: Vec<String>,
 }
 
-// What an open store has.
-fn parts_of(alloc: Global, opened: Opened<Copied>) -> Result<ReadStore, StoreFault> {
-    let Opened { store, lines, .. } = opened;
-    let layout = store.layout();
-    let mut edits = Vec::new(alloc);
-    for process in 0..layout.processes {
-        if edits.push(store.edits_of(process)).is_err() {
-            return Err(StoreFault::NoMemory);
-        }
+// What a store with these lines has.
+fn read_lines(lines: Vec<String>) -> Result<ReadStore, StoreFault> {
+    let Some(first) = lines.first() else {
+        return Err(StoreFault::Missing(1));
+    };
+    match read_sheet(first.as_bytes()) {
+        Ok(layout) => Ok(ReadStore { layout, lines }),
+        Err(fault) => Err(StoreFault::at_line(1, fault)),
     }
-    Ok(ReadStore {
-        layout,
-        joins: store.joins(),
-        edits,
-        lines,
-    })
 }
 
-// What the store in a database has.
-fn opened_parts(alloc: Global, conn: Connection<Copied>) -> Result<ReadStore, StoreFault> {
-    parts_of(alloc, Store::open(alloc, conn)?)
+// What the store in a database has. Its lines were followed, each in its turn.
+fn read_conn(alloc: Global, conn: &mut Connection<Copied>) -> Result<ReadStore, StoreFault> {
+    read_lines(lines_of(alloc, conn)?)
+}
+
+// The same, at this path. An error is as before.
+fn read_told<R: AllocGlobal + Eprint>(
+    rt: &R,
+    path: &str,
+    conn: &mut Connection<Copied>,
+) -> Result<ReadStore, u8> {
+    match read_conn(rt.alloc(), conn) {
+        Ok(read) => Ok(read),
+        Err(fault) => Err(tell_fault(rt, path, &fault)),
+    }
 }
 
 /// What the store at this path has: it is sound. An error is as before.
@@ -140,12 +142,6 @@ pub(crate) fn read_store<R: AllocGlobal + Eprint + Files>(
     rt: &R,
     path: &str,
 ) -> Result<ReadStore, u8> {
-    let conn = match read_database(rt, path) {
-        Ok(conn) => conn,
-        Err(status) => return Err(status),
-    };
-    match opened_parts(rt.alloc(), conn) {
-        Ok(read) => Ok(read),
-        Err(fault) => Err(tell_fault(rt, path, &fault)),
-    }
+    let mut conn = read_database(rt, path)?;
+    read_told(rt, path, &mut conn)
 }
