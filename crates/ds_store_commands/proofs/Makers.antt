@@ -1,5 +1,5 @@
 -- The lines of a journal are gone through, one by one, and it is told who made their edits.
-use Rattle.std.proofs.Common.{ℕ, zero, suc, ◌≡◌, ◌+◌, ◌-◌, ◌<◌, ◌≤◌, ◌++◌, ◌∷◌, ◌==◌, ◌&&◌, ◌||◌, Bool, true, false, [], List, Option, Some, None, is_some, length, take, drop, get_or, refl, sym, ap, subst, ◌∙◌, ⊎_elim, if◌then◌else◌, append_assoc, arith}
+use Rattle.std.proofs.Common.{ℕ, ◌≡◌, ◌+◌, ◌<◌, ◌≤◌, ◌++◌, ◌∷◌, ◌==◌, ◌&&◌, ◌||◌, Bool, true, false, [], List, Option, Some, None, is_some, length, take, drop, get_or, refl, sym, ap, subst, ◌∙◌, ⊎_elim, if◌then◌else◌, append_assoc, arith}
 use Rattle.std.specs.Prelude.{slice_set}
 use Rattle.std.proofs.lemmas.List.{append-nil, drop_all, drop_more, get_or-set_same, get_or-set_other, take_more}
 use Rattle.std.proofs.lemmas.Bool.Decides.{eqb_tells}

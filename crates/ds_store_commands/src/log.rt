@@ -172,7 +172,7 @@ fn cell_of(rt: &impl Eprint, shape: &Shape, name: Option<&str>) -> Result<Option
 /// after a number of them.
 pub fn log<R: AllocGlobal + Print + Eprint + Files>(rt: &R, logging: Logging<'_>) -> u8 {
     let Logging { path, cell, shown } = logging;
-    let ReadStore { layout, lines, .. } = match read_store(rt, path) {
+    let ReadStore { layout, lines } = match read_store(rt, path) {
         Ok(read) => read,
         Err(status) => return status,
     };

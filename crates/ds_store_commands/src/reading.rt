@@ -7,7 +7,7 @@ use ds_store::backup::lines_of;
 use ds_store::fault::StoreFault;
 use ds_store::snapshot::snapshot;
 use ds_store_journal::journal::read_sheet;
-use sqlite::{Connection, FileStore};
+use sqlite::{Alter, Connection, FileStore};
 use sqlite_disk::Memory;
 use std::alloc::Global;
 use std::fs::{self, Files};
@@ -110,7 +110,7 @@ pub(crate) struct ReadStore {
 }
 
 // What a store with these lines has.
-fn read_lines(lines: Vec<String>) -> Result<ReadStore, StoreFault> {
+fn read_of(lines: Vec<String>) -> Result<ReadStore, StoreFault> {
     let Some(first) = lines.first() else {
         return Err(StoreFault::Missing(1));
     };
@@ -120,21 +120,25 @@ fn read_lines(lines: Vec<String>) -> Result<ReadStore, StoreFault> {
     }
 }
 
-// What the store in a database has. Its lines were followed, each in its turn.
-fn read_conn(alloc: Global, conn: &mut Connection<Copied>) -> Result<ReadStore, StoreFault> {
-    read_lines(lines_of(alloc, conn)?)
-}
-
-// The same, at this path. An error is as before.
-fn read_told<R: AllocGlobal + Eprint>(
+// The lines of the store in a database, which is the one at this path. An error is as before.
+fn told_lines<R: AllocGlobal + Eprint, S: Alter>(
     rt: &R,
     path: &str,
-    conn: &mut Connection<Copied>,
-) -> Result<ReadStore, u8> {
-    match read_conn(rt.alloc(), conn) {
-        Ok(read) => Ok(read),
+    conn: &mut Connection<S>,
+) -> Result<Vec<String>, u8> {
+    match lines_of(rt.alloc(), conn) {
+        Ok(lines) => Ok(lines),
         Err(fault) => Err(tell_fault(rt, path, &fault)),
     }
+}
+
+/// The lines of the store at this path, all of them: they were followed, each in its turn. An error is as before.
+pub(crate) fn read_lines<R: AllocGlobal + Eprint + Files>(
+    rt: &R,
+    path: &str,
+) -> Result<Vec<String>, u8> {
+    let mut conn = read_database(rt, path)?;
+    told_lines(rt, path, &mut conn)
 }
 
 /// What the store at this path has: it is sound. An error is as before.
@@ -142,6 +146,9 @@ pub(crate) fn read_store<R: AllocGlobal + Eprint + Files>(
     rt: &R,
     path: &str,
 ) -> Result<ReadStore, u8> {
-    let mut conn = read_database(rt, path)?;
-    read_told(rt, path, &mut conn)
+    let lines = read_lines(rt, path)?;
+    match read_of(lines) {
+        Ok(read) => Ok(read),
+        Err(fault) => Err(tell_fault(rt, path, &fault)),
+    }
 }

@@ -36,8 +36,8 @@ pub(crate) fn tell_error(rt: &impl Eprint, path: &str, error: &io::Error) -> u8 
     STREAM_FAILED
 }
 
-// The status after the database at this path was closed, or not.
-fn closed<R: Eprint>(rt: &R, path: &str, end: Result<(), Error>) -> u8 {
+/// The status after the database at this path was closed, or not.
+pub(crate) fn closed<R: Eprint>(rt: &R, path: &str, end: Result<(), Error>) -> u8 {
     match end {
         Ok(()) => 0,
         Err(error) => tell_fault(rt, path, &StoreFault::from(error)),
