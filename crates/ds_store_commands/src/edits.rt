@@ -18,7 +18,7 @@ use ds_store_journal::standings::standings_of;
 use std::alloc::{AllocError, Global};
 
 /// Who made an edit, and its number, as that process's client counts it.
-#[derive(Clone, Copy, Debug, PartialEq, Eq)]
+#[derive(Clone, Copy)]
 pub struct Maker {
     /// The process.
     pub process: usize,

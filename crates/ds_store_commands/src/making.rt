@@ -62,19 +62,13 @@ fn open_any<R: Eprint + Databases>(rt: &R, path: &str) -> Result<Connection<Disk
     }
 }
 
-// A database with a store of these lines, in the empty file at this path. An error is as before.
-fn filled<R: AllocGlobal + Eprint + Databases>(
-    rt: &R,
-    path: &str,
-    lines: Vec<String>,
-) -> Result<Connection<Disk>, u8> {
-    let conn = open_any(rt, path)?;
-    keep(rt, path, conn, lines)
-}
-
 // Makes a store of these lines in the empty file at this path, and gives the status.
 fn fill<R: AllocGlobal + Eprint + Databases>(rt: &R, path: &str, lines: Vec<String>) -> u8 {
-    match filled(rt, path, lines) {
+    let conn = match open_any(rt, path) {
+        Ok(conn) => conn,
+        Err(status) => return status,
+    };
+    match keep(rt, path, conn, lines) {
         Ok(conn) => closed(rt, path, conn.close()),
         Err(status) => status,
     }

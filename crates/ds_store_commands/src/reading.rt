@@ -6,6 +6,7 @@ use ds_layout::layout::Layout;
 use ds_store::backup::lines_of;
 use ds_store::fault::StoreFault;
 use ds_store::snapshot::snapshot;
+use ds_store::sound::{SoundLines, first_sound};
 use ds_store_journal::journal::read_sheet;
 use sqlite::{Alter, Connection, FileStore};
 use sqlite_disk::Memory;
@@ -13,8 +14,8 @@ use std::alloc::Global;
 use std::fs::{self, Files};
 use std::io;
 
-/// What the bytes of a store's files lie in, once they were read.
-pub(crate) type Copied = FileStore<Memory>;
+// What the bytes of a store's files lie in, once they were read.
+type Copied = FileStore<Memory>;
 
 // The first bytes of a log, which are others as soon as it begins anew: then its lines are in the file.
 const LOG_HEADER: usize = 32;
@@ -84,8 +85,8 @@ fn see_file<R: Eprint + Files>(rt: &R, path: &str) -> Result<(), u8> {
     }
 }
 
-/// The database of the store at this path, in memory. An error is as before.
-pub(crate) fn read_database<R: AllocGlobal + Eprint + Files>(
+// The database of the store at this path, in memory. An error is as before.
+fn read_database<R: AllocGlobal + Eprint + Files>(
     rt: &R,
     path: &str,
 ) -> Result<Connection<Copied>, u8> {
@@ -120,25 +121,54 @@ fn read_of(lines: Vec<String>) -> Result<ReadStore, StoreFault> {
     }
 }
 
-// The lines of the store in a database, which is the one at this path. An error is as before.
-fn told_lines<R: AllocGlobal + Eprint, S: Alter>(
+// The lines of the store in a database that are sound, this number of them at most; all, with 0, or an error.
+fn sound_in<S: Alter>(
+    alloc: Global,
+    conn: &mut Connection<S>,
+    until: usize,
+) -> Result<SoundLines, StoreFault> {
+    if until > 0 {
+        return first_sound(alloc, conn, until);
+    }
+    let lines = lines_of(alloc, conn)?;
+    let count = lines.len();
+    Ok(SoundLines {
+        lines,
+        count,
+        fault: None,
+    })
+}
+
+// The same of the database of the store at this path. An error is as before.
+fn told_sound<R: AllocGlobal + Eprint, S: Alter>(
     rt: &R,
     path: &str,
     conn: &mut Connection<S>,
-) -> Result<Vec<String>, u8> {
-    match lines_of(rt.alloc(), conn) {
-        Ok(lines) => Ok(lines),
+    until: usize,
+) -> Result<SoundLines, u8> {
+    match sound_in(rt.alloc(), conn, until) {
+        Ok(sound) => Ok(sound),
         Err(fault) => Err(tell_fault(rt, path, &fault)),
     }
 }
 
-/// The lines of the store at this path, all of them: they were followed, each in its turn. An error is as before.
+/// The lines of the store at this path that are sound, this number of them at most; all, with 0: then an error says which
+/// line is not. They were followed, each in its turn. An error is as before.
+pub(crate) fn read_sound<R: AllocGlobal + Eprint + Files>(
+    rt: &R,
+    path: &str,
+    until: usize,
+) -> Result<SoundLines, u8> {
+    let mut conn = read_database(rt, path)?;
+    told_sound(rt, path, &mut conn, until)
+}
+
+/// The lines of the store at this path, all of them: it is sound. An error is as before.
 pub(crate) fn read_lines<R: AllocGlobal + Eprint + Files>(
     rt: &R,
     path: &str,
 ) -> Result<Vec<String>, u8> {
-    let mut conn = read_database(rt, path)?;
-    told_lines(rt, path, &mut conn)
+    Ok(read_sound(rt, path, 0)?.lines)
 }
 
 /// What the store at this path has: it is sound. An error is as before.
