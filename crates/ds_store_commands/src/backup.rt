@@ -1,9 +1,7 @@
 //! A copy of a store, which a server may have open.
 
 use crate::making::make_store;
-use crate::reading::read_database;
-use crate::stores::tell_fault;
-use ds_store::backup::lines_of;
+use crate::reading::read_lines;
 use ds_store::open::Databases;
 use std::fs::{File, Files};
 
@@ -14,12 +12,8 @@ pub fn backup<R: AllocGlobal + Eprint + Files<File = File> + Databases>(
     path: &str,
     copy: &str,
 ) -> u8 {
-    let mut conn = match read_database(rt, path) {
-        Ok(conn) => conn,
-        Err(status) => return status,
-    };
-    match lines_of(rt.alloc(), &mut conn) {
+    match read_lines(rt, path) {
         Ok(lines) => make_store(rt, copy, lines),
-        Err(fault) => tell_fault(rt, path, &fault),
+        Err(status) => status,
     }
 }

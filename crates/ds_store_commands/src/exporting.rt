@@ -1,12 +1,12 @@
 //! `dsheet export`.
 
-use crate::reading::{read_database, read_store};
+use crate::reading::read_sound;
 use crate::status::store_status;
 use crate::stores::{tell_fault, written};
 use crate::tables::{Cells, table_of};
 use ds_cli::exporting::{ExportForm, Exporting};
 use ds_store::fault::StoreFault;
-use ds_store::sound::{SoundLines, first_sound};
+use ds_store::sound::SoundLines;
 use ds_store_sums::sums::is_sum;
 use std::fs::Files;
 use std::io::{self, BufWriter, Write};
@@ -63,14 +63,6 @@ fn write_form<R: AllocGlobal + Print + Eprint>(
     }
 }
 
-// The same as `export`, of a store that is sound.
-fn export_all<R: AllocGlobal + Print + Eprint + Files>(rt: &R, path: &str, form: ExportForm) -> u8 {
-    match read_store(rt, path) {
-        Ok(read) => write_form(rt, path, form, &read.lines),
-        Err(status) => status,
-    }
-}
-
 // Reports on standard error which lines were left out, and what is wrong, if anything is; and gives the status.
 fn tell_left_out<R: Eprint>(rt: &R, path: &str, sound: &SoundLines) -> u8 {
     let given = sound.lines.len();
@@ -83,22 +75,6 @@ fn tell_left_out<R: Eprint>(rt: &R, path: &str, sound: &SoundLines) -> u8 {
         let _reported = eprintln!(rt; "dsheet: {path}: lines from {next} on are left out");
     }
     0
-}
-
-// The lines of a store that are sound, this number of them at most. An error is the status, when standard error has the reason.
-fn read_sound<R: AllocGlobal + Eprint + Files>(
-    rt: &R,
-    path: &str,
-    until: usize,
-) -> Result<SoundLines, u8> {
-    let mut conn = match read_database(rt, path) {
-        Ok(conn) => conn,
-        Err(status) => return Err(status),
-    };
-    match first_sound(rt.alloc(), &mut conn, until) {
-        Ok(sound) => Ok(sound),
-        Err(fault) => Err(tell_fault(rt, path, &fault)),
-    }
 }
 
 // Writes what is asked for of sound lines, and reports on standard error which were left out. Gives the status.
@@ -114,22 +90,13 @@ fn write_sound<R: AllocGlobal + Print + Eprint>(
     }
 }
 
-// The same of a store that may be damaged: of the lines before the first one that is not sound, `until` at most.
-fn export_until<R: AllocGlobal + Print + Eprint + Files>(rt: &R, exporting: Exporting<'_>) -> u8 {
-    let Exporting { path, until, form } = exporting;
-    match read_sound(rt, path, until) {
-        Ok(sound) => write_sound(rt, path, form, &sound),
-        Err(status) => status,
-    }
-}
-
 /// `dsheet export`: to standard output the lines of a store, which are a script, or its texts or values as CSV. With
 /// `until` it may be damaged: it is that of the lines before the first one that is not sound, `until` at most; standard
 /// error says which are left out, and the status is that of the store, as of `check`.
 pub fn export<R: AllocGlobal + Print + Eprint + Files>(rt: &R, exporting: Exporting<'_>) -> u8 {
-    if exporting.until == 0 {
-        export_all(rt, exporting.path, exporting.form)
-    } else {
-        export_until(rt, exporting)
+    let Exporting { path, until, form } = exporting;
+    match read_sound(rt, path, until) {
+        Ok(sound) => write_sound(rt, path, form, &sound),
+        Err(status) => status,
     }
 }

@@ -66,23 +66,40 @@ fn followed(alloc: Global, lines: &[String]) -> Result<Vec<String>, StoreFault> 
     Ok(Store::of_lines(alloc, conn, summed)?.lines)
 }
 
+// The lines of standard input, with formulas in this notation in OpenFormula. An error is as before.
+fn read_opened<R: AllocGlobal + Input + Eprint>(
+    rt: &R,
+    notation: Notation,
+) -> Result<Vec<String>, u8> {
+    let lines = read_lines(rt)?;
+    opened_lines(rt, notation, lines)
+}
+
+// Reports why a store of these lines cannot be made, and gives the status.
+fn refused<R: AllocGlobal + Eprint>(
+    rt: &R,
+    path: &str,
+    lines: &[String],
+    fault: &StoreFault,
+) -> u8 {
+    let status = tell_fault(rt, path, fault);
+    show_bare(rt, lines);
+    status
+}
+
 // Makes a store at this path of lines from standard input, with formulas in this notation, and gives the status.
 fn import_lines<R: AllocGlobal + Input + Eprint + Files<File = File> + Databases>(
     rt: &R,
     path: &str,
     notation: Notation,
 ) -> u8 {
-    let lines = match read_lines(rt).and_then(|lines| opened_lines(rt, notation, lines)) {
+    let lines = match read_opened(rt, notation) {
         Ok(lines) => lines,
         Err(status) => return status,
     };
     match followed(rt.alloc(), &lines) {
-        Ok(lines) => make_store(rt, path, lines),
-        Err(fault) => {
-            let status = tell_fault(rt, path, &fault);
-            show_bare(rt, &lines);
-            status
-        }
+        Ok(followed) => make_store(rt, path, followed),
+        Err(fault) => refused(rt, path, &lines, &fault),
     }
 }
 

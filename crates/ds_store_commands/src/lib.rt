@@ -2,6 +2,7 @@
 #![tactic(auto)]
 
 pub mod backup;
+pub mod edits;
 pub mod exporting;
 pub mod importing;
 pub mod log;

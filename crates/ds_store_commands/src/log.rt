@@ -1,9 +1,10 @@
 //! `dsheet log`.
 
-ghost use Rattle.std.specs.Prelude.{◌≡◌, ◌<◌, IfOk, map};
+ghost use Rattle.std.specs.Prelude.{map};
 ghost use Rattle.std.specs.String.{string_bytes};
-ghost use Rattle.ds_store_commands.specs.Logs.{HaveFirst, maker_of, tell_before};
+ghost use Rattle.ds_store_commands.specs.Logs.{HaveFirst};
 
+use crate::edits::{Entry, Maker, entries};
 use crate::exporting::{write_line, write_table};
 use crate::reading::{ReadStore, read_store};
 use crate::stores::{tell_fault, written};
@@ -13,60 +14,12 @@ use ds_formula::cells::{Cell, Shape};
 use ds_layout::layout::Layout;
 use ds_script_io::fields::is_skipped;
 use ds_store::fault::StoreFault;
-use ds_store_journal::fault::JournalFault;
-use ds_store_journal::journal::{AskedEdit, read_edit};
-use ds_store_journal::standing::read_before;
-use ds_store_journal::standings::standings_of;
 use std::alloc::Global;
 use std::fs::Files;
 use std::io::{self, BufWriter, Write};
 
 // The status of wrong words on the command line.
 const WRONG_WORDS: u8 = 2;
-
-/// Who made an edit, and its number, as that process's client counts it.
-#[derive(Clone, Copy, Debug, PartialEq, Eq)]
-pub struct Maker {
-    /// The process.
-    pub process: usize,
-    /// The number of the edit among those of the process, from 0, in all sheets of the store.
-    pub number: usize,
-}
-
-// Whether one of these lines says how a process stood: those before it give the texts that the sheet began with.
-#[tactic(auto, unfolding(crate::specs::Logs::tell_before))]
-fn tell_before(layout: &Layout, lines: &[String]) -> bool
-    ensures { result ≡ tell_before layout.now (map string_bytes lines.now) }
-{
-    let mut rest = lines;
-    while let [line, others @ ..] = rest {
-        if is_skipped(line.as_bytes()) && read_before(layout, line.as_bytes()).is_some() {
-            return true;
-        }
-        rest = others;
-    }
-    false
-}
-
-// Who made the edit of this process that a line asks for, after these lines and before those. None where the line gives a
-// text that the sheet began with.
-fn maker_of(
-    alloc: Global,
-    layout: &Layout,
-    before: &[String],
-    process: usize,
-    after: &[String],
-) -> Result<Option<Maker>, JournalFault>
-    requires { process < layout.now.processes }
-    ensures { IfOk result (λ maker. maker ≡ maker_of layout.now (map string_bytes before.now) process (map string_bytes after.now)) }
-{
-    if tell_before(layout, after) {
-        return Ok(None);
-    }
-    let standings = standings_of(alloc, layout, before)?;
-    let number = standings[process].edits;
-    Ok(Some(Maker { process, number }))
-}
 
 /// How many of these lines, which follow the first one of a journal, have the first edits, of this number; all, where they
 /// have no more.
@@ -87,62 +40,45 @@ pub fn first_edits(lines: &[String], edits: usize) -> usize
     count
 }
 
-// An edit of the list.
-#[derive(Clone, Copy, Debug)]
-struct Entry<'a> {
-    // Its place in the list, from 1.
-    place: usize,
-    // Who made it. None of a text that the sheet began with.
-    maker: Option<Maker>,
-    cell: Cell,
-    text: &'a [u8],
-}
-
-// The edits of the lines of a journal, oldest first.
-fn entries<'a>(
-    alloc: Global,
-    layout: &Layout,
-    lines: &'a [String],
-) -> Result<Vec<Entry<'a>>, StoreFault> {
-    let mut entries = Vec::new(alloc);
-    for index in 1..lines.len() {
-        let Some(asked) = read_edit(layout, lines[index].as_bytes())? else {
-            continue;
-        };
-        let AskedEdit {
-            process,
-            cell,
-            text,
-        } = asked;
-        let entry = Entry {
-            place: entries.len().saturating_add(1),
-            maker: maker_of(alloc, layout, &lines[..index], process, &lines[index + 1..])?,
-            cell,
-            text,
-        };
-        if entries.push(entry).is_err() {
-            return Err(StoreFault::NoMemory);
-        }
-    }
-    Ok(entries)
-}
-
-// Writes an edit.
-fn write_entry<W: Write>(out: &mut W, entry: &Entry<'_>) -> io::Result<()> {
-    let Entry {
-        place,
-        cell,
-        text,
-        ..
-    } = *entry;
+// Writes the place of an edit in the list, who made it, and its cell.
+fn write_head<W: Write>(out: &mut W, place: usize, entry: &Entry<'_>) -> io::Result<()> {
+    let cell = entry.cell;
     match entry.maker {
-        Some(Maker { process, number }) => write!(out, "{place} {process} {number} {cell}")?,
-        None => write!(out, "{place} - - {cell}")?,
+        Some(Maker { process, number }) => write!(out, "{place} {process} {number} {cell}"),
+        None => write!(out, "{place} - - {cell}"),
     }
-    if !text.is_empty() {
+}
+
+// Writes an edit, which has this place in the list.
+fn write_entry<W: Write>(out: &mut W, place: usize, entry: &Entry<'_>) -> io::Result<()> {
+    write_head(out, place, entry)?;
+    if !entry.text.is_empty() {
         out.write_all(b" ")?;
     }
-    write_line(out, text)
+    write_line(out, entry.text)
+}
+
+// How many of these are texts that the sheet began with.
+fn begun(entries: &[Entry<'_>]) -> usize {
+    let mut count = 0usize;
+    for entry in entries {
+        if entry.maker.is_none() {
+            count = count.saturating_add(1);
+        }
+    }
+    count
+}
+
+// Writes how many of these are texts that the sheet began with, where any is.
+fn write_begun<W: Write>(out: &mut W, entries: &[Entry<'_>]) -> io::Result<()> {
+    let begun = begun(entries);
+    if begun == 0 {
+        return Ok(());
+    }
+    writeln!(
+        out,
+        "# {begun} texts that the sheet began with, and then its edits: what was before is not kept"
+    )
 }
 
 // Writes edits, those of one cell alone where that is asked for.
@@ -151,16 +87,11 @@ fn write_entries<W: Write>(
     entries: &[Entry<'_>],
     only: Option<Cell>,
 ) -> io::Result<()> {
-    let begun = entries.iter().filter(|entry| entry.maker.is_none()).count();
-    if begun > 0 {
-        writeln!(
-            out,
-            "# {begun} texts that the sheet began with, and then its edits: what was before is not kept"
-        )?;
-    }
-    for entry in entries {
-        if only.is_none_or(|cell| cell == entry.cell) {
-            write_entry(out, entry)?;
+    write_begun(out, entries)?;
+    for index in 0..entries.len() {
+        let entry = &entries[index];
+        if only.is_none() || only == Some(entry.cell) {
+            write_entry(out, index.saturating_add(1), entry)?;
         }
     }
     out.flush()
@@ -174,9 +105,10 @@ fn write_list<R: AllocGlobal + Print + Eprint>(
     lines: &[String],
     only: Option<Cell>,
 ) -> u8 {
-    let entries = match entries(rt.alloc(), layout, lines) {
+    let (first, rest) = lines.split_at(lines.len().min(1));
+    let entries = match entries(rt.alloc(), layout, first, rest) {
         Ok(entries) => entries,
-        Err(fault) => return tell_fault(rt, path, &fault),
+        Err(fault) => return tell_fault(rt, path, &StoreFault::from(fault)),
     };
     let Ok(mut out) = BufWriter::new(rt.alloc(), io::writer(rt)) else {
         return tell_fault(rt, path, &StoreFault::NoMemory);
@@ -240,7 +172,7 @@ fn cell_of(rt: &impl Eprint, shape: &Shape, name: Option<&str>) -> Result<Option
 /// after a number of them.
 pub fn log<R: AllocGlobal + Print + Eprint + Files>(rt: &R, logging: Logging<'_>) -> u8 {
     let Logging { path, cell, shown } = logging;
-    let ReadStore { layout, lines, .. } = match read_store(rt, path) {
+    let ReadStore { layout, lines } = match read_store(rt, path) {
         Ok(read) => read,
         Err(status) => return status,
     };

@@ -1,11 +1,12 @@
 //! A store is made, all of it or none.
 
 use crate::status::BAD_STORE;
-use crate::stores::{Disk, close, tell_error, tell_fault};
+use crate::stores::{Disk, closed, tell_error, tell_fault};
 use ds_store::fault::StoreFault;
 use ds_store::open::Databases;
 use ds_store::store::{Store, is_bare};
-use sqlite::Connection;
+use sqlite::{Alter, Connection};
+use std::alloc::Global;
 use std::fs::{self, File, Files};
 use std::io;
 
@@ -21,36 +22,55 @@ fn make_file<R: Eprint + Files<File = File>>(rt: &R, path: &str) -> Result<(), u
     }
 }
 
-// Opens a database at this path that has nothing, and is made where there is none. An error is as before.
-fn open_new<R: AllocGlobal + Eprint + Databases>(
+// That a database at this path has nothing. An error is as before.
+fn see_bare<R: Eprint, S: Alter>(rt: &R, path: &str, conn: &Connection<S>) -> Result<(), u8> {
+    if is_bare(conn) {
+        return Ok(());
+    }
+    let _reported = eprintln!(rt; "dsheet: {path}: it has a store, or something else, already");
+    Err(BAD_STORE)
+}
+
+// A database that had nothing, with a store of these lines.
+fn kept<S: Alter + Drop>(
+    alloc: Global,
+    conn: Connection<S>,
+    lines: Vec<String>,
+) -> Result<Connection<S>, StoreFault> {
+    Ok(Store::of_lines(alloc, conn, lines)?.store.into_database())
+}
+
+// The same of a database at this path, which may have something. An error is as before.
+fn keep<R: AllocGlobal + Eprint, S: Alter + Drop>(
     rt: &R,
     path: &str,
-) -> Result<Connection<Disk>, u8> {
-    let conn = match rt.open_database(path) {
-        Ok(conn) => conn,
-        Err(fault) => return Err(tell_fault(rt, path, &fault)),
-    };
-    if is_bare(&conn) {
-        Ok(conn)
-    } else {
-        let _reported = eprintln!(rt; "dsheet: {path}: it has a store, or something else, already");
-        Err(BAD_STORE)
+    conn: Connection<S>,
+    lines: Vec<String>,
+) -> Result<Connection<S>, u8> {
+    see_bare(rt, path, &conn)?;
+    match kept(rt.alloc(), conn, lines) {
+        Ok(conn) => Ok(conn),
+        Err(fault) => Err(tell_fault(rt, path, &fault)),
+    }
+}
+
+// Opens a database at this path, which is made where there is none. An error is as before.
+fn open_any<R: Eprint + Databases>(rt: &R, path: &str) -> Result<Connection<Disk>, u8> {
+    match rt.open_database(path) {
+        Ok(conn) => Ok(conn),
+        Err(fault) => Err(tell_fault(rt, path, &fault)),
     }
 }
 
 // Makes a store of these lines in the empty file at this path, and gives the status.
-fn fill<R: AllocGlobal + Eprint + Files<File = File> + Databases>(
-    rt: &R,
-    path: &str,
-    lines: Vec<String>,
-) -> u8 {
-    let conn = match open_new(rt, path) {
+fn fill<R: AllocGlobal + Eprint + Databases>(rt: &R, path: &str, lines: Vec<String>) -> u8 {
+    let conn = match open_any(rt, path) {
         Ok(conn) => conn,
         Err(status) => return status,
     };
-    match Store::of_lines(rt.alloc(), conn, lines) {
-        Ok(opened) => close(rt, path, opened.store),
-        Err(fault) => tell_fault(rt, path, &fault),
+    match keep(rt, path, conn, lines) {
+        Ok(conn) => closed(rt, path, conn.close()),
+        Err(status) => status,
     }
 }
 

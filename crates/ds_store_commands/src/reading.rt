@@ -3,17 +3,19 @@
 use crate::stores::{tell_error, tell_fault};
 use ds_batch::status::STREAM_FAILED;
 use ds_layout::layout::Layout;
+use ds_store::backup::lines_of;
 use ds_store::fault::StoreFault;
 use ds_store::snapshot::snapshot;
-use ds_store::store::{Opened, Store};
-use sqlite::{Connection, FileStore};
+use ds_store::sound::{SoundLines, first_sound};
+use ds_store_journal::journal::read_sheet;
+use sqlite::{Alter, Connection, FileStore};
 use sqlite_disk::Memory;
 use std::alloc::Global;
 use std::fs::{self, Files};
 use std::io;
 
-/// What the bytes of a store's files lie in, once they were read.
-pub(crate) type Copied = FileStore<Memory>;
+// What the bytes of a store's files lie in, once they were read.
+type Copied = FileStore<Memory>;
 
 // The first bytes of a log, which are others as soon as it begins anew: then its lines are in the file.
 const LOG_HEADER: usize = 32;
@@ -83,8 +85,8 @@ fn see_file<R: Eprint + Files>(rt: &R, path: &str) -> Result<(), u8> {
     }
 }
 
-/// The database of the store at this path, in memory. An error is as before.
-pub(crate) fn read_database<R: AllocGlobal + Eprint + Files>(
+// The database of the store at this path, in memory. An error is as before.
+fn read_database<R: AllocGlobal + Eprint + Files>(
     rt: &R,
     path: &str,
 ) -> Result<Connection<Copied>, u8> {
@@ -104,35 +106,69 @@ pub(crate) fn read_database<R: AllocGlobal + Eprint + Files>(
 pub(crate) struct ReadStore {
     /// The shape of its sheet, and how many processes it has.
     pub layout: Layout,
-    /// How many of its processes may be joined: the first ones.
-    pub joins: usize,
-    /// How many edits of its sheet each process has made.
-    pub edits: Vec<usize>,
     /// The lines of its journal, all of them.
     pub lines: Vec<String>,
 }
 
-// What an open store has.
-fn parts_of(alloc: Global, opened: Opened<Copied>) -> Result<ReadStore, StoreFault> {
-    let Opened { store, lines, .. } = opened;
-    let layout = store.layout();
-    let mut edits = Vec::new(alloc);
-    for process in 0..layout.processes {
-        if edits.push(store.edits_of(process)).is_err() {
-            return Err(StoreFault::NoMemory);
-        }
+// What a store with these lines has.
+fn read_of(lines: Vec<String>) -> Result<ReadStore, StoreFault> {
+    let Some(first) = lines.first() else {
+        return Err(StoreFault::Missing(1));
+    };
+    match read_sheet(first.as_bytes()) {
+        Ok(layout) => Ok(ReadStore { layout, lines }),
+        Err(fault) => Err(StoreFault::at_line(1, fault)),
     }
-    Ok(ReadStore {
-        layout,
-        joins: store.joins(),
-        edits,
+}
+
+// The lines of the store in a database that are sound, this number of them at most; all, with 0, or an error.
+fn sound_in<S: Alter>(
+    alloc: Global,
+    conn: &mut Connection<S>,
+    until: usize,
+) -> Result<SoundLines, StoreFault> {
+    if until > 0 {
+        return first_sound(alloc, conn, until);
+    }
+    let lines = lines_of(alloc, conn)?;
+    let count = lines.len();
+    Ok(SoundLines {
         lines,
+        count,
+        fault: None,
     })
 }
 
-// What the store in a database has.
-fn opened_parts(alloc: Global, conn: Connection<Copied>) -> Result<ReadStore, StoreFault> {
-    parts_of(alloc, Store::open(alloc, conn)?)
+// The same of the database of the store at this path. An error is as before.
+fn told_sound<R: AllocGlobal + Eprint, S: Alter>(
+    rt: &R,
+    path: &str,
+    conn: &mut Connection<S>,
+    until: usize,
+) -> Result<SoundLines, u8> {
+    match sound_in(rt.alloc(), conn, until) {
+        Ok(sound) => Ok(sound),
+        Err(fault) => Err(tell_fault(rt, path, &fault)),
+    }
+}
+
+/// The lines of the store at this path that are sound, this number of them at most; all, with 0: then an error says which
+/// line is not. They were followed, each in its turn. An error is as before.
+pub(crate) fn read_sound<R: AllocGlobal + Eprint + Files>(
+    rt: &R,
+    path: &str,
+    until: usize,
+) -> Result<SoundLines, u8> {
+    let mut conn = read_database(rt, path)?;
+    told_sound(rt, path, &mut conn, until)
+}
+
+/// The lines of the store at this path, all of them: it is sound. An error is as before.
+pub(crate) fn read_lines<R: AllocGlobal + Eprint + Files>(
+    rt: &R,
+    path: &str,
+) -> Result<Vec<String>, u8> {
+    Ok(read_sound(rt, path, 0)?.lines)
 }
 
 /// What the store at this path has: it is sound. An error is as before.
@@ -140,11 +176,8 @@ pub(crate) fn read_store<R: AllocGlobal + Eprint + Files>(
     rt: &R,
     path: &str,
 ) -> Result<ReadStore, u8> {
-    let conn = match read_database(rt, path) {
-        Ok(conn) => conn,
-        Err(status) => return Err(status),
-    };
-    match opened_parts(rt.alloc(), conn) {
+    let lines = read_lines(rt, path)?;
+    match read_of(lines) {
         Ok(read) => Ok(read),
         Err(fault) => Err(tell_fault(rt, path, &fault)),
     }

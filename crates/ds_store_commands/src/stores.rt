@@ -4,13 +4,19 @@ use crate::making::make_store;
 use crate::reading::{ReadStore, read_store};
 use crate::status::store_status;
 use ds_batch::status::STREAM_FAILED;
+use ds_formula::cells::Shape;
+use ds_layout::layout::Layout;
 use ds_store::compact;
 use ds_store::fault::StoreFault;
 use ds_store::open::Databases;
 use ds_store::store::Store;
+use ds_store_journal::counts::EditCounts;
+use ds_store_journal::fault::JournalFault;
+use ds_store_journal::joining::joins_of;
+use ds_store_journal::journal::read_edit;
 use ds_store_journal::standing::Standing;
 use ds_store_journal::standings::standings_of;
-use sqlite::{Connection, FileFrom, FileStore, Wary};
+use sqlite::{Connection, Error, FileFrom, FileStore, Wary};
 use std::alloc::Global;
 use std::fs::{File, Files};
 use std::io::{self, BufWriter, Write};
@@ -30,12 +36,17 @@ pub(crate) fn tell_error(rt: &impl Eprint, path: &str, error: &io::Error) -> u8 
     STREAM_FAILED
 }
 
-/// Closes a store, whose file has all of it then, and gives the status.
-pub fn close<R: Eprint>(rt: &R, path: &str, store: Store<Disk>) -> u8 {
-    match store.into_database().close() {
+/// The status after the database at this path was closed, or not.
+pub(crate) fn closed<R: Eprint>(rt: &R, path: &str, end: Result<(), Error>) -> u8 {
+    match end {
         Ok(()) => 0,
         Err(error) => tell_fault(rt, path, &StoreFault::from(error)),
     }
+}
+
+/// Closes a store, whose file has all of it then, and gives the status.
+pub fn close<R: Eprint>(rt: &R, path: &str, store: Store<Disk>) -> u8 {
+    closed(rt, path, store.into_database().close())
 }
 
 /// The status after what was written, or not.
@@ -46,42 +57,126 @@ pub(crate) fn written<R: Eprint>(rt: &R, out: io::Result<()>) -> u8 {
     }
 }
 
-// Writes what a store has: the shape of its sheet, how many edits each process has made of that sheet, and how many edits
-// count in all, also those of the sheets before.
-fn write_summary<W: Write>(
-    out: &mut W,
-    read: &ReadStore,
-    standings: &[Standing],
-) -> io::Result<()> {
-    let shape = read.layout.shape;
-    writeln!(out, "sheet {} {} {}", shape.columns, shape.rows, read.joins)?;
-    let mut all = 0usize;
-    for (process, standing) in standings.iter().enumerate().take(read.joins) {
-        all = all.saturating_add(standing.edits);
-        let edits = read.edits.get(process).copied().unwrap_or(0);
-        writeln!(out, "process {process}: {edits} edits of 256")?;
+// What is told of a store: its sheet, and how many edits were made.
+#[derive(Clone, Copy)]
+struct Summary<'a> {
+    layout: Layout,
+    // How many processes may be joined: the first ones.
+    joins: usize,
+    // How many edits of the sheet each process has made.
+    counts: &'a EditCounts,
+    // How many edits count in all, also those of the sheets before.
+    all: usize,
+}
+
+// Writes the shape of the sheet, and how many of its processes may be joined.
+fn write_sheet<W: Write>(out: &mut W, summary: &Summary<'_>) -> io::Result<()> {
+    let Shape { columns, rows, .. } = summary.layout.shape;
+    writeln!(out, "sheet {columns} {rows} {}", summary.joins)
+}
+
+// Writes how many edits a process has made of the sheet.
+fn write_process<W: Write>(out: &mut W, process: usize, edits: usize) -> io::Result<()> {
+    writeln!(out, "process {process}: {edits} edits of 256")
+}
+
+// Writes the same of each process that may be joined.
+fn write_processes<W: Write>(out: &mut W, summary: &Summary<'_>) -> io::Result<()> {
+    for process in 0..summary.joins.min(summary.layout.processes) {
+        write_process(out, process, summary.counts.of(process))?;
     }
-    writeln!(out, "{all} edits count, none is in doubt")?;
+    Ok(())
+}
+
+// Writes how many edits count in all.
+fn write_all<W: Write>(out: &mut W, all: usize) -> io::Result<()> {
+    writeln!(out, "{all} edits count, none is in doubt")
+}
+
+// Writes what is told of a store.
+fn write_summary<W: Write>(out: &mut W, summary: &Summary<'_>) -> io::Result<()> {
+    write_sheet(out, summary)?;
+    write_processes(out, summary)?;
+    write_all(out, summary.all)?;
     out.flush()
 }
 
-// The same to standard output. Gives the status.
-fn summary<R: AllocGlobal + Print + Eprint>(rt: &R, path: &str, read: &ReadStore) -> u8 {
-    let standings = match standings_of(rt.alloc(), &read.layout, &read.lines) {
-        Ok(standings) => standings,
-        Err(fault) => return tell_fault(rt, path, &StoreFault::from(fault)),
-    };
+// Counts the edits that these lines, which follow the first one of a journal, ask for.
+fn count_edits(
+    counts: &mut EditCounts,
+    layout: &Layout,
+    lines: &[String],
+) -> Result<(), JournalFault> {
+    for line in lines {
+        if let Some(asked) = read_edit(layout, line.as_bytes())? {
+            let _number = counts.count(asked.process);
+        }
+    }
+    Ok(())
+}
+
+// How many edits of its sheet each process of a store has made.
+fn edit_counts(alloc: Global, read: &ReadStore) -> Result<EditCounts, JournalFault> {
+    let mut counts = EditCounts::new(alloc, read.layout.processes)?;
+    let rest = read.lines.get(1..).unwrap_or(&[]);
+    count_edits(&mut counts, &read.layout, rest)?;
+    Ok(counts)
+}
+
+// How many edits these processes have made in all.
+fn all_edits(standings: &[Standing]) -> usize {
+    let mut all = 0usize;
+    for standing in standings {
+        all = all.saturating_add(standing.edits);
+    }
+    all
+}
+
+// How many edits the processes that may be joined have made, also in the sheets before.
+fn joined_edits(alloc: Global, read: &ReadStore, joins: usize) -> Result<usize, JournalFault> {
+    let standings = standings_of(alloc, &read.layout, &read.lines)?;
+    Ok(all_edits(standings.get(..joins).unwrap_or(&standings)))
+}
+
+// Writes what is told of a store to standard output. Gives the status.
+fn write_told<R: AllocGlobal + Print + Eprint>(rt: &R, path: &str, summary: &Summary<'_>) -> u8 {
     let Ok(mut out) = BufWriter::new(rt.alloc(), io::writer(rt)) else {
         return tell_fault(rt, path, &StoreFault::NoMemory);
     };
-    written(rt, write_summary(&mut out, read, &standings))
+    written(rt, write_summary(&mut out, summary))
+}
+
+// Tells what a store has. The fault is that edits of a process are more than are counted, or that an allocation failed.
+fn tell_store<R: AllocGlobal + Print + Eprint>(
+    rt: &R,
+    path: &str,
+    read: &ReadStore,
+) -> Result<u8, JournalFault> {
+    let joins = joins_of(&read.layout, &read.lines);
+    let all = joined_edits(rt.alloc(), read, joins)?;
+    let counts = edit_counts(rt.alloc(), read)?;
+    let summary = Summary {
+        layout: read.layout,
+        joins,
+        counts: &counts,
+        all,
+    };
+    Ok(write_told(rt, path, &summary))
+}
+
+// The same. Gives the status.
+fn tell_summary<R: AllocGlobal + Print + Eprint>(rt: &R, path: &str, read: &ReadStore) -> u8 {
+    match tell_store(rt, path, read) {
+        Ok(status) => status,
+        Err(fault) => tell_fault(rt, path, &StoreFault::from(fault)),
+    }
 }
 
 /// `dsheet check FILE`: whether the store at this path is sound, and what it has, to standard output. A server may have it
 /// open.
 pub fn check<R: AllocGlobal + Print + Eprint + Files>(rt: &R, path: &str) -> u8 {
     match read_store(rt, path) {
-        Ok(read) => summary(rt, path, &read),
+        Ok(read) => tell_summary(rt, path, &read),
         Err(status) => status,
     }
 }

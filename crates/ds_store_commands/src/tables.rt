@@ -121,7 +121,7 @@ pub fn texts_table(alloc: Global, lines: &[String]) -> Result<Vec<u8>, StoreFaul
 }
 
 /// What is shown of the cells of a sheet.
-#[derive(Clone, Copy, Debug, PartialEq, Eq)]
+#[derive(Clone, Copy)]
 pub enum Cells {
     /// Their texts.
     Texts,
