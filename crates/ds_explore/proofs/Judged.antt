@@ -1,8 +1,7 @@
 -- Flaws, one after the other, and texts of answers.
 use Rattle.std.proofs.Common.{ℕ, ◌+◌, ◌≡◌, ◌<◌, get_or, map, take, add-one, List, [], ◌∷◌, ◌++◌, length, Some, None, Ok, Err, sym, subst, ap, ◌∙◌, append_assoc}
-use Rattle.std.specs.Prelude.{Option, IfSome, IfOk, All, Result}
+use Rattle.std.specs.Prelude.{Option, Result}
 use Rattle.std.proofs.lemmas.List.{append-nil, length_push, map-append, map_more}
-use Rattle.std.proofs.lemmas.List.Elements.{All-nil, All-push}
 use Rattle.std.specs.Global.{Vec}
 use Rattle.ds_state.specs.Value.{WorldValue}
 use Rattle.ds_state.specs.declared.answer.Answer.{Answer}
@@ -18,7 +17,7 @@ use Rattle.ds_core.specs.declared.event.Event.TheVariants.{BeginRecover}
 use Rattle.ds_calls.specs.Whole.{IsWhole}
 use Rattle.ds_explore_state.specs.declared.position.ProcessState.{ProcessState}
 use Rattle.ds_explore_state.specs.States.{PlainSeat, seat_of}
-use Rattle.ds_explore.specs.Judging.{Adds, AreAnswers, AreRecoveries, IsJudged, IsOfValue, answer_text, flaws_below, listed, no_answer, no_recovery, one_answer_more, one_recovery_more, process_flaw, replied, report_flaws, settle_flaw, text_flaw, texts_below, texts_in, texts_of}
+use Rattle.ds_explore.specs.Judging.{AreAnswers, AreRecoveries, IsJudged, JudgesReport, answer_text, flaws_below, listed, no_answer, no_recovery, one_answer_more, one_recovery_more, process_flaw, replied, settle_flaw, text_flaw, texts_below, texts_in, texts_of}
 
 -- ---- flaws
 
@@ -26,19 +25,6 @@ use Rattle.ds_explore.specs.Judging.{Adds, AreAnswers, AreRecoveries, IsJudged, 
 pub below_more : (f : ℕ → Option Flaw) (n : ℕ) (mid new : List Flaw) (r : Option Flaw) → mid ≡ flaws_below f n → r ≡ f n → new ≡ mid ++ listed r → new ≡ flaws_below f (n + 1)
 below_more f n mid new r are is e =
     e ∙ ap (λ (b : List Flaw). b ++ listed r) are ∙ ap (λ (o : Option Flaw). flaws_below f n ++ listed o) is ∙ ap (λ (k : ℕ). flaws_below f k) (sym (add-one n))
-
--- no flaw more
-pub adds_none : (P : Flaw → Type 0) (flaws : List Flaw) → Adds P flaws flaws
-adds_none P flaws = ([], All-nil P, sym (append-nil flaws))
-
--- one flaw more, or none
-pub adds_more : (P : Flaw → Type 0) (old mid new : List Flaw) (r : Option Flaw) → Adds P old mid → IfSome r P → new ≡ mid ++ listed r → Adds P old new
-adds_more P old mid new None h ok e = (h.0, h.1, e ∙ append-nil mid ∙ h.2)
-adds_more P old mid new (Some f) h ok e = (
-  h.0 ++ f ∷ [],
-  All-push P h.0 f h.1 ok,
-  e ∙ ap (λ (b : List Flaw). b ++ f ∷ []) h.2 ∙ append_assoc old h.0 (f ∷ []),
-)
 
 -- more flaws after those before
 pub below_after : (f : ℕ → Option Flaw) (first : List Flaw) (n : ℕ) (mid new : List Flaw) (r : Option Flaw) → mid ≡ first ++ flaws_below f n → r ≡ f n → new ≡ mid ++ listed r → new ≡ first ++ flaws_below f (n + 1)
@@ -48,13 +34,13 @@ below_after f first n mid new r are is e =
 -- all that the judge finds
 pub judged_of : (judge : Judge) (w : WorldValue) (ending : OutcomeEnding) (cells : List (Vec ℕ)) (a b c d : List Flaw) (r : Option Flaw) → a ≡ flaws_below (process_flaw judge ending) (length ending.answers.items) → texts_of cells ≡ texts_in w
     → b ≡ a ++ flaws_below (text_flaw judge ending cells) (length cells) → r ≡ settle_flaw ending.left → c ≡ b ++ listed r
-    → (values : List Flaw) × All IsOfValue values × (d ≡ c ++ report_flaws ending.reported values) → IsJudged judge w ending d
+    → (values : List Flaw) × JudgesReport w (texts_of cells) ending.reported values × (d ≡ c ++ values) → IsJudged judge w ending d
 judged_of judge w ending cells a b c d r processes shown texts settled is reported = record {
   texts = cells;
   shown = shown;
   values = reported.0;
-  of_values = reported.1;
-  is = reported.2 ∙ ap (λ (x : List Flaw). x ++ report_flaws ending.reported reported.0)
+  of_report = reported.1;
+  is = reported.2 ∙ ap (λ (x : List Flaw). x ++ reported.0)
       (is ∙ ap (λ (o : Option Flaw). b ++ listed o) settled ∙ ap (λ (x : List Flaw). x ++ listed (settle_flaw ending.left)) (texts ∙ ap (λ (x : List Flaw). x ++ flaws_below (text_flaw judge ending cells) (length cells)) processes));
 }
 

@@ -1,4 +1,5 @@
 pub mod Telling
 pub mod Judged
+pub mod Valued
 pub mod Going
 pub mod Leading

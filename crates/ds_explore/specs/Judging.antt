@@ -1,8 +1,18 @@
 -- What is wrong with what an order came to, by what was answered and reported.
-use Rattle.std.specs.Prelude.{ℕ, zero, suc, ◌≡◌, ◌==◌, ◌&&◌, ◌||◌, Bool, true, false, List, [], ◌∷◌, ◌++◌, Option, Some, None, Result, Ok, Err, All, drop, length, map, slice_get, if◌then◌else◌, not, nat_eq}
+use Rattle.std.specs.Prelude.{ℕ, zero, suc, ◌≡◌, ◌≢◌, ◌⊎◌, ◌==◌, ◌&&◌, ◌||◌, Bool, true, false, List, [], ◌∷◌, ◌++◌, Option, Some, None, Result, Ok, Err, All, drop, length, map, slice_get, slice_index_or, nat_lt, if◌then◌else◌, not, nat_eq}
 use Rattle.std.specs.List.{starts_with, ends_with}
 use Rattle.std.specs.Str.{bytes_eq}
 use Rattle.std.specs.Global.{Vec}
+use Rattle.ds_formula.specs.Grammar.{Faults, Reads}
+use Rattle.ds_formula.specs.Plain.{plain}
+use Rattle.ds_formula.specs.declared.cells.Shape.{Shape}
+use Rattle.ds_formula.specs.declared.content.Content.{Content}
+use Rattle.ds_formula.specs.declared.content.Content.TheVariants as contents
+use Rattle.ds_formula.specs.declared.fault.TextFault.{TextFault}
+use Rattle.ds_eval.specs.Scratch.{IsScratch}
+use Rattle.ds_eval.specs.SheetContents.{contents_of}
+use Rattle.ds_eval.specs.declared.sheet.Sheet.{Sheet}
+use Rattle.ds_eval.specs.declared.value.Value.{Value}
 use Rattle.ds_layout.specs.Places.{cells_of}
 use Rattle.ds_layout.specs.SheetMemory.{memory}
 use Rattle.ds_state.specs.Shown.{text_at}
@@ -171,7 +181,7 @@ process_flaw judge ending p =
     else (if is_reported_otherwise (edit_at judge p) (recovery_at ending p) (answer_at ending p) then Some (flaw.ToldOtherwise p)
     else None)))
 
--- ---- all that is wrong
+-- ---- flaws
 
 -- one flaw, or none
 abbrev pub listed : Option Flaw → List Flaw
@@ -241,23 +251,61 @@ texts_below f (suc n) = texts_below f n ++ f n ∷ []
 abbrev pub texts_in : WorldValue → List (List ℕ)
 texts_in w = texts_below (text_at w.sheet.layout (memory w.sheet)) (cells_of w.sheet.layout)
 
--- the flaw is one of a cell's value
-abbrev pub IsOfValue : Flaw → Type 0
-IsOfValue (flaw.ValueOfNone cell) = Unit {0}
-IsOfValue _ = ⊥
+-- ---- values
 
--- the report is not settled; else these values of its are wrong
-abbrev pub report_flaws : Result ShowEnd Refusal → List Flaw → List Flaw
-report_flaws (Ok Settled) values = values
-report_flaws _ values = flaw.NotSettled ∷ []
+-- what the text gives its cell: the content that is read in it; nothing, where it has a fault
+abbrev pub Holds : Shape → List ℕ → Content → Type 0
+Holds shape text content = Reads shape text (plain content) ⊎ ((why : TextFault) × Faults shape text why × (content ≡ contents.Blank))
 
--- some more flaws of a kind stand after the others
-abbrev pub Adds : (Flaw → Type 0) → List Flaw → List Flaw → Type 0
-Adds P before after = (more : List Flaw) × All P more × (after ≡ before ++ more)
+-- what texts give their cells, one after the other
+pub data AreContents (shape : Shape) : List (List ℕ) → List Content → Type 0 where
+  no_content : AreContents shape [] []
+  one_content_more : (texts : List (List ℕ)) (held : List Content) (text : List ℕ) (content : Content)
+      → AreContents shape texts held → Holds shape text content → AreContents shape (texts ++ text ∷ []) (held ++ content ∷ [])
+
+-- the values are those of the texts of all cells, from scratch
+pub record IsEvaluated (shape : Shape) (texts : List (List ℕ)) (values : List Value) : Type 0 where
+  pub sheet : Sheet
+  pub shape_is : sheet.shape ≡ shape
+  pub contents : AreContents shape texts sheet.contents.items
+  pub scratch : IsScratch sheet.shape (contents_of sheet) values
+
+-- the values that process 0 has reported last
+abbrev pub reported_in : WorldValue → List Value
+reported_in w = if nat_lt 0 (length w.situations) then slice_index_or w.reports.values 0 [] else []
+
+-- what is wrong with the value of the cell that is reported: nothing, just where it is the expected one
+abbrev pub FitsValue : List Value → List Value → ℕ → Option Flaw → Type 0
+FitsValue expected reported cell None = slice_get reported cell ≡ slice_get expected cell
+FitsValue expected reported cell (Some f) = (f ≡ flaw.ValueOfNone cell) × (slice_get reported cell ≢ slice_get expected cell)
+
+-- the flaws of the values of the first n cells
+pub data AreValueFlaws (expected reported : List Value) : ℕ → List Flaw → Type 0 where
+  no_value : AreValueFlaws expected reported 0 []
+  one_value_more : (n : ℕ) (flaws : List Flaw) (more : Option Flaw) → AreValueFlaws expected reported n flaws → FitsValue expected reported n more → AreValueFlaws expected reported (suc n) (flaws ++ listed more)
+
+-- these flaws of the first n cells' values stand after the others
+pub record AddsValueFlaws (expected reported : List Value) (n : ℕ) (before after : List Flaw) : Type 0 where
+  pub more : List Flaw
+  pub are : AreValueFlaws expected reported n more
+  pub is : after ≡ before ++ more
+
+-- the flaws of the values that are reported, where those of these texts are expected
+pub record JudgesValues (w : WorldValue) (texts : List (List ℕ)) (flaws : List Flaw) : Type 0 where
+  pub expected : List Value
+  pub evaluated : IsEvaluated w.sheet.layout.shape texts expected
+  pub are : AreValueFlaws expected (reported_in w) (length expected) flaws
+
+-- the flaws of a report: those of its values; or that it is not settled
+abbrev pub JudgesReport : WorldValue → List (List ℕ) → Result ShowEnd Refusal → List Flaw → Type 0
+JudgesReport w texts (Ok Settled) flaws = JudgesValues w texts flaws
+JudgesReport w texts _ flaws = flaws ≡ flaw.NotSettled ∷ []
 
 -- texts
 abbrev pub texts_of : List (Vec ℕ) → List (List ℕ)
 texts_of texts = map (λ text. text.items) texts
+
+-- ---- all that is wrong
 
 -- what the judge finds, where the report was made in this world: the flaws of each process, those of the text of each
 -- cell, those of the settle, and those of the report
@@ -265,8 +313,8 @@ pub record IsJudged (judge : Judge) (w : WorldValue) (ending : OutcomeEnding) (f
   pub texts : List (Vec ℕ)
   pub shown : texts_of texts ≡ texts_in w
   pub values : List Flaw
-  pub of_values : All IsOfValue values
-  pub is : flaws ≡ ((flaws_below (process_flaw judge ending) (length ending.answers.items) ++ flaws_below (text_flaw judge ending texts) (length texts)) ++ listed (settle_flaw ending.left)) ++ report_flaws ending.reported values
+  pub of_report : JudgesReport w (texts_of texts) ending.reported values
+  pub is : flaws ≡ ((flaws_below (process_flaw judge ending) (length ending.answers.items) ++ flaws_below (text_flaw judge ending texts) (length texts)) ++ listed (settle_flaw ending.left)) ++ values
 
 -- an order ends in the first of these worlds with a crash, which leads to the second one; or without, in that
 abbrev pub EndsIn : Bool → WorldValue → WorldValue → Type 0

@@ -2,7 +2,7 @@
 
 ghost use Rattle.std.specs.Prelude.{◌≡◌, ◌<◌, IfOk, length, map};
 ghost use Rattle.ds_explore_state.specs.States.{seat_of};
-ghost use Rattle.ds_explore.specs.Judging.{AreAnswers, AreRecoveries, EndsIn, ReportsEnding, answer_text, replied, texts_of};
+ghost use Rattle.ds_explore.specs.Judging.{AreAnswers, AreRecoveries, EndsIn, ReportsEnding, answer_text, replied, reported_in, texts_of};
 
 use ds_calls::call::{whole_recovery, whole_show};
 use ds_calls::settle::{SettleEnd, settle};
@@ -168,7 +168,9 @@ pub(crate) fn end(
 }
 
 /// The values that process 0 has reported.
-pub(crate) fn values(world: &World) -> &[Value] {
+pub(crate) fn values(world: &World) -> &[Value]
+    ensures { result.now ≡ reported_in world.now }
+{
     if 0 < world.situations.len() {
         world.reports.of(0)
     } else {

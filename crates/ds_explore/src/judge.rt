@@ -1,7 +1,7 @@
 //! Whether an outcome is one that may be.
 
-ghost use Rattle.std.specs.Prelude.{◌≡◌, ◌++◌, All, List, IfOk, IfSome, OnOk, length, option_copied};
-ghost use Rattle.ds_explore.specs.Judging.{Adds, IsJudged, IsOfValue, answer_at, any_below, edit_at, flaws_below, has_text, is_contradicted, is_done, is_done_at, is_done_in, is_done_with, is_overtaken_by_none, is_refused, is_reported_done, is_reported_otherwise, is_reported_twice, is_text, is_undone, may_hold, process_flaw, report_flaws, same_bool, same_end, settle_flaw, recovery_at, text_flaw, texts_in, texts_of};
+ghost use Rattle.std.specs.Prelude.{◌≡◌, ◌≢◌, ◌++◌, List, IfOk, IsFalse, IsTrue, OnOk, length, option_copied};
+ghost use Rattle.ds_explore.specs.Judging.{AddsValueFlaws, AreContents, FitsValue, Holds, IsEvaluated, IsJudged, JudgesReport, JudgesValues, answer_at, any_below, edit_at, flaws_below, has_text, is_contradicted, is_done, is_done_at, is_done_in, is_done_with, is_overtaken_by_none, is_refused, is_reported_done, is_reported_otherwise, is_reported_twice, is_text, is_undone, may_hold, process_flaw, same_bool, same_end, settle_flaw, recovery_at, text_flaw, texts_in, texts_of};
 ghost use Rattle.ds_explore.specs.declared.flaw.Flaw.{Flaw};
 
 use crate::ends::{OutcomeEnding, values};
@@ -12,7 +12,9 @@ use ds_core::take::take;
 use ds_eval::scratch::scratch;
 use ds_eval::sheet::Sheet;
 use ds_eval::value::Value;
+use ds_formula::cells::Shape;
 use ds_formula::content::Content;
+use ds_formula::fault::FaultKind;
 use ds_formula::reading::read_content;
 use ds_state::answer::{Answer, EditEnd};
 use ds_state::recovery::{LastEdit, RecoveryEnd};
@@ -401,59 +403,105 @@ impl Judge {
     }
 }
 
-// The contents of texts: blank where one is none.
-fn contents(alloc: Global, world: &World, texts: &[Vec<u8>]) -> Result<Vec<Content>, AllocError> {
-    let shape = world.words.layout().shape;
-    let mut contents = Vec::new(alloc);
-    for text in texts {
-        match read_content(alloc, &shape, text) {
-            Ok(content) => contents.push(content)?,
-            Err(_) => contents.push(Content::Blank)?,
-        }
+// What a text gives its cell. An error means that an allocation failed.
+#[tactic(auto, using(crate::proofs::Valued::blank_holds))]
+fn content_of(alloc: Global, shape: Shape, text: &[u8]) -> Result<Content, AllocError>
+    ensures { IfOk result (Holds shape text.now) }
+{
+    match read_content(alloc, &shape, text) {
+        Ok(content) => Ok(content),
+        Err(fault) => match fault.kind {
+            FaultKind::NoMemory => Err(AllocError),
+            _ => Ok(Content::Blank),
+        },
     }
-    Ok(contents)
 }
 
-// The values of texts, from scratch.
-fn evaluated(alloc: Global, world: &World, texts: &[Vec<u8>]) -> Result<Vec<Value>, AllocError> {
-    let shape = world.words.layout().shape;
-    let contents = contents(alloc, world, texts)?;
+// What texts give their cells.
+fn contents(alloc: Global, shape: Shape, texts: &[Vec<u8>]) -> Result<Vec<Content>, AllocError>
+    ensures { IfOk result (λ held. AreContents shape (texts_of texts.now) held.items) }
+{
+    let mut held = Vec::new(alloc);
+    for number in 0..texts.len() {
+        let content = content_of(alloc, shape, &texts[number])?;
+        held.push(content)?;
+    }
+    Ok(held)
+}
+
+// The values of texts of all cells, from scratch. An error is also that they are not those of all.
+fn evaluated(alloc: Global, shape: Shape, texts: &[Vec<u8>]) -> Result<Vec<Value>, AllocError>
+    ensures { IfOk result (λ values. IsEvaluated shape (texts_of texts.now) values.items) }
+{
+    let contents = contents(alloc, shape, texts)?;
     if contents.len() != shape.count() {
-        return Ok(Vec::new(alloc));
+        return Err(AllocError);
     }
     let sheet = Sheet::new(shape, contents);
     scratch(alloc, &sheet)
 }
 
+// Whether there are two values that are the same, or none.
+fn same_value(one: Option<&Value>, other: Option<&Value>) -> bool
+    ensures same { IsTrue result → option_copied one.entry ≡ option_copied other.entry }
+    ensures differ { IsFalse result → option_copied one.entry ≢ option_copied other.entry }
+{
+    match one {
+        None => other.is_none(),
+        Some(one) => match other {
+            None => false,
+            Some(other) => *one == *other,
+        },
+    }
+}
+
 // What is wrong with the value of a cell that is reported.
 fn value_flaw(expected: &[Value], reported: &[Value], cell: usize) -> Option<Flaw>
-    ensures { IfSome result IsOfValue }
+    ensures { FitsValue expected.now reported.now cell result }
 {
-    if reported.get(cell) == expected.get(cell) {
+    if same_value(reported.get(cell), expected.get(cell)) {
         None
     } else {
         Some(Flaw::ValueOfNone(cell))
     }
 }
 
-// What is wrong with the values that are reported.
+// What is wrong with the values that are reported, where these are expected.
+fn add_value_flaws(
+    expected: &[Value],
+    reported: &[Value],
+    flaws: &mut Vec<Flaw>,
+) -> Result<(), AllocError>
+    ensures { OnOk result (AddsValueFlaws expected.now reported.now (length expected.now) flaws.old.items flaws.new.items) }
+{
+    for cell in 0..expected.len() {
+        add(flaws, value_flaw(expected, reported, cell))?;
+    }
+    Ok(())
+}
+
+// The shape of the sheet.
+fn shape_of(world: &World) -> Shape
+    ensures { result ≡ world.now.sheet.layout.shape }
+{
+    world.words.layout().shape
+}
+
+// What is wrong with the values that process 0 has reported, where the cells have these texts.
 fn value_flaws(
     alloc: Global,
     world: &World,
     texts: &[Vec<u8>],
     flaws: &mut Vec<Flaw>,
 ) -> Result<(), AllocError>
-    ensures { OnOk result (Adds IsOfValue flaws.old.items flaws.new.items) }
+    ensures { OnOk result ((more : List Flaw) × JudgesValues world.now (texts_of texts.now) more × (flaws.new.items ≡ flaws.old.items ++ more)) }
 {
-    let expected = evaluated(alloc, world, texts)?;
-    let reported = values(world);
-    for cell in 0..expected.len() {
-        add(flaws, value_flaw(&expected, reported, cell))?;
-    }
-    Ok(())
+    let expected = evaluated(alloc, shape_of(world), texts)?;
+    add_value_flaws(&expected, values(world), flaws)
 }
 
 // What is wrong with a report that ended so.
+#[tactic(auto, using(crate::proofs::Valued::unsettled_ok))]
 fn all_report_flaws(
     alloc: Global,
     world: &World,
@@ -461,7 +509,7 @@ fn all_report_flaws(
     reported: Result<ShowEnd, Refusal>,
     flaws: &mut Vec<Flaw>,
 ) -> Result<(), AllocError>
-    ensures { OnOk result ((values : List Flaw) × All IsOfValue values × (flaws.new.items ≡ flaws.old.items ++ report_flaws reported values)) }
+    ensures { OnOk result ((more : List Flaw) × JudgesReport world.now (texts_of texts.now) reported more × (flaws.new.items ≡ flaws.old.items ++ more)) }
 {
     match reported {
         Ok(ShowEnd::Settled) => value_flaws(alloc, world, texts, flaws),

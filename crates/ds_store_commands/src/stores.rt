@@ -57,7 +57,7 @@ pub(crate) fn written<R: Eprint>(rt: &R, out: io::Result<()>) -> u8 {
     }
 }
 
-// What is told of a store: its sheet, and how many edits were made.
+// What is said of a store: its sheet, and how many edits were made.
 #[derive(Clone, Copy)]
 struct Summary<'a> {
     layout: Layout,
@@ -93,7 +93,7 @@ fn write_all<W: Write>(out: &mut W, all: usize) -> io::Result<()> {
     writeln!(out, "{all} edits count, none is in doubt")
 }
 
-// Writes what is told of a store.
+// Writes what is said of a store.
 fn write_summary<W: Write>(out: &mut W, summary: &Summary<'_>) -> io::Result<()> {
     write_sheet(out, summary)?;
     write_processes(out, summary)?;
@@ -138,7 +138,7 @@ fn joined_edits(alloc: Global, read: &ReadStore, joins: usize) -> Result<usize, 
     Ok(all_edits(standings.get(..joins).unwrap_or(&standings)))
 }
 
-// Writes what is told of a store to standard output. Gives the status.
+// Writes what is said of a store to standard output. Gives the status.
 fn write_told<R: AllocGlobal + Print + Eprint>(rt: &R, path: &str, summary: &Summary<'_>) -> u8 {
     let Ok(mut out) = BufWriter::new(rt.alloc(), io::writer(rt)) else {
         return tell_fault(rt, path, &StoreFault::NoMemory);
@@ -146,7 +146,7 @@ fn write_told<R: AllocGlobal + Print + Eprint>(rt: &R, path: &str, summary: &Sum
     written(rt, write_summary(&mut out, summary))
 }
 
-// Tells what a store has. The fault is that edits of a process are more than are counted, or that an allocation failed.
+// Says what a store has. The fault is that edits of a process are more than are counted, or that an allocation failed.
 fn tell_store<R: AllocGlobal + Print + Eprint>(
     rt: &R,
     path: &str,

@@ -1,10 +1,8 @@
-use Rattle.ds_explore.specs.Judging.{IsOfValue}
-use Rattle.ds_explore.proofs.Judged.{adds_none, adds_more}
+use Rattle.ds_explore.specs.Judging.{texts_of}
+use Rattle.ds_explore.proofs.Valued.{values_ok}
 use Rattle.ds_explore.proofs.judge.value_flaws.Goals as goal
 
-pub loop-cell-init : goal.loop-cell-init
-loop-cell-init c = adds_none IsOfValue c.args.flaws.now.items
-
-pub loop-cell-preserved : goal.loop-cell-preserved
-loop-cell-preserved c =
-    adds_more IsOfValue c.args.flaws.now.items c.loop-cell.flaws.items c.add.new.flaws.items c.value_flaw.result c.loop-cell.invariant c.value_flaw.ensures c.in_ok-add.ensures
+pub returns : goal.returns
+returns c =
+    values_ok c.add_value_flaws.result c.args.world.now c.shape_of.result (texts_of c.args.texts.now) c.in_ok-expected.expected.items c.deref.result.now c.values.result.now c.args.flaws.now.items c.add_value_flaws.new.flaws.items c.shape_of.ensures
+    c.in_ok-expected.ensures c.deref.ensures.value c.values.ensures c.add_value_flaws.ensures
