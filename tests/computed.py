@@ -130,10 +130,12 @@ def stops():
     """An edit of a number has 20 steps and is kept after 13, one of a reference 23 and 16. A fault comes after it."""
     yield row("stops of a number", "run --stops", b"set 0 A1 7\n", blocks("A1", "7,\n,\n", 13, 20))
     yield row("stops of a reference", "run --stops", b"set 0 B1 =[.A1]\n", blocks("B1", ",0\n,\n", 16, 23))
-    for first, last in ((1, None), (1, 3), (1, 1), (9, 13), (19, 21), (20, None), (21, None), (5, 4), (2, 65_535)):
+    for first, last in ((1, None), (1, 3), (1, 1), (9, 13), (19, 21), (20, None), (21, None), (2, 65_535)):
         words = f"run --stops --from {first}" + (f" --to {last}" if last is not None else "")
         told = blocks("A1", "7,\n,\n", 13, min(20 if last is None else last, 20), first)
         yield row(words, words, b"set 0 A1 7\nfly\n", told, "line 2: unknown command", 1)
+    backwards = "run --stops --from 5 --to 4"
+    yield row(backwards, backwards, b"set 0 A1 7\nfly\n", b"", "dsheet: --to: not below --from; 0: to the end", 2)
 
 
 def refusal(code, name):

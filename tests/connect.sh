@@ -50,11 +50,21 @@ cmp "$room/out" "$room/wanted" || fail "other answers: $(cat "$room/out")"
 passed "answers are those of a script"
 
 status=0
-printf 'set A1 1\nwork A1\nset A1 2\n' | "$program" connect "127.0.0.1:$port" >"$room/out" 2>"$room/said" || status=$?
+printf 'set A1 1\nwork A1\nset A1 2\n' | "$program" connect "127.0.0.1:$port" --process 0 >"$room/out" 2>"$room/said" || status=$?
 [ "$status" = 1 ] || fail "a line that is no call: status $status"
-grep -q '^line 2: expected: set CELL TEXT, report or last$' "$room/said" || fail "a line that is no call"
+grep -q '^line 2: expected: set CELL TEXT, undo CELL, report, view, get CELL, history \[FROM\] or last$' "$room/said" || fail "a line that is no call"
 [ "$(tail -n 1 "$room/out")" = "0 0 done" ] || fail "lines before a fault"
 passed "a line that is no call"
+
+# Without a process: what reads needs none, also where every process is taken but one; an edit joins any.
+printf 'get A2\nget C9\nhistory 3\nget B2\n' >"$room/calls"
+"$program" connect "127.0.0.1:$port" <"$room/calls" >"$room/out" 2>"$room/said" || fail "reading: status $?"
+printf 'got A2 7 1 2 =[.A1]*[.B1]\nrefused bad-field\nedits 3 of 4\n0 0 A1 1\ngot B2 blank - -\n' >"$room/wanted"
+cmp "$room/out" "$room/wanted" || fail "reading: $(cat "$room/out")"
+printf 'undo A1\nget A1\nundo B2\n' | "$program" connect "127.0.0.1:$port" >"$room/out" 2>"$room/said" || fail "an undo: status $?"
+printf '1 last 2 A2 done\n1 3 done\ngot A1 3 1 3 =1+2\n1 refused no-edit\n' >"$room/wanted"
+cmp "$room/out" "$room/wanted" || fail "an undo: $(cat "$room/out")"
+passed "without a process"
 
 status=0
 "$program" connect "127.0.0.1:$port" --process 7 </dev/null >"$room/out" 2>"$room/said" || status=$?
@@ -66,7 +76,7 @@ printf 'set A1 =B1*2+A2\nset B2 =SUM($A$2:B1,2)\nset B2 =FOO(A1)\nset B2\nset A1
 status=0
 "$program" connect "127.0.0.1:$port" --process 1 --a1 <"$room/calls" >"$room/out" 2>"$room/said" || status=$?
 [ "$status" = 1 ] || fail "a bracket with --a1: status $status"
-printf '1 last 2 A2 done\n1 3 done\n1 4 done\n1 refused 1 UnknownFunction 1\n1 5 done\n' >"$room/wanted"
+printf '1 last 3 A1 done\n1 4 done\n1 5 done\n1 refused 1 UnknownFunction 1\n1 6 done\n' >"$room/wanted"
 cmp "$room/out" "$room/wanted" || fail "answers with --a1: $(cat "$room/out")"
 grep -q -x '    set B2 =FOO(A1)' "$room/said" || fail "the line that is refused with --a1: $(cat "$room/said")"
 grep -q -x ' *^ FOO is unknown; known are SUM, .* and IF' "$room/said" || fail "what is wrong in it: $(cat "$room/said")"
@@ -80,6 +90,7 @@ passed "a reference without brackets"
 
 # Servers that are none: what they say is not shown, and ends the client.
 hostile() {
+    : >"$room/at"
     python3 -c '
 import socket, sys, time
 listener = socket.create_server(("127.0.0.1", 0))

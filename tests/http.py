@@ -230,6 +230,47 @@ def requests(server):
     row("it asks to close", (client.ask("GET", "/healthz", connection="close")[1]["connection"], client.has_ended()), ("close", True))
 
 
+def fits(described, schema, value):
+    """Whether a value is as a schema of the description has it, by the words of schemas that it uses."""
+    if "$ref" in schema:
+        return fits(described, described["components"]["schemas"][schema["$ref"].rsplit("/", 1)[1]], value)
+    if "oneOf" in schema:
+        return sum(fits(described, one, value) for one in schema["oneOf"]) == 1
+    if "const" in schema:
+        return value == schema["const"]
+    if schema["type"] == "array":
+        return isinstance(value, list) and all(fits(described, schema["items"], item) for item in value)
+    if schema["type"] == "object":
+        known = schema["properties"]
+        return set(schema["required"]) <= set(value) <= set(known) and all(fits(described, known[key], value[key]) for key in value)
+    return isinstance(value, {"string": str, "integer": int}[schema["type"]]) and value != -1
+
+
+def description(server):
+    """What docs/openapi.json says of each request is so: its statuses, its media types, its answers, and which methods there are."""
+    with open(os.path.join(os.path.dirname(os.path.realpath(__file__)), "..", "docs", "openapi.json"), encoding="utf-8") as file:
+        described = json.load(file)
+    asked = {"connection": "Upgrade", "upgrade": "websocket", "sec_websocket_version": "13", "sec_websocket_key": KEY}
+    cases = [
+        ("POST", "/edits", '{"cell":"a1","text":"=1+2"}', 200, {}), ("POST", "/edits", '{"cell":"A1","text":"=1+"}', 422, {}),
+        ("POST", "/edits", '{"cell":"A1"}', 400, {}), ("GET", "/sheet", None, 200, {}), ("POST", "/lines", "{}", 200, {}),
+        ("GET", "/session", None, 426, {}), ("GET", "/session", None, 400, asked | {"sec_websocket_key": "none"}),
+        ("GET", "/session", None, 101, asked), ("GET", "/healthz", None, 200, {}), ("GET", "/", None, 200, {}),
+    ]
+    for method, path, body, wanted, fields in cases:
+        status, told, text = Client(server).ask(method, path, body, **fields)
+        answers = described["paths"][path][method.lower()]["responses"]
+        kind, form = next(iter(answers[str(wanted)].get("content", {}).items()), (None, None))
+        value = json.loads(text) if kind == "application/json" else text
+        right = form is None or told["content-type"] == kind and fits(described, form["schema"], value)
+        row(f"described: {method} {path}, {wanted}", (status, right), (wanted, True))
+    for path, methods in described["paths"].items():
+        there = sorted(method.upper() for method in methods)
+        allowed = Client(server).ask("DELETE", path)[1]["allow"].split(", ")
+        row(f"described: the methods of {path}", sorted(set(allowed) - {"HEAD"}), there)
+    row("described: no other fields", fits(described, {"$ref": "#/components/schemas/Done"}, {"number": 0, "ok": "done", "more": 1}), False)
+
+
 def limits(server):
     """Requests that are too large, and unreadable ones."""
     for what, said, wanted in [
@@ -399,6 +440,10 @@ def tokens(program):
         row("an edit with it", client.ask("POST", "/edits", edit, authorization="Bearer open sesame")[0], 200)
         row("a join without it", client.ask("POST", "/lines", '{"op":"join","process":0}')[2], '{"code":20,"error":"denied"}\n')
         row("a join with it", client.ask("POST", "/lines", '{"op":"join","process":0,"token":"open sesame"}')[2], '{"last":null,"ok":"join","process":0}\n')
+        for op in ['"view"', '"get","cell":"A1"', '"history","from":0']:
+            asked = f'{{"op":{op}}}\n{{"op":{op},"token":"open sesame"}}\n{{"op":"join","process":0,"token":"open sesame"}}\n{{"op":{op}}}'
+            answers = [json.loads(line).get("error") for line in client.ask("POST", "/lines", asked)[2].splitlines()]
+            row(f"a question by {op} without it, with it, and after a join", answers, ["denied", None, None, None])
         row("the page needs none", client.ask("GET", "/")[0], 200)
         server.stop()
 
@@ -424,6 +469,7 @@ def slow(program):
 def play(program, quick):
     server = Server(program, "--columns", "2", "--rows", "2", "--processes", "2")
     requests(server)
+    description(server)
     limits(server)
     origins(server)
     sockets(server)

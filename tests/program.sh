@@ -39,6 +39,19 @@ onto_full() {
     "$program" "$@" <"$input" >/dev/full 2>"$said" || status=$?
 }
 
+# The same onto a pipe that nobody reads.
+onto_closed() {
+    local input=$1
+    shift
+    {
+        sleep 0.2
+        status=0
+        "$program" "$@" <"$input" 2>"$said" || status=$?
+        echo "$status" >"$room/status"
+    } | true
+    status=$(cat "$room/status")
+}
+
 on examples/sum run
 expect "a script" "$status" 0 ""
 on examples/fault run
@@ -76,6 +89,21 @@ onto_full examples/grid report
 expect "report: a full device" "$status" 3 "dsheet: .*"
 onto_full examples/grid report --json
 expect "report --json: a full device" "$status" 3 "dsheet: .*"
+onto_full examples/sum run --json
+expect "run --json: a full device" "$status" 3 "dsheet: .*"
+for words in run "run --json" "run --strict" "run --stops" explore trace; do
+    # shellcheck disable=SC2086
+    onto_closed examples/sum $words
+    expect "$words: nobody reads the answers" "$status" 141 ""
+done
+printf 'set 0 A1 =B1\n' >"$room/a1"
+onto_closed "$room/a1" run --a1
+expect "run --a1: nobody reads the answers" "$status" 141 ""
+for words in report "report --json" --help "run --help"; do
+    # shellcheck disable=SC2086
+    onto_closed examples/grid $words
+    expect "$words: nobody reads it" "$status" 141 ""
+done
 head -c 1048577 /dev/zero | tr '\0' '\n' >"$room/long"
 on "$room/long" run
 expect "a script over its limit" "$status" 3 "dsheet: .*"
@@ -144,6 +172,24 @@ shows '1,2\n3\n' 'bad csv\nrecord 2 has 1 fields, the first one 2\n' report
 passed "run --stops --from 19 --to 20"
 on examples/stops run --stops --from 0
 expect "run --stops --from 0" "$status" 2 'dsheet: --from: from 1 to 65535'
+for words in "--stops --from 3 --to 2:--to: not below --from; .*" "--from 3:--from: .* give --stops" "--to 3:--to: .* give --stops" \
+    "--from 1:--from: .* give --stops" "--strict --to 0:--to: .* give --stops" "--json --stops:--json: .*; --stops does not write them"; do
+    # shellcheck disable=SC2086
+    on examples/stops run ${words%%:*}
+    expect "run ${words%%:*}" "$status" 2 "dsheet: ${words#*:}"
+    expect "run ${words%%:*}: its usage" "$status" 2 'Usage: dsheet run \[OPTIONS\] \[FILE\]'
+done
+on examples/stops run --stops --from 20 --to 20
+expect "run --stops of one step" "$status" 0 ""
+on /dev/null serve --listen 127.0.0.1:0 --forever --sessions 1
+expect "serve --forever --sessions" "$status" 2 'dsheet: --sessions: how many .*'
+
+# The usage that stands below an option's limits is that of the command's help.
+for words in "serve --listen 1" "explore --most 0" "connect 1" "run --from 1" "export a --csv --json" "log a --values"; do
+    # shellcheck disable=SC2086
+    on /dev/null $words
+    expect "$words: its usage" "$status" 2 "$("$program" "${words%% *}" --help | grep '^Usage: ' | sed 's/[][]/\\&/g')"
+done
 on examples/stops explore --most 0
 expect "explore --most 0" "$status" 2 'dsheet: --most: from 1 to 65535 thousand states'
 
@@ -232,11 +278,20 @@ answers "export --csv --values --until" "$room/values" /dev/null export "$room/g
 on "$room/texts" import "$room/again.db" --csv
 expect "import --csv of what is exported" "$status" 0 ""
 answers "export --csv, again" "$room/texts" /dev/null export "$room/again.db" --csv
-for words in "export $room/grid.db --csv" "log $room/grid.db" "log $room/grid.db --at 1"; do
+for words in "export $room/grid.db --csv" "log $room/grid.db" "log $room/grid.db --at 1" "export $room/grid.db --json" "check $room/grid.db"; do
     # shellcheck disable=SC2086
     onto_full /dev/null $words
     expect "${words%% *}: a full device" "$status" 3 "dsheet: standard output: .*"
+    # shellcheck disable=SC2086
+    onto_closed /dev/null $words
+    expect "${words%% *}: nobody reads it" "$status" 141 ""
 done
+
+# A store's values are written as JSON as report writes them, and its texts so too.
+"$program" report --json <"$room/texts" >"$room/json"
+answers "export --values --json" "$room/json" /dev/null export "$room/grid.db" --values --json
+printf '{"rows":[["1","=[.A1]*20",""],["","=SUM([.A1:.B1];2)","-7"]]}\n' >"$room/json"
+answers "export --json" "$room/json" /dev/null export "$room/grid.db" --json
 on /dev/null import --csv "$room/empty.db"
 expect "import --csv of no record" "$status" 1 "empty grid"
 on "$room/long" import --csv "$room/empty.db"
@@ -271,6 +326,13 @@ expect "log --values of the list" "$status" 2 "dsheet: --values: .*"
 on /dev/null log "$room/nothing.db"
 expect "log of no store" "$status" 3 "dsheet: .*No such file.*"
 
+# The manual page is that of this program, and is shown without a warning.
+holds "the manual page: of this program" tools/man.py --check "$program"
+if command -v groff >/dev/null; then
+    groff -man -ww -Tutf8 examples/man/dsheet.1 2>"$said" >/dev/null
+    holds "the manual page: no warning" [ ! -s "$said" ]
+fi
+
 # The completions are those of this program; those of bash complete commands, options and files.
 holds "the completions: of this program" tools/completions.py --check "$program"
 # shellcheck source=/dev/null
@@ -289,6 +351,7 @@ completes() {
 }
 completes "explore export" dsheet exp
 completes "--stops --strict" dsheet run --st
+completes "--json" dsheet run --j
 completes "examples/sum examples/sum.args examples/sum.stdout" dsheet run examples/sum
 completes "examples/sum examples/sum.args examples/sum.stdout" dsheet serve --store examples/sum
 completes "" dsheet log a --at ""

@@ -34,7 +34,10 @@ PARTS = {
     "serving": Part("serving.sh"),
     "load": Part("load.py", knows_quick=True),
     "http": Part("http.py", knows_quick=True),
+    "browser": Part("browser.py"),
     "connect": Part("connect.sh"),
+    "terminal": Part("terminal.py"),
+    "json": Part("json_answers.py", knows_quick=True),
     "program": Part("program.sh"),
     "examples": Part("examples.sh"),
     "pictures": Part("pictures.py"),
@@ -120,6 +123,8 @@ def lack_of(name, is_quick):
     if name in LIBRARIES:
         built = subprocess.run([f"{TOP}/tests/{PARTS[name].file}", "--is-built"], stderr=subprocess.DEVNULL)
         return f"the library for C: (cd crates/{LIBRARIES[name]} && rt lib)" if built.returncode else None
+    if name == "browser" and subprocess.run([f"{TOP}/tests/browser.py", "--is-there"]).returncode:
+        return "Chromium"
     return None
 
 

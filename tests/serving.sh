@@ -120,6 +120,8 @@ refuses "an address that is none" "dsheet: --listen: .*" --listen nowhere
 refuses "too many processes" "dsheet: --processes: from 1 to 8" --listen 127.0.0.1:0 --processes 9
 refuses "no process without a worker" "dsheet: --workers: .*" --listen 127.0.0.1:0 --workers 2
 refuses "a number that is none" "error: invalid value 'many' .*" --listen 127.0.0.1:0 --columns many
+refuses "no address at all" "dsheet: where it listens: .*"
+refuses "an address for HTTP that is none" "dsheet: --http: .*" --http nowhere
 refuses "no session at once" "dsheet: --at-once: .*" --listen 127.0.0.1:0 --at-once 0
 refuses "no session at all" "dsheet: --sessions: .*" --listen 127.0.0.1:0 --sessions 0
 refuses "an address of other machines, without a token" "dsheet: --listen: whoever reaches .*" --listen 0.0.0.0:0

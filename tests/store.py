@@ -3,7 +3,7 @@
 each client is answered against what it was answered before: each edit that was answered done is there, each last edit is
 reported as it ended, no number comes twice, none is left out. Then what a store may meet beside that: no room on the
 disk, a file that may not be written, is another database, is damaged or cut at many places, or is open in another server;
-what is saved of a damaged one, and copies of one, also beside a server. The last line counts the rows, each kill and each
+what is saved of a damaged one, and copies of one, also beside a server; what somebody reads without a process. The last line counts the rows, each kill and each
 cut one of them.
     tests/store.py [--quick] PROGRAM [KILLS [CUTS [SEED]]]      200 kills and 100 cuts by a drawn seed, where no numbers
                                                                 are given (6 and 8 of an unproved program, by --quick)
@@ -249,6 +249,110 @@ def check_one_process(program, folder, edits):
     if said.returncode != 0 or f"{number} edits count" not in said.stdout or not said.stdout.startswith("sheet 26 39 1\n"):
         raise Failed(f"check says: {said.stdout}{said.stderr}, of {number} edits")
     pass_rows(f"one process makes {number} edits, the slowest in {slowest * 1000:.0f} ms")
+
+
+class Viewer:
+    """Somebody who reads without a process."""
+
+    def __init__(self, port):
+        self.link = socket.create_connection(("127.0.0.1", port), timeout=60)
+        self.stream = self.link.makefile("rw")
+
+    def call(self, **call):
+        return Client(None).call(self.stream, **call)
+
+    def settled(self, **call):
+        """The answer to a question, which is asked again where edits beside it have left a word that was not at rest."""
+        while (answer := self.call(**call)).get("ok") == "unsettled":
+            time.sleep(0.001)
+        return answer
+
+    def history(self):
+        """All edits that count, in their order, by parts."""
+        edits, of = [], 1
+        while len(edits) < of:
+            part = self.call(op="history", **{"from": len(edits)})
+            if part.get("ok") != "history" or part["from"] != len(edits) or part["of"] < of - 1:
+                raise Failed(f"a part of the history: {part}")
+            of = part["of"]
+            edits += part["edits"]
+            if not part["edits"]:
+                break
+        return edits
+
+
+def expect_history(edits, clients, nobody):
+    """The history has the edits of each client, in its order, those that were answered among them; texts that the sheet began
+    with are nobody's, by their place."""
+    begun = [edit for edit in edits if edit["process"] == nobody]
+    if begun != edits[: len(begun)] or any(edit["number"] != place for place, edit in enumerate(begun)):
+        raise Failed(f"texts that the sheet began with are listed as {begun[:5]}")
+    for client in clients:
+        made = [edit for edit in edits if edit["process"] == client.process]
+        told = client.told + [client.asked] * (client.asked is not None)
+        first = made[0]["number"] if made else len(client.told)
+        if [edit["number"] for edit in made] != list(range(first, first + len(made))) or (not begun and first != 0):
+            raise Failed(f"the history numbers the edits of process {client.process} from {first}, and has {len(made)}")
+        if first + len(made) < len(client.told) or [(edit["cell"], edit["text"]) for edit in made] != told[first : first + len(made)]:
+            raise Failed(f"the history has other edits of process {client.process} than it made")
+
+
+def check_reading(program, folder, gets, draw):
+    """Somebody reads without a process beside clients that edit, one of whose processes nobody has: what a cell is belongs to
+    one edit. Edits that are taken back are edits; the history is the same after a kill."""
+    store = os.path.join(folder, "read.db")
+    server, port = start(program, store)
+    clients, enough = [Client(process) for process in range(PROCESSES - 1)], threading.Event()
+    threads = [threading.Thread(target=client.life, args=(port, draw, enough)) for client in clients]
+    for thread in threads:
+        thread.start()
+    viewer, got = Viewer(port), []
+    for _ in range(gets):
+        cell = f"{chr(65 + draw.randrange(PROCESSES - 1))}{draw.randint(1, ROWS)}"
+        answer = viewer.settled(op="get", cell=cell)
+        if answer.get("ok") != "got" or answer["cell"] != cell or answer["value"] != answer["text"]:
+            raise Failed(f"get {cell}: {answer}")
+        got.append(answer)
+        if draw.random() < 0.1 and viewer.settled(op="view").get("ok") != "settled":
+            raise Failed("a view is not settled")
+    enough.set()
+    for thread in threads:
+        thread.join()
+    for client in clients:
+        if client.wrong:
+            raise client.wrong
+    for answer in got:
+        edit = answer["edit"]
+        if edit is None:
+            continue
+        if edit["process"] < PROCESSES and clients[edit["process"]].told[edit["number"]] != (answer["cell"], answer["text"]):
+            raise Failed(f"get tells {answer}, and process {edit['process']} made {clients[edit['process']].told[edit['number']]}")
+    edits = viewer.history()
+    expect_history(edits, clients, PROCESSES)
+    pass_rows(f"{gets} cells read without a process beside {len(edits)} edits, each with the edit that it is of", gets)
+    server.send_signal(signal.SIGKILL)
+    server.wait()
+    server, port = start(program, store)
+    viewer = Viewer(port)
+    if viewer.history() != edits:
+        raise Failed("the history is another one after a kill")
+    editor, client = Viewer(port), Client(PROCESSES - 1)
+    joined = editor.call(op="join", process="any")
+    if joined.get("ok") != "join" or joined["process"] != client.process:
+        raise Failed(f"a join of any process: {joined}")
+    texts = []
+    for text in ("1", "2"):
+        editor.call(op="set", cell="D1", text=text)
+    for number, text in ((2, "1"), (3, "2")):
+        if editor.call(op="undo", cell="D1") != {"number": number, "ok": "done"}:
+            raise Failed("an undo is not done")
+        texts.append(viewer.settled(op="get", cell="D1")["text"])
+        if texts[-1] != text:
+            raise Failed(f"undo twice: {texts}")
+    if editor.call(op="undo", cell="D2").get("error") != "no-edit":
+        raise Failed("an undo of a cell that nobody edited")
+    stop(server)
+    pass_rows("the history after a kill, a join of any process, two undos", 3)
 
 
 def run(program, *words, **more):
@@ -824,6 +928,30 @@ def check_unit(program, folder):
     pass_rows("the unit of systemd starts a server, and stops it")
 
 
+def check_container(program, folder):
+    """The words of the container start a server that wants its token, and keeps its sheet through a kill."""
+    lines = open(os.path.join(os.path.dirname(__file__), "../examples/serve/Containerfile"), encoding="utf-8").read()
+    token, data = os.path.join(folder, "token"), os.path.join(folder, "contained")
+    os.mkdir(data)
+    with open(token, "w", encoding="utf-8") as file:
+        file.write("open sesame\n")
+    words = json.loads(re.search(r"(?m)^CMD (.+)$", lines).group(1))
+    here = {"0.0.0.0:8080": "127.0.0.1:0", "/token": token, "/data/sheet.db": os.path.join(data, "sheet.db")}
+    for last in (None, {"cell": "A1", "number": 0, "outcome": "done"}):
+        server = subprocess.Popen([program] + [here.get(word, word) for word in words], stdin=subprocess.PIPE, stderr=subprocess.PIPE, text=True)
+        port = int(server.stderr.readline().rsplit(":", 1)[1])
+        with socket.create_connection(("127.0.0.1", port), timeout=20) as link:
+            client, stream = Client(0), link.makefile("rw")
+            denied = client.call(stream, op="join", process=0)
+            joined = client.call(stream, op="join", process=0, token="open sesame")
+            made = client.call(stream, op="set", cell="A1", text="7")
+        server.kill()
+        server.wait(timeout=10)
+        if denied.get("error") != "denied" or joined.get("last") != last or made.get("ok") != "done":
+            raise Failed(f"the container: {denied}, {joined}, {made}")
+    pass_rows("the words of the container start a server that keeps its sheet through a kill")
+
+
 def check_cuts(program, folder, store, cuts, draw):
     """A file that is cut is refused, or has the first of the lines."""
     whole = run(program, "export", store).stdout.splitlines()
@@ -859,12 +987,14 @@ def check_all(program, kills, cuts, many, draw):
         check_until(program, folder, store)
         check_backup(program, folder, store)
         check_backup_beside(program, folder, max(5, cuts // 5), draw)
+        check_reading(program, folder, max(100, 5 * cuts), draw)
         check_full(program, folder)
         check_white_space(program, folder)
         check_fifo(program, folder)
         check_lost_file(program, folder)
         check_lost_log(program, folder)
         check_unit(program, folder)
+        check_container(program, folder)
         check_full_copy(program, folder, store)
         check_read_only(program, folder, store)
         check_zeros(program, folder, store, cuts, draw)

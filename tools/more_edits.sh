@@ -4,8 +4,9 @@
 # proved or tried once on this machine it takes from what it keeps, so an interrupted run loses little. Run it for a crate
 # whenever its code or its definitions change. Where all edits of a crate are refused, it notes of which text that is so,
 # in crates/NAME/more-edits/tried. The last line counts the crates; exit status 1 where any is left.
-#   tools/more_edits.sh [NAME ..]   these crates, or those whose text is another one than that
-#   tools/more_edits.sh --stale     lists the latter, and tries nothing
+#   tools/more_edits.sh [NAME ..]           these crates, or those whose text is another one than that
+#   tools/more_edits.sh --alone [NAME ..]   the same without a proof of the crates below: `rt check` and `rt must-fail` for each
+#   tools/more_edits.sh --stale             lists them, and tries nothing
 set -euo pipefail
 cd "$(dirname "$0")/.."
 
@@ -35,16 +36,37 @@ stale() {
     done
 }
 
-# Copies what checks read, with the edits of these crates where `rt ci` tries them.
+# These crates and those below them, by crates.txt.
+with_those_below() {
+    local head libraries name unseen=("$@")
+    local -A below taken
+    while IFS=: read -r head libraries; do
+        below[${head%% *}]=$libraries
+    done < <(grep -v '^#' crates.txt)
+    while [ "${#unseen[@]}" != 0 ]; do
+        name=${unseen[-1]}
+        unset 'unseen[-1]'
+        if [ -n "${taken[$name]-}" ] || [ -z "${below[$name]+is}" ]; then continue; fi
+        taken[$name]=yes
+        # shellcheck disable=SC2206
+        unseen+=(${below[$name]})
+    done
+    printf '%s\n' "${!taken[@]}"
+}
+
+# Copies what checks of these crates read, with their edits where `rt ci` tries them. No other crate is copied, so no other
+# one is proved or tested there.
 copy_repository() {
-    local room=$1 name
+    local room=$1 name crate
     shift
-    cp -a crates.txt HANDLES "$room"
+    cp -a HANDLES "$room"
     mkdir "$room/.git" "$room/crates"
-    for crate in crates/*; do
+    while read -r name; do
+        crate=crates/$name
+        grep -E "^${name}[ :]" crates.txt >>"$room/crates.txt"
         mkdir "$room/$crate"
         find "$crate" -mindepth 1 -maxdepth 1 ! -name out ! -name must-fail ! -name more-edits -exec cp -a {} "$room/$crate/" \;
-    done
+    done < <(with_those_below "$@")
     for name in "$@"; do
         mkdir "$room/crates/$name/must-fail"
         cp "crates/$name/more-edits/"*.edit "$room/crates/$name/must-fail/"
@@ -63,6 +85,19 @@ if [ "${1-}" = --stale ]; then
     stale
     exit 0
 fi
+# Tries the edits of these crates in the copy, each over what a check of its crate kept.
+try_alone() {
+    local name
+    for name in "$@"; do
+        (cd "crates/$name" && rt check) && rt must-fail "$name"
+    done
+}
+
+alone=
+if [ "${1-}" = --alone ]; then
+    alone=yes
+    shift
+fi
 names=("$@")
 if [ $# -eq 0 ]; then mapfile -t names < <(stale); fi
 if [ "${#names[@]}" = 0 ]; then
@@ -76,9 +111,10 @@ trap 'exit 143' TERM
 declare -A texts
 for name in "${names[@]}"; do texts[$name]=$(text_of "$name"); done
 copy_repository "$room" "${names[@]}"
-# A gate calls `rt ci` without names: what it has proved before is kept, so that the other crates cost little.
+# A gate calls `rt ci` without names, over what was copied.
 if [ "${CI-}" = true ]; then words=(); else words=("${names[@]}"); fi
-(cd "$room" && rt ci "${words[@]}") </dev/null 2>&1 | tee "$room/log" || true
+if [ -n "$alone" ]; then try=(try_alone "${names[@]}"); else try=(rt ci "${words[@]}"); fi
+(cd "$room" && "${try[@]}") </dev/null 2>&1 | tee "$room/log" || true
 refused=0
 for name in "${names[@]}"; do
     if all_refused "$name" "$room/log"; then

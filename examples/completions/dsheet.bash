@@ -10,7 +10,7 @@ _dsheet() {
     fi
     case ${COMP_WORDS[1]} in
         run)
-            options='--stops --from --to --strict --a1 --help'
+            options='--stops --from --to --strict --brief --json --a1 --help'
             others='--from --to'
             takes_words=1
             ;;
@@ -24,11 +24,11 @@ _dsheet() {
             others='--listen --columns --rows --processes --workers --sessions --http --at-once --idle --log'
             ;;
         explore)
-            options='--crashes --stops --evictions --most --help'
-            others='--most'
+            options='--crashes --stops --evictions --most --summary --json --show --trace --help'
+            others='--most --show --trace'
             ;;
         trace)
-            options='--help'
+            options='--brief --help'
             ;;
         connect)
             options='--process --timeout --token-file --a1 --help'
@@ -46,7 +46,7 @@ _dsheet() {
             takes_words=1
             ;;
         export)
-            options='--until --csv --values --help'
+            options='--until --csv --values --json --help'
             others='--until'
             takes_words=1
             ;;

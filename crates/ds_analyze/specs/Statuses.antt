@@ -12,6 +12,7 @@ explore_status_of explored.Wrong = 1
 explore_status_of (explored.Fault line kind) = 1
 explore_status_of explored.TooManyStates = 3
 explore_status_of explored.TooLong = 3
+explore_status_of explored.FoundTooLong = 3
 explore_status_of explored.WriteFailed = 3
 explore_status_of explored.NoMemory = 4
 

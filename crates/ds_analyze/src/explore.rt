@@ -1,45 +1,170 @@
 //! `dsheet explore`.
 
-use crate::status::explore_status;
+use crate::form::{Unwritten, write_form};
+use crate::status::{explore_status, picture_status};
+use ds_batch::closing::Closing;
 use ds_batch::faults::show_line;
 use ds_batch::run::no_memory;
-use ds_batch::status::STREAM_FAILED;
-use ds_cli::exploring::Exploring;
+use ds_batch::status::{CLOSED, STREAM_FAILED};
+use ds_cli::exploring::{ExploreForm, Exploring};
+use ds_explore::exploration::explored;
 use ds_explore::explore::{ExploreEnd, explore as explore_orders};
 use ds_explore::options::{Options, Watcher};
 use ds_script_io::input::{InputEnd, read_input};
 use ds_script_io::line::INPUT_LIMIT;
 use ds_script_io::streams::{Reading, Writing};
-use std::io::{self, BufWriter};
+use std::io::{self, BufWriter, Write};
 
-// How many states there are between two lines of how many were found.
-const EACH: usize = 10_000;
+// The status where the outcome that is asked for is none: wrong words on the command line.
+const NO_OUTCOME: u8 = 2;
 
-// Says on standard error how many states were found, where that is asked for.
+// How many states are found in well under a second.
+const EACH: usize = 500;
+
+// Shows on standard error how many states were found, where that is asked for: one line, which is overwritten.
 #[derive(Drop)]
 struct Counter<'a, R: Eprint> {
     rt: &'a R,
     shows: bool,
+    shown: usize,
 }
 
 impl<R: Eprint> Watcher for Counter<'_, R> {
     fn found(&mut self, states: usize) {
-        if self.shows && states.is_multiple_of(EACH) {
-            let _reported = eprintln!(self.rt; "dsheet: {states} states");
+        if self.shows && states.is_multiple_of(EACH) && states != self.shown {
+            let _shown = eprint!(self.rt; "\rdsheet: {states} states");
+            self.shown = states;
         }
     }
 }
 
-/// `dsheet explore`: a script from standard input, what all orders of its calls' steps come to to standard output, and
-/// why it ended, where it is not well, to standard error; gives the status.
+impl<R: Eprint> Counter<'_, R> {
+    // Takes the line back, where there is one.
+    fn end(&self) {
+        if self.shown > 0 {
+            let _taken_back = eprint!(self.rt; "\r                                  \r");
+        }
+    }
+}
+
+// Says why an exploration ended, where it is not well.
+fn explain<R: Eprint>(rt: &R, script: &[u8], end: &ExploreEnd) {
+    match end {
+        ExploreEnd::Ended => {}
+        ExploreEnd::Fault { line, kind } => {
+            let _reported = eprintln!(rt; "{end}");
+            show_line(rt, script, *line, *kind);
+        }
+        _ => {
+            let _reported = eprintln!(rt; "dsheet: {end}");
+        }
+    }
+}
+
+// Says why a form of an exploration is not written; gives the status.
+fn unwritten<R: Eprint>(rt: &R, why: Unwritten) -> u8 {
+    match why {
+        Unwritten::NoOutcome { number, count } => {
+            let _reported = eprintln!(rt;
+                "dsheet: there is no outcome {number}: there are {count}"
+            );
+            NO_OUTCOME
+        }
+        Unwritten::NotUtf8 => {
+            let _reported = eprintln!(rt; "dsheet: the script is not UTF-8, and JSON is");
+            STREAM_FAILED
+        }
+        Unwritten::NoPicture(end) => {
+            let _reported = eprintln!(rt; "dsheet: {end}");
+            picture_status(&end)
+        }
+        Unwritten::NoMemory => no_memory(rt),
+    }
+}
+
+// What the orders may have.
+fn options_of(exploring: Exploring) -> Options {
+    Options {
+        crashes: exploring.crashes,
+        stops: exploring.stops,
+        evictions: exploring.evictions,
+        most: exploring.thousands.saturating_mul(1000),
+    }
+}
+
+// Explores a script, and writes what it comes to in one of the shorter forms.
+fn explore_form<R: AllocGlobal + Eprint, W: Write>(
+    rt: &R,
+    script: &[u8],
+    exploring: Exploring,
+    counter: &mut Counter<'_, R>,
+    writer: &mut Writing<W>,
+) -> Result<ExploreEnd, Unwritten> {
+    let found = explored(rt.alloc(), script, options_of(exploring), counter);
+    counter.end();
+    match found {
+        Ok(exploration) => write_form(rt.alloc(), &exploration, exploring.form, writer),
+        Err(why) => Ok(why.end()),
+    }
+}
+
+// Explores a script, and writes what it comes to to this writer.
+fn write_all_of<R: AllocGlobal + Eprint, W: Write>(
+    rt: &R,
+    script: &[u8],
+    exploring: Exploring,
+    shows: bool,
+    writer: &mut Writing<W>,
+) -> Result<ExploreEnd, Unwritten> {
+    let mut counter = Counter {
+        rt,
+        shows,
+        shown: 0,
+    };
+    if exploring.form != ExploreForm::All {
+        return explore_form(rt, script, exploring, &mut counter, writer);
+    }
+    let options = options_of(exploring);
+    let end = explore_orders(rt.alloc(), script, options, writer, &mut counter);
+    counter.end();
+    Ok(end)
+}
+
+// Explores a script, and writes what it comes to; gives the status, 141 where nobody reads it any more.
+fn explore_script<R: AllocGlobal + Print + Eprint>(
+    rt: &R,
+    script: &[u8],
+    exploring: Exploring,
+    shows: bool,
+) -> u8 {
+    let mut closed = false;
+    let end = {
+        let output = Closing::new(io::writer(rt), &mut closed);
+        let Ok(buffered) = BufWriter::new(rt.alloc(), output) else {
+            return no_memory(rt);
+        };
+        let mut writer = Writing::new(buffered);
+        write_all_of(rt, script, exploring, shows, &mut writer)
+    };
+    if closed {
+        return CLOSED;
+    }
+    match end {
+        Ok(end) => {
+            explain(rt, script, &end);
+            explore_status(&end)
+        }
+        Err(why) => unwritten(rt, why),
+    }
+}
+
+/// `dsheet explore`: a script from standard input, what all orders of its calls' steps come to to standard output, in the
+/// form that is asked for, and why it ended, where it is not well, to standard error; gives the status.
 pub fn explore<R: AllocGlobal + Input + Print + Eprint>(
     rt: &R,
     exploring: Exploring,
     shows: bool,
 ) -> u8 {
-    let Ok(buffered) = BufWriter::new(rt.alloc(), io::writer(rt)) else {
-        return no_memory(rt);
-    };
     let mut reader = Reading::new(rt.reader());
     let Ok(input) = read_input(rt.alloc(), &mut reader, INPUT_LIMIT) else {
         return no_memory(rt);
@@ -48,24 +173,5 @@ pub fn explore<R: AllocGlobal + Input + Print + Eprint>(
         let _reported = eprintln!(rt; "dsheet: a read failed");
         return STREAM_FAILED;
     }
-    let options = Options {
-        crashes: exploring.crashes,
-        stops: exploring.stops,
-        evictions: exploring.evictions,
-        most: exploring.thousands.saturating_mul(1000),
-    };
-    let mut writer = Writing::new(buffered);
-    let mut counter = Counter { rt, shows };
-    let end = explore_orders(rt.alloc(), &input.bytes, options, &mut writer, &mut counter);
-    match &end {
-        ExploreEnd::Ended => {}
-        ExploreEnd::Fault { line, kind } => {
-            let _reported = eprintln!(rt; "{end}");
-            show_line(rt, &input.bytes, *line, *kind);
-        }
-        _ => {
-            let _reported = eprintln!(rt; "dsheet: {end}");
-        }
-    }
-    explore_status(&end)
+    explore_script(rt, &input.bytes, exploring, shows)
 }

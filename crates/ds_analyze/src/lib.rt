@@ -2,5 +2,6 @@
 #![tactic(auto)]
 
 pub mod explore;
+pub mod form;
 pub mod status;
 pub mod trace;

@@ -7,14 +7,17 @@ use ds_explore::explore::ExploreEnd;
 use ds_trace_picture::script::PictureEnd;
 
 /// The status that says how an exploration ended: 0 ended, 1 something is wrong with an outcome or a fault in a line, 3
-/// a failed write, a script over its limit, or more states than may be gone through, 4 out of memory.
+/// a failed write, a script or that of an outcome over its limit, or more states than may be gone through, 4 out of memory.
 pub fn explore_status(end: &ExploreEnd) -> u8
     ensures { result ≡ explore_status_of end.now }
 {
     match end {
         ExploreEnd::Ended => 0,
         ExploreEnd::Wrong | ExploreEnd::Fault { line: _, kind: _ } => 1,
-        ExploreEnd::TooManyStates | ExploreEnd::TooLong | ExploreEnd::WriteFailed => 3,
+        ExploreEnd::TooManyStates
+        | ExploreEnd::TooLong
+        | ExploreEnd::FoundTooLong
+        | ExploreEnd::WriteFailed => 3,
         ExploreEnd::NoMemory => 4,
     }
 }

@@ -8,15 +8,19 @@ use clap::Error;
 use clap::error::ErrorKind;
 use ds_analyze::explore::explore;
 use ds_analyze::trace::trace;
+use ds_batch::closing::is_closed;
+use ds_batch::groups::run_groups;
+use ds_batch::refusals::AnswerForm;
 use ds_batch::report::{TableForm, report};
 use ds_batch::run::{RunForm, no_memory, run, run_stops, stops_between};
 use ds_batch::source::Source;
-use ds_batch::status::{NO_MEMORY, STREAM_FAILED};
+use ds_batch::status::{CLOSED, NO_MEMORY, STREAM_FAILED};
 use ds_cli::command_line::{Action, OptionsFault, options};
 use ds_cli::connecting::Stopping;
 use ds_cli::reporting::Reporting;
 use ds_cli::running::Running;
 use ds_client_command::connect::connect;
+use ds_client_command::screen::Screen;
 use ds_grid::form::GridForm;
 use ds_net_command::serve::{serve, serve_store};
 use ds_store::open::Databases;
@@ -48,6 +52,9 @@ fn explain(rt: &(impl Print + Eprint), error: &Error) -> u8 {
     } else if error.use_stderr() {
         WRONG_WORDS
     } else if let Err(error) = printed {
+        if is_closed(&error) {
+            return CLOSED;
+        }
         let _reported = eprintln!(rt; "dsheet: standard output: {error}");
         STREAM_FAILED
     } else {
@@ -58,7 +65,7 @@ fn explain(rt: &(impl Print + Eprint), error: &Error) -> u8 {
 // Which standard streams are terminals.
 #[derive(Clone, Copy, Debug)]
 struct Terminals {
-    input: bool,
+    screen: Screen,
     error: bool,
 }
 
@@ -78,6 +85,11 @@ fn run_form(running: Running<'_>) -> RunForm {
     RunForm {
         notation: running.notation,
         strict: running.strict,
+        answers: if running.json {
+            AnswerForm::Json
+        } else {
+            AnswerForm::Words
+        },
     }
 }
 
@@ -128,14 +140,18 @@ fn dispatch<
     };
     match options(rt.alloc(), words.as_slice()) {
         Ok(Action::Run(running)) => run(rt, Source::of(running.file), run_form(running)),
-        Ok(Action::Stops(Stopping { from, to }, running)) => {
+        Ok(Action::Stops(Stopping { from, to, brief }, running)) => {
             let range = stops_between(from as u64, to as u64);
-            let form = run_form(running);
-            run_stops(rt, Source::of(running.file), range, form, terminals.error)
+            let (source, form) = (Source::of(running.file), run_form(running));
+            if brief {
+                run_groups(rt, source, range, form, terminals.error)
+            } else {
+                run_stops(rt, source, range, form, terminals.error)
+            }
         }
         Ok(Action::Report(reporting)) => carry_out_report(rt, reporting),
         Ok(Action::Explore(exploring)) => explore(rt, exploring, terminals.error),
-        Ok(Action::Trace) => trace(rt),
+        Ok(Action::Trace(tracing)) => trace(rt, tracing),
         Ok(Action::Serve(serving)) => match keys(rt) {
             Ok(keys) => serve(rt, serving, keys),
             Err(status) => status,
@@ -145,7 +161,7 @@ fn dispatch<
             Err(status) => status,
         },
         Ok(Action::Connect(connecting, notation)) => {
-            connect(rt, connecting, notation, terminals.input)
+            connect(rt, connecting, notation, terminals.screen)
         }
         Ok(Action::Check(path)) => check(rt, path),
         Ok(Action::Log(logging)) => log(rt, logging),
@@ -163,7 +179,7 @@ fn dispatch<
             WRONG_WORDS
         }
         Err(OptionsFault::OutOfLimits(limit)) => {
-            let _reported = eprintln!(rt; "dsheet: {limit}");
+            let _reported = eprintln!(rt; "dsheet: {limit}\n\nUsage: {}", limit.usage());
             WRONG_WORDS
         }
     }
@@ -171,7 +187,10 @@ fn dispatch<
 
 fn main(rt: HostRuntime) -> ExitCode {
     let terminals = Terminals {
-        input: rt.stdin().is_terminal(),
+        screen: Screen {
+            input: rt.stdin().is_terminal(),
+            output: rt.stdout().is_terminal(),
+        },
         error: rt.stderr().is_terminal(),
     };
     ExitCode::from(dispatch(&rt, terminals))

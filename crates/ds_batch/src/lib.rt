@@ -2,13 +2,15 @@
 //! output, with their exit statuses. Nothing here reads the command line or a socket.
 #![tactic(auto)]
 
+pub mod closing;
 mod copying;
 pub mod faults;
 mod fields;
+pub mod groups;
 pub mod json;
 pub mod lines;
 mod progress;
-mod refusals;
+pub mod refusals;
 pub mod report;
 pub mod run;
 pub mod source;

@@ -1,11 +1,12 @@
 //! `dsheet report`.
 
+use crate::closing::{Closing, is_closed};
 use crate::copying::Copying;
 use crate::fields::field_places;
 use crate::json::{TableFault, table_line};
 use crate::run::no_memory;
 use crate::source::{Source, open};
-use crate::status::{REFUSED, grid_status};
+use crate::status::{CLOSED, REFUSED, grid_status};
 use csv::ByteRecord;
 use ds_a1::notation::Notation;
 use ds_a1::texts::read_text;
@@ -200,10 +201,10 @@ fn write_json<R: AllocGlobal + Print + Eprint>(rt: &R, form: GridForm, table: &[
         }
     };
     let mut out = io::writer(rt);
-    let end = if out.write_all(&line).and_then(|_| out.flush()).is_ok() {
-        GridEnd::Ended
-    } else {
-        GridEnd::WriteFailed
+    let end = match out.write_all(&line).and_then(|_| out.flush()) {
+        Ok(()) => GridEnd::Ended,
+        Err(error) if is_closed(&error) => return CLOSED,
+        Err(_) => GridEnd::WriteFailed,
     };
     print_end(rt, form, &end, table);
     grid_status(&end)
@@ -239,7 +240,9 @@ fn report_csv<R: AllocGlobal + Print + Eprint, I: Read + Drop>(
     input: I,
     form: GridForm,
 ) -> u8 {
-    let Ok(buffered) = BufWriter::new(rt.alloc(), io::writer(rt)) else {
+    let mut closed = false;
+    let output = Closing::new(io::writer(rt), &mut closed);
+    let Ok(buffered) = BufWriter::new(rt.alloc(), output) else {
         return no_memory(rt);
     };
     let mut grid = Vec::new(rt.alloc());
@@ -248,6 +251,9 @@ fn report_csv<R: AllocGlobal + Print + Eprint, I: Read + Drop>(
         let mut writer = Writing::new(buffered);
         report_grid(rt.alloc(), form, &mut reader, &mut writer)
     };
+    if closed {
+        return CLOSED;
+    }
     print_end(rt, form, &end, &grid);
     grid_status(&end)
 }
@@ -267,7 +273,7 @@ fn report_from<R: AllocGlobal + Print + Eprint, I: Read + Drop>(
 
 /// `dsheet report`: a grid in this form, of at most 1,048,576 bytes, its values to standard output. A fault of the grid is
 /// reported on standard error, of its fields each that is refused, and then nothing is written. Gives the exit status,
-/// `grid_status` of how it ended, or 3 where the file cannot be opened.
+/// `grid_status` of how it ended, or 3 where the file cannot be opened, or 141 where nobody reads the values any more.
 pub fn report<R: AllocGlobal + Input + Print + Eprint + Files<File = File>>(
     rt: &R,
     source: Source<'_>,

@@ -2,12 +2,13 @@
 
 ghost use Rattle.std.specs.Prelude.{◌≡◌, ◌≢◌, None, Some};
 
+use crate::closing::Closing;
 use crate::copying::Copying;
 use crate::faults::{show_answered, show_line, show_refusals, show_refused};
 use crate::progress::Progress;
-use crate::refusals::{Refusals, Watching};
+use crate::refusals::{AnswerForm, Refusals, Watching};
 use crate::source::{Source, open};
-use crate::status::{NO_MEMORY, REFUSED, run_status, script_status};
+use crate::status::{CLOSED, NO_MEMORY, REFUSED, run_status, script_status};
 use ds_a1::notation::Notation;
 use ds_a1_script::lines::Commands;
 use ds_a1_script::script::{OpenScript, RefusedLine, open_script};
@@ -15,8 +16,10 @@ use ds_sched::{Reading, ScriptEnd, StopRange, Writing, run_script, stop_in_range
 use ds_script_hints::hint::line_at;
 use ds_script_io::input::{InputEnd, read_input};
 use ds_script_io::line::INPUT_LIMIT;
+use ds_script_json::script::run_script_in_json;
+use std::alloc::Global;
 use std::fs::{File, Files};
-use std::io::{self, BufWriter, Read};
+use std::io::{self, BufWriter, Read, Write};
 
 /// How a script is run.
 #[derive(Clone, Copy, Debug, PartialEq, Eq)]
@@ -25,6 +28,8 @@ pub struct RunForm {
     pub notation: Notation,
     /// Whether an answer that is a refusal counts as a fault, once the script has ended.
     pub strict: bool,
+    /// How its answers are written; those of `run_stops` are always words.
+    pub answers: AnswerForm,
 }
 
 // Reports on standard error how a script ended, where that is not as it should; of a fault with its line.
@@ -50,7 +55,7 @@ pub fn no_memory(rt: &impl Eprint) -> u8
 }
 
 // A script from a reader. An error is the status.
-fn read_script<R: AllocGlobal + Eprint, I: Read + Drop>(
+pub(crate) fn read_script<R: AllocGlobal + Eprint, I: Read + Drop>(
     rt: &R,
     input: I,
     notation: Notation,
@@ -86,14 +91,14 @@ fn opened<R: AllocGlobal + Eprint>(
 
 // A script that was read, and what it is in OpenFormula where it was in A1 notation.
 #[derive(Drop)]
-struct ReadScript {
-    script: Vec<u8>,
+pub(crate) struct ReadScript {
+    pub(crate) script: Vec<u8>,
     open: Option<OpenScript>,
 }
 
 impl ReadScript {
     // The script in OpenFormula, up to the first line whose text is refused as one in A1 notation.
-    fn text(&self) -> &[u8] {
+    pub(crate) fn text(&self) -> &[u8] {
         match &self.open {
             Some(open) => &open.text,
             None => &self.script,
@@ -101,7 +106,7 @@ impl ReadScript {
     }
 
     // The notation that it was in.
-    fn notation(&self) -> Notation {
+    pub(crate) fn notation(&self) -> Notation {
         match &self.open {
             Some(_) => Notation::A1,
             None => Notation::OpenFormula,
@@ -109,7 +114,7 @@ impl ReadScript {
     }
 
     // The line whose text was refused as one in A1 notation, where the script ended well before it.
-    fn refused(&self, end: &ScriptEnd) -> Option<RefusedLine> {
+    pub(crate) fn refused(&self, end: &ScriptEnd) -> Option<RefusedLine> {
         match (end, &self.open) {
             (ScriptEnd::Ended, Some(open)) => open.refused,
             _ => None,
@@ -117,7 +122,7 @@ impl ReadScript {
     }
 
     // The lines that were carried out.
-    fn lines(&self, end: &ScriptEnd) -> usize {
+    pub(crate) fn lines(&self, end: &ScriptEnd) -> usize {
         match end {
             ScriptEnd::Ended => match self.refused(end) {
                 Some(refused) => refused.line.saturating_sub(1),
@@ -129,7 +134,7 @@ impl ReadScript {
     }
 
     // The status of a run of the script, by how many of its answers are refusals.
-    fn status(&self, end: &ScriptEnd, strict: bool, refused: u64) -> u8 {
+    pub(crate) fn status(&self, end: &ScriptEnd, strict: bool, refused: u64) -> u8 {
         match self.refused(end) {
             Some(_) => REFUSED,
             None => run_status(end, strict, refused),
@@ -137,7 +142,7 @@ impl ReadScript {
     }
 
     // Reports how a run of the script ended.
-    fn conclude<R: AllocGlobal + Eprint>(&self, rt: &R, end: &ScriptEnd) {
+    pub(crate) fn conclude<R: AllocGlobal + Eprint>(&self, rt: &R, end: &ScriptEnd) {
         let Some(refused) = self.refused(end) else {
             print_end(rt, end, &self.script);
             return;
@@ -154,53 +159,80 @@ impl ReadScript {
 }
 
 // Reports on standard error how many answers of a script are refusals, where they count and there are any.
-fn print_refusals(rt: &impl Eprint, strict: bool, refused: u64) {
+pub(crate) fn print_refusals(rt: &impl Eprint, strict: bool, refused: u64) {
     if strict && refused > 0 {
         let _reported = eprintln!(rt; "refusals: {refused}");
     }
 }
 
+// Runs a script with its answers in this form.
+fn run_answered<R: Read, W: Write>(
+    alloc: Global,
+    answers: AnswerForm,
+    reader: &mut Reading<R>,
+    writer: &mut Writing<W>,
+) -> ScriptEnd {
+    match answers {
+        AnswerForm::Words => run_script(alloc, reader, writer),
+        AnswerForm::Json => run_script_in_json(alloc, reader, writer),
+    }
+}
+
 // A script in A1 notation from a reader, as `run`.
-fn run_a1<R: AllocGlobal + Print + Eprint, I: Read + Drop>(rt: &R, input: I, strict: bool) -> u8 {
-    let Ok(buffered) = BufWriter::new(rt.alloc(), io::writer(rt)) else {
+fn run_a1<R: AllocGlobal + Print + Eprint, I: Read + Drop>(rt: &R, input: I, form: RunForm) -> u8 {
+    let mut closed = false;
+    let output = Closing::new(io::writer(rt), &mut closed);
+    let Ok(buffered) = BufWriter::new(rt.alloc(), output) else {
         return no_memory(rt);
     };
     let script = match read_script(rt, input, Notation::A1) {
         Ok(script) => script,
         Err(status) => return status,
     };
-    let Ok(mut refusals) = Refusals::new(rt.alloc()) else {
+    let Ok(mut refusals) = Refusals::new(rt.alloc(), form.answers) else {
         return no_memory(rt);
     };
     let end = {
         let mut reader = Reading::new(script.text());
         let mut writer = Writing::new(Watching::new(buffered, &mut refusals));
-        run_script(rt.alloc(), &mut reader, &mut writer)
+        run_answered(rt.alloc(), form.answers, &mut reader, &mut writer)
     };
+    if closed {
+        return CLOSED;
+    }
     script.conclude(rt, &end);
     show_answered(rt, Notation::A1, &script.script, refusals.texts());
-    print_refusals(rt, strict, refusals.count());
-    script.status(&end, strict, refusals.count())
+    print_refusals(rt, form.strict, refusals.count());
+    script.status(&end, form.strict, refusals.count())
 }
 
 // A script in OpenFormula from a reader, as `run`.
-fn run_open<R: AllocGlobal + Print + Eprint, I: Read + Drop>(rt: &R, input: I, strict: bool) -> u8 {
-    let Ok(buffered) = BufWriter::new(rt.alloc(), io::writer(rt)) else {
+fn run_open<R: AllocGlobal + Print + Eprint, I: Read + Drop>(
+    rt: &R,
+    input: I,
+    form: RunForm,
+) -> u8 {
+    let mut closed = false;
+    let output = Closing::new(io::writer(rt), &mut closed);
+    let Ok(buffered) = BufWriter::new(rt.alloc(), output) else {
         return no_memory(rt);
     };
     let mut script = Vec::new(rt.alloc());
-    let Ok(mut refusals) = Refusals::new(rt.alloc()) else {
+    let Ok(mut refusals) = Refusals::new(rt.alloc(), form.answers) else {
         return no_memory(rt);
     };
     let end = {
         let mut reader = Reading::new(Copying::new(input, &mut script));
         let mut writer = Writing::new(Watching::new(buffered, &mut refusals));
-        run_script(rt.alloc(), &mut reader, &mut writer)
+        run_answered(rt.alloc(), form.answers, &mut reader, &mut writer)
     };
+    if closed {
+        return CLOSED;
+    }
     print_end(rt, &end, &script);
     show_answered(rt, Notation::OpenFormula, &script, refusals.texts());
-    print_refusals(rt, strict, refusals.count());
-    run_status(&end, strict, refusals.count())
+    print_refusals(rt, form.strict, refusals.count());
+    run_status(&end, form.strict, refusals.count())
 }
 
 // A script from a reader, as `run`.
@@ -210,14 +242,15 @@ fn run_from<R: AllocGlobal + Print + Eprint, I: Read + Drop>(
     form: RunForm,
 ) -> u8 {
     match form.notation {
-        Notation::OpenFormula => run_open(rt, input, form.strict),
-        Notation::A1 => run_a1(rt, input, form.strict),
+        Notation::OpenFormula => run_open(rt, input, form),
+        Notation::A1 => run_a1(rt, input, form),
     }
 }
 
 /// `dsheet run`: a script in this form, of at most 1,048,576 bytes, its answers to standard output. A line with a fault
 /// ends it and is reported on standard error, and so does one whose text is none in A1 notation; the answers of the lines
-/// before it are written. Gives the exit status, `run_status` of how the script ended, or 3 where the file cannot be opened.
+/// before it are written. Gives the exit status, `run_status` of how the script ended, or 3 where the file cannot be opened, or
+/// 141, with no word of it, where nobody reads the answers any more.
 pub fn run<R: AllocGlobal + Input + Print + Eprint + Files<File = File>>(
     rt: &R,
     source: Source<'_>,
@@ -252,15 +285,22 @@ fn stops_from<R: AllocGlobal + Print + Eprint, I: Read + Drop>(
     form: RunForm,
     shows: bool,
 ) -> u8 {
-    let Ok(buffered) = BufWriter::new(rt.alloc(), io::writer(rt)) else {
+    let mut closed = false;
+    let output = Closing::new(io::writer(rt), &mut closed);
+    let Ok(buffered) = BufWriter::new(rt.alloc(), output) else {
         return no_memory(rt);
     };
     let script = match read_script(rt, input, form.notation) {
         Ok(script) => script,
         Err(status) => return status,
     };
-    let mut writer = Writing::new(Progress::new(buffered, rt, shows));
-    let end = stop_in_range(rt.alloc(), script.text(), range, &mut writer);
+    let end = {
+        let mut writer = Writing::new(Progress::new(buffered, rt, shows));
+        stop_in_range(rt.alloc(), script.text(), range, &mut writer)
+    };
+    if closed {
+        return CLOSED;
+    }
     script.conclude(rt, &end);
     let refused = show_refusals(rt, script.notation(), &script.script, script.lines(&end));
     print_refusals(rt, form.strict, refused);
@@ -270,7 +310,7 @@ fn stops_from<R: AllocGlobal + Print + Eprint, I: Read + Drop>(
 /// `dsheet run --stops`: a script in this form, of at most 1,048,576 bytes, and to standard output what is reported of a
 /// crash after each of its steps that is in the range. A line with a fault ends it and is reported on standard error, as by
 /// `run`. Where `shows` is true, it shows there how far it is. Gives the exit status, `run_status` of how the script ended,
-/// by the texts that are refused, or 3 where the file cannot be opened.
+/// by the texts that are refused, or 3 where the file cannot be opened, or 141 as `run`.
 pub fn run_stops<R: AllocGlobal + Input + Print + Eprint + Files<File = File>>(
     rt: &R,
     source: Source<'_>,

@@ -15,6 +15,9 @@ pub const NO_MEMORY: u8 = 4;
 /// The exit status of a failed read or write, and of an address that cannot be listened on.
 pub const STREAM_FAILED: u8 = 3;
 
+/// The exit status where nobody reads what is written any more: that of a program which the signal of a closed pipe ends.
+pub const CLOSED: u8 = 141;
+
 /// The exit status that says how a script ended: 0 ended, 1 a fault in a line, 3 a failed read or write or a script over
 /// its limit, 4 no memory.
 pub fn script_status(end: &ScriptEnd) -> u8

@@ -1,5 +1,5 @@
 -- What the getters of `clap` read, by the rows of the matches.
-use Rattle.std.proofs.Common.{◌≡◌, ◌∙◌, sym, subst, refl, ap, ap₂, codes, Bool, true, false, Option, Some, None, Result, Ok, Err, List, ℕ, option_map, ◌↔◌, ◌<◌, IfSome, IsTrue}
+use Rattle.std.proofs.Common.{◌≡◌, ◌∙◌, sym, subst, refl, ap, ap₂, codes, Bool, true, false, Option, Some, None, Result, Ok, Err, List, ℕ, option_map, ◌↔◌, ◌<◌, IfSome, IsTrue, inl}
 use Rattle.std.specs.Option.{option_eq}
 use mathlib.Core.Bool.{beq}
 use Rattle.std.specs.Str.Parse.{ParsesBool, digits_value}
@@ -13,7 +13,8 @@ use Rattle.std.specs.Net.Grammar.{IsSocketText}
 use Rattle.std.specs.declared.net.socket_addr.SocketAddr.{SocketAddr}
 use Rattle.log.specs.Level.{IsParsed, parse_filter}
 use Rattle.log.specs.declared.level.LevelFilter.{LevelFilter}
-use Rattle.ds_cli.specs.Servings.{HasNoAddress, HasNoLevel, HasNoNumber, IsNumberOf, IsWritten}
+use Rattle.ds_cli.specs.Addresses.{HasNoAddress}
+use Rattle.ds_cli.specs.Servings.{HasNoLevel, HasNoNumber, IsNumberOf, IsNumberOr, IsWritten}
 use Rattle.clap.specs.Words.{Row, Text, found_of, first_of, first_value, one_of, one_text, rows_of, ReadsOne}
 use Rattle.clap.specs.declared.parser.matches.Found.{Found}
 use Rattle.clap.proofs.WalkLemmas.{first_value-rows, one_text-rows}
@@ -44,6 +45,11 @@ read_of {T = T} gives f name r x none value is = go (one_text f name) refl where
 pub number_of : (f : Found) (name t : Text) (o : Option ℕ) → first_of name (rows_of f) ≡ Some t → IfSome o (IsWritten t) → IfSome o (IsNumberOf (rows_of f) name)
 number_of f name t None has h = h
 number_of f name t (Some n) has h = record { text = t; has = has; written = h }
+
+-- the same, of an option that may be left out
+pub given_number : (f : Found) (name t : Text) (default : ℕ) (o : Option ℕ) → first_of name (rows_of f) ≡ Some t → IfSome o (IsWritten t) → IfSome o (IsNumberOr (rows_of f) name default)
+given_number f name t default None has h = h
+given_number f name t default (Some n) has h = inl (record { text = t; has = has; written = h })
 
 -- an option whose text is no number of 16 bits has none
 pub no_number_of : (f : Found) (name t : Text) → first_of name (rows_of f) ≡ Some t → ((n : ℕ) → n < 65536 → IsWritten t n → ⊥) → HasNoNumber (rows_of f) name

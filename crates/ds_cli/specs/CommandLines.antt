@@ -19,6 +19,7 @@ use Rattle.ds_cli.specs.Loggings.{IsLogging}
 use Rattle.ds_cli.specs.Reportings.{IsReporting}
 use Rattle.ds_cli.specs.Runnings.{IsRunning}
 use Rattle.ds_cli.specs.Servings.{IsOutOfLimits, IsServing}
+use Rattle.ds_cli.specs.Tracings.{IsTracing}
 
 -- `clap`'s command is this one, with no global argument
 pub record IsCommand (app : App) (command : Command) : Type 0 where
@@ -29,9 +30,9 @@ pub record IsCommand (app : App) (command : Command) : Type 0 where
 abbrev pub stops : Rule
 stops = record (new_rule (codes "stops")) { long = Some (codes "stops"); action = Some SetTrue }
 
--- the option `--listen` with one value, which has to be there
+-- the option `--listen` with one value
 abbrev pub listen : Rule
-listen = record (new_rule (codes "listen")) { long = Some (codes "listen"); value_names = 1; required = true }
+listen = record (new_rule (codes "listen")) { long = Some (codes "listen"); value_names = 1 }
 
 -- an option of this name with one value, which is a number of 16 bits, and this one where it is not there
 abbrev pub number_option : Text → Text → Rule
@@ -42,6 +43,10 @@ number_option name default = record (new_rule name) {
   defaults = default ∷ [];
 }
 
+-- an option of this name with one value, which is a number of 16 bits
+abbrev pub given_number : Text → Rule
+given_number name = record (new_rule name) { long = Some name; value_names = 1; parser = Some (Signed (pos 0) (pos 65535)) }
+
 -- a flag of this name
 abbrev pub flag : Text → Rule
 flag name = record (new_rule name) { long = Some name; action = Some SetTrue }
@@ -50,25 +55,30 @@ flag name = record (new_rule name) { long = Some name; action = Some SetTrue }
 abbrev pub input : Rule
 input = record (new_rule (codes "file")) { value_names = 1 }
 
--- `dsheet run [FILE] [--stops] [--from K] [--to K] [--strict] [--a1]`
+-- `dsheet run [FILE] [--stops] [--from K] [--to K] [--strict] [--brief] [--json] [--a1]`
 abbrev pub run_command : App
-run_command = with_rule (with_rule (with_rule (with_rule (with_rule (with_rule (new_app (codes "run")) input) stops) (number_option (codes "from") (codes "1")))
-    (number_option (codes "to") (codes "0"))) (flag (codes "strict"))) (flag (codes "a1"))
+run_command = with_rule (with_rule (with_rule (with_rule (with_rule (with_rule (with_rule (with_rule (new_app (codes "run")) input) stops) (given_number (codes "from")))
+    (given_number (codes "to"))) (flag (codes "strict"))) (flag (codes "brief"))) (flag (codes "json"))) (flag (codes "a1"))
 
 -- `dsheet explore [--crashes] [--stops] [--evictions] [--most N]`
-abbrev pub explore_command : App
-explore_command = with_rule (with_rule (with_rule (with_rule (new_app (codes "explore")) (flag (codes "crashes"))) (flag (codes "stops")))
+abbrev pub orders_command : App
+orders_command = with_rule (with_rule (with_rule (with_rule (new_app (codes "explore")) (flag (codes "crashes"))) (flag (codes "stops")))
     (flag (codes "evictions"))) (number_option (codes "most") (codes "1000"))
 
--- `dsheet trace`
+-- the same, with `[--summary] [--json] [--show N] [--trace N]`
+abbrev pub explore_command : App
+explore_command = with_rule (with_rule (with_rule (with_rule orders_command (flag (codes "summary"))) (flag (codes "json"))) (number_option (codes "show") (codes "0")))
+    (number_option (codes "trace") (codes "0"))
+
+-- `dsheet trace [--brief]`
 abbrev pub trace_command : App
-trace_command = new_app (codes "trace")
+trace_command = with_rule (new_app (codes "trace")) (flag (codes "brief"))
 
 -- `dsheet report [FILE] [--labels] [--json] [--a1]`
 abbrev pub report_command : App
 report_command = with_rule (with_rule (with_rule (with_rule (new_app (codes "report")) input) (flag (codes "labels"))) (flag (codes "json"))) (flag (codes "a1"))
 
--- `dsheet serve --listen ADDRESS [--columns N] [--rows N]`
+-- `dsheet serve [--listen ADDRESS] [--columns N] [--rows N]`
 abbrev pub sheet_command : App
 sheet_command = with_rule (with_rule (with_rule (new_app (codes "serve")) listen)
     (number_option (codes "columns") (codes "2"))) (number_option (codes "rows") (codes "2"))
@@ -76,7 +86,7 @@ sheet_command = with_rule (with_rule (with_rule (new_app (codes "serve")) listen
 -- the same with [--processes N] [--workers N] [--sessions N] [--forever]
 abbrev pub shared_command : App
 shared_command = with_rule (with_rule (with_rule (with_rule sheet_command (number_option (codes "processes") (codes "2")))
-    (number_option (codes "workers") (codes "0"))) (number_option (codes "sessions") (codes "1"))) (flag (codes "forever"))
+    (number_option (codes "workers") (codes "0"))) (given_number (codes "sessions"))) (flag (codes "forever"))
 
 -- the option `--store` with one value
 abbrev pub store : Rule
@@ -109,16 +119,17 @@ file name = record (new_rule name) { value_names = 1; required = true }
 
 -- `dsheet connect SERVER [--process N] [--timeout SECONDS] [--token-file FILE] [--a1]`
 abbrev pub connect_command : App
-connect_command = with_rule (with_rule (with_rule (with_rule (with_rule (new_app (codes "connect")) (file (codes "server"))) (number_option (codes "process") (codes "0")))
+connect_command = with_rule (with_rule (with_rule (with_rule (with_rule (new_app (codes "connect")) (file (codes "server"))) (given_number (codes "process")))
     (number_option (codes "timeout") (codes "60"))) token_file) (flag (codes "a1"))
 
 -- `dsheet COMMAND FILE`
 abbrev pub file_command : Text → App
 file_command name = with_rule (new_app name) (file (codes "file"))
 
--- `dsheet export FILE [--until N] [--csv] [--values]`
+-- `dsheet export FILE [--until N] [--csv] [--values] [--json]`
 abbrev pub export_command : App
-export_command = with_rule (with_rule (with_rule (file_command (codes "export")) (number_option (codes "until") (codes "0"))) (flag (codes "csv"))) (flag (codes "values"))
+export_command = with_rule (with_rule (with_rule (with_rule (file_command (codes "export")) (number_option (codes "until") (codes "0"))) (flag (codes "csv")))
+    (flag (codes "values"))) (flag (codes "json"))
 
 -- the option `--cell` with one value
 abbrev pub cell : Rule
@@ -166,10 +177,11 @@ Names rows name value = first_of name rows ≡ Some value
 
 -- a subcommand of this name with these matches asks for this
 abbrev pub Asks : Text → List Row → Action → Type 0
-Asks name rows (Run running) = (name ≡ codes "run") × (one_of (codes "stops") rows ≡ Some (codes "true") → ⊥) × IsRunning rows running
+Asks name rows (Run running) = (name ≡ codes "run") × (one_of (codes "stops") rows ≡ Some (codes "true") → ⊥) × (first_of (codes "from") rows ≡ None) × (first_of (codes "to") rows ≡ None)
+    × (one_of (codes "brief") rows ≡ Some (codes "true") → ⊥) × IsRunning rows running
 Asks name rows (Stops stopping running) = (name ≡ codes "run") × (one_of (codes "stops") rows ≡ Some (codes "true")) × IsStopping rows stopping × IsRunning rows running
 Asks name rows (Report reporting) = (name ≡ codes "report") × IsReporting rows reporting
-Asks name rows Trace = name ≡ codes "trace"
+Asks name rows (Trace tracing) = (name ≡ codes "trace") × IsTracing rows tracing
 Asks name rows (Explore exploring) = (name ≡ codes "explore") × IsExploring rows exploring
 Asks name rows (Serve serving) = (name ≡ codes "serve") × IsServing rows serving × (first_of (codes "store") rows ≡ None)
 Asks name rows (Keep serving path) = (name ≡ codes "serve") × IsServing rows serving × Names rows (codes "store") path.now

@@ -1,3 +1,6 @@
+pub mod Numbers
+pub mod ExploreForms
+pub mod Addresses
 pub mod Servings
 pub mod CommandLines
 pub mod Explorings
@@ -9,3 +12,4 @@ pub mod Runnings
 pub mod Exportings
 pub mod Importings
 pub mod Loggings
+pub mod Tracings

@@ -11,3 +11,4 @@ pub record IsRunning (rows : List Row) (r : Running) : Type 0 where
   pub file : IsInput rows r.file
   pub notation : IsNotation rows r.notation
   pub strict : IsFlag rows (codes "strict") r.strict
+  pub json : IsFlag rows (codes "json") r.json

@@ -1,40 +1,16 @@
 -- What a server is asked for, by the options of `dsheet serve`.
-use Rattle.std.specs.Prelude.{◌≡◌, ◌<◌, ◌≤◌, ℕ, List, Option, Some, None, codes, option_map}
-use Rattle.std.specs.Str.Parse.{IsNumeral, digits_value}
-use Rattle.std.specs.Net.Addr.{MatchIp, IsLoopbackV4, IsLoopbackV6}
-use Rattle.std.specs.Net.Socket.{socket_ip}
-use Rattle.std.specs.Net.Grammar.{IsSocketText}
-use Rattle.std.specs.declared.net.socket_addr.SocketAddr.{SocketAddr}
+use Rattle.std.specs.Prelude.{◌≡◌, ◌⊎◌, ◌<◌, ◌≤◌, ℕ, List, Option, Some, None, codes, option_map}
 use Rattle.log.specs.Level.{parse_filter}
 use Rattle.log.specs.declared.level.LevelFilter.{LevelFilter}
 use Rattle.clap.specs.Words.{Row, Text, first_of, one_of}
 use Rattle.ds_formula.specs.Limits.{PROCESSES_MOST}
 use Rattle.ds_formula.specs.Shapes.{MayHave}
+use Rattle.ds_cli.specs.Addresses.{HasBadAddress, HasNoAddress, IsOpen, ListensAt}
+use Rattle.ds_cli.specs.ExploreForms.{AreManyForms}
+pub use Rattle.ds_cli.specs.Numbers.{HasValue, IsNumberOf, IsNumberOr, IsWritten}
 use Rattle.ds_cli.specs.declared.serving.OutOfLimits.{OutOfLimits}
 use Rattle.ds_cli.specs.declared.serving.OutOfLimits.TheVariants as limits
 use Rattle.ds_cli.specs.declared.serving.Serving.{Serving}
-
--- the text is a decimal number, digits alone, and it is this one
-pub record IsWritten (text : List ℕ) (number : ℕ) : Type 0 where
-  pub numeral : IsNumeral 10 text
-  pub value : number ≡ digits_value 10 text
-
--- the option of this name has a decimal number as its value, and it is this one
-pub record IsNumberOf (rows : List Row) (name : Text) (number : ℕ) : Type 0 where
-  pub text : Text
-  pub has : first_of name rows ≡ Some text
-  pub written : IsWritten text number
-
--- the option of this name has an address with a port as its value, and it is this one
-pub record IsAddressOf (rows : List Row) (name : Text) (address : SocketAddr) : Type 0 where
-  pub text : Text
-  pub has : first_of name rows ≡ Some text
-  pub spells : IsSocketText text address
-
--- the option of this name, where it is given, has an address with a port as its value, and it is this one
-abbrev pub IsGivenAddress : List Row → Text → Option SocketAddr → Type 0
-IsGivenAddress rows name None = first_of name rows ≡ None
-IsGivenAddress rows name (Some address) = IsAddressOf rows name address
 
 -- the option of this name names a level of the log, and it is this one
 pub record IsLevelOf (rows : List Row) (name : Text) (level : LevelFilter) : Type 0 where
@@ -50,44 +26,21 @@ pub record IsWithinLimits (s : Serving) : Type 0 where
   pub at_once : 1 ≤ s.at_once
 
 -- how many sessions the server serves: as many as come, where `--forever` is given; else the number of the option, one at
--- least
+-- least, and one where it is not given
 abbrev pub ServesSessions : List Row → Option ℕ → Type 0
-ServesSessions matches None = one_of (codes "forever") matches ≡ Some (codes "true")
+ServesSessions matches None = (one_of (codes "forever") matches ≡ Some (codes "true")) × (first_of (codes "sessions") matches ≡ None)
 ServesSessions matches (Some sessions) = (one_of (codes "forever") matches ≡ Some (codes "true") → ⊥)
-    × IsNumberOf matches (codes "sessions") sessions × (1 ≤ sessions)
+    × IsNumberOr matches (codes "sessions") 1 sessions × (1 ≤ sessions)
 
 -- the option of this name has this text as its value, or is not there
 abbrev pub IsTextOf : List Row → Text → Option (List ℕ) → Type 0
 IsTextOf rows name text = first_of name rows ≡ text
 
--- the address is one of this machine alone
-abbrev pub IsLoopback : SocketAddr → Type 0
-IsLoopback address = MatchIp (socket_ip address) IsLoopbackV4 IsLoopbackV6
-
--- whoever reaches the address may join a process: it is one of this machine alone, there is a token, or `--open` says so
-abbrev pub MayListen : List Row → SocketAddr → Type 0
-MayListen matches address = (IsLoopback address → ⊥) → first_of (codes "token-file") matches ≡ None → one_of (codes "open") matches ≡ Some (codes "true")
-
--- where the server listens for HTTP, if it is asked to
-abbrev pub IsHttpAddress : List Row → Option SocketAddr → Type 0
-IsHttpAddress matches None = first_of (codes "http") matches ≡ None
-IsHttpAddress matches (Some address) = IsAddressOf matches (codes "http") address × MayListen matches address
-
--- the option of this name has an address of other machines, too, where there is no token, and `--open` does not say so
-pub record IsOpen (matches : List Row) (name : Text) : Type 0 where
-  pub address : SocketAddr
-  pub listen : IsAddressOf matches name address
-  pub wide : IsLoopback address → ⊥
-  pub no_token : first_of (codes "token-file") matches ≡ None
-  pub unasked : one_of (codes "open") matches ≡ Some (codes "true") → ⊥
-
 -- the matches of `dsheet serve` ask for this server: each of its parts is the value of its option, and it is within
 -- the limits
 pub record IsServing (matches : List Row) (s : Serving) : Type 0 where
-  pub listen : IsAddressOf matches (codes "listen") s.listen
+  pub addresses : ListensAt matches s.addresses
   pub token_file : IsTextOf matches (codes "token-file") (option_map (λ t. t.now) s.token_file)
-  pub may_listen : MayListen matches s.listen
-  pub http : IsHttpAddress matches s.http
   pub columns : IsNumberOf matches (codes "columns") s.shape.columns
   pub rows : IsNumberOf matches (codes "rows") s.shape.rows
   pub processes : IsNumberOf matches (codes "processes") s.processes
@@ -101,16 +54,6 @@ pub record IsServing (matches : List Row) (s : Serving) : Type 0 where
 -- the option of this name has no number of 16 bits as its value
 abbrev pub HasNoNumber : List Row → Text → Type 0
 HasNoNumber rows name = (n : ℕ) → n < 65536 → IsNumberOf rows name n → ⊥
-
--- the option of this name has no address with a port as its value
-abbrev pub HasNoAddress : List Row → Text → Type 0
-HasNoAddress rows name = (a : SocketAddr) → IsAddressOf rows name a → ⊥
-
--- the option of this name is given, and has no address with a port as its value
-pub record HasBadAddress (rows : List Row) (name : Text) : Type 0 where
-  pub text : Text
-  pub has : first_of name rows ≡ Some text
-  pub none : HasNoAddress rows name
 
 -- the option of this name names no level of the log
 abbrev pub HasNoLevel : List Row → Text → Type 0
@@ -138,7 +81,8 @@ HasNone matches name = (n : ℕ) → IsNumberOf matches name n → 1 ≤ n → n
 
 -- the options that an error names have no values within the limits
 abbrev pub IsOutOfLimits : List Row → OutOfLimits → Type 0
-IsOutOfLimits matches limits.Listen = HasNoAddress matches (codes "listen")
+IsOutOfLimits matches limits.Nowhere = (first_of (codes "listen") matches ≡ None) × (first_of (codes "http") matches ≡ None)
+IsOutOfLimits matches limits.Listen = HasBadAddress matches (codes "listen")
 IsOutOfLimits matches limits.Open = IsOpen matches (codes "listen")
 IsOutOfLimits matches limits.Http = HasBadAddress matches (codes "http")
 IsOutOfLimits matches limits.OpenHttp = IsOpen matches (codes "http")
@@ -155,6 +99,38 @@ IsOutOfLimits matches limits.Timeout = HasNoNumber matches (codes "timeout")
 IsOutOfLimits matches limits.From = HasNone matches (codes "from")
 IsOutOfLimits matches limits.To = HasNoNumber matches (codes "to")
 IsOutOfLimits matches limits.Most = HasNone matches (codes "most")
+IsOutOfLimits matches limits.Show = HasNoNumber matches (codes "show")
+IsOutOfLimits matches limits.Trace = HasNoNumber matches (codes "trace")
+IsOutOfLimits matches limits.Forms = AreManyForms matches
 IsOutOfLimits matches limits.Until = HasNoNumber matches (codes "until")
 IsOutOfLimits matches limits.At = HasNoNumber matches (codes "at")
+IsOutOfLimits matches limits.CsvJson = (one_of (codes "csv") matches ≡ Some (codes "true")) × (one_of (codes "json") matches ≡ Some (codes "true"))
+IsOutOfLimits matches limits.SessionsForever = HasValue matches (codes "sessions") × (one_of (codes "forever") matches ≡ Some (codes "true"))
+IsOutOfLimits matches limits.Backwards = (from to : ℕ) × IsNumberOr matches (codes "from") 1 from × IsNumberOr matches (codes "to") 0 to × (1 ≤ to) × (to < from)
+IsOutOfLimits matches limits.FromAlone = HasValue matches (codes "from") × (one_of (codes "stops") matches ≡ Some (codes "true") → ⊥)
+IsOutOfLimits matches limits.ToAlone = HasValue matches (codes "to") × (one_of (codes "stops") matches ≡ Some (codes "true") → ⊥)
+IsOutOfLimits matches limits.JsonStops = (one_of (codes "json") matches ≡ Some (codes "true")) × (one_of (codes "stops") matches ≡ Some (codes "true"))
 IsOutOfLimits matches limits.NoAt = IsNumberOf matches (codes "at") 0 × (one_of (codes "values") matches ≡ Some (codes "true"))
+IsOutOfLimits matches limits.Brief = (one_of (codes "brief") matches ≡ Some (codes "true")) × (one_of (codes "stops") matches ≡ Some (codes "true") → ⊥)
+
+-- how the command is used whose option an error names
+abbrev pub usage_of : OutOfLimits → Text
+usage_of limits.From = codes "dsheet run [OPTIONS] [FILE]"
+usage_of limits.To = codes "dsheet run [OPTIONS] [FILE]"
+usage_of limits.Backwards = codes "dsheet run [OPTIONS] [FILE]"
+usage_of limits.FromAlone = codes "dsheet run [OPTIONS] [FILE]"
+usage_of limits.ToAlone = codes "dsheet run [OPTIONS] [FILE]"
+usage_of limits.Brief = codes "dsheet run [OPTIONS] [FILE]"
+usage_of limits.JsonStops = codes "dsheet run [OPTIONS] [FILE]"
+usage_of limits.Most = codes "dsheet explore [OPTIONS]"
+usage_of limits.Show = codes "dsheet explore [OPTIONS]"
+usage_of limits.Trace = codes "dsheet explore [OPTIONS]"
+usage_of limits.Forms = codes "dsheet explore [OPTIONS]"
+usage_of limits.Server = codes "dsheet connect [OPTIONS] <SERVER>"
+usage_of limits.Process = codes "dsheet connect [OPTIONS] <SERVER>"
+usage_of limits.Timeout = codes "dsheet connect [OPTIONS] <SERVER>"
+usage_of limits.Until = codes "dsheet export [OPTIONS] <FILE>"
+usage_of limits.CsvJson = codes "dsheet export [OPTIONS] <FILE>"
+usage_of limits.At = codes "dsheet log [OPTIONS] <FILE>"
+usage_of limits.NoAt = codes "dsheet log [OPTIONS] <FILE>"
+usage_of other = codes "dsheet serve [OPTIONS]"

@@ -4,9 +4,9 @@ ghost use Rattle.std.specs.Prelude.{◌≡◌, ◌↔◌, IfErr, IfOk, IsTrue, N
 ghost use Rattle.std.specs.String.{string_bytes};
 ghost use Rattle.clap.specs.Words.{App, Rule, app_of, fault_of, new_app, first_of, found_of, one_of, rows_of, rule_of, with_rule, with_subcommand};
 ghost use Rattle.ds_cli.specs.declared.command_line.OptionsFault.TheVariants.{CommandLine, NoFile};
-ghost use Rattle.ds_cli.specs.CommandLines.{Asks, AsksNothing, AsksOfStore, IsAskedBy, IsCommand, IsRefusedFor, IsWanting, Names, backup_command as backup_app, compact_command as compact_app, connect_command as connect_app, dsheet, dsheet_alone, explore_command as explore_app, export_command as export_app, file as file_rule, input as input_rule, flag as flag_rule, http as http_rule, guarded_command as guarded_app, token_file as token_file_rule, file_command as file_app, import_command as import_app, log_command as log_app, cell as cell_rule, listen as listen_rule, log_option as log_rule, number_option as number_rule, report_command as report_app, run_command as run_app, serve_command as serve_app, shared_command as shared_app, sheet_command as sheet_app, store as store_rule, trace_command as trace_app, with_stores};
+ghost use Rattle.ds_cli.specs.CommandLines.{Asks, AsksNothing, AsksOfStore, IsAskedBy, IsCommand, IsRefusedFor, IsWanting, Names, backup_command as backup_app, compact_command as compact_app, connect_command as connect_app, dsheet, dsheet_alone, explore_command as explore_app, orders_command as orders_app, export_command as export_app, file as file_rule, input as input_rule, flag as flag_rule, given_number as given_number_rule, http as http_rule, guarded_command as guarded_app, token_file as token_file_rule, file_command as file_app, import_command as import_app, log_command as log_app, cell as cell_rule, listen as listen_rule, log_option as log_rule, number_option as number_rule, report_command as report_app, run_command as run_app, serve_command as serve_app, shared_command as shared_app, sheet_command as sheet_app, store as store_rule, trace_command as trace_app, with_stores};
 
-use crate::connecting::{Connecting, Stopping, read_connecting, read_stopping};
+use crate::connecting::{Connecting, Stopping, names_no_step, read_connecting, read_stopping};
 use crate::exploring::{Exploring, is_set, read_exploring};
 use crate::exporting::{Exporting, form_of};
 use crate::help;
@@ -16,6 +16,7 @@ use crate::notations::notation_of;
 use crate::reporting::{Reporting, read_reporting};
 use crate::running::{Running, read_running};
 use crate::serving::{OutOfLimits, Serving, number, read_serving, text};
+use crate::tracing::{Tracing, read_tracing};
 use clap::{Arg, ArgAction, ArgMatches, Command, Error, value_parser};
 use ds_a1::notation::Notation;
 use std::alloc::{AllocError, Global};
@@ -32,7 +33,7 @@ pub enum Action<'a> {
     /// `dsheet explore`: all orders of the steps of a script's calls.
     Explore(Exploring),
     /// `dsheet trace`: a picture of the run of a script.
-    Trace,
+    Trace(Tracing),
     /// `dsheet serve`: sessions over connections.
     Serve(Serving<'a>),
     /// `dsheet serve --store FILE`: the same, over the sheet of a store.
@@ -69,6 +70,9 @@ pub enum OptionsFault {
 // The flag of `run` that crashes the sheet after each step.
 const STOPS: &str = "stops";
 
+// The flag of the commands that can be brief.
+const BRIEF: &str = "brief";
+
 // The program's version.
 const VERSION: &str = "0.1.0";
 
@@ -96,6 +100,12 @@ fn explore_alone<'a>(alloc: Global) -> Command<'a>
     ensures { IsCommand (new_app (codes "explore")) result }
 {
     described(alloc, "explore", help::EXPLORE_ABOUT, help::EXPLORE_HELP)
+}
+
+fn trace_alone<'a>(alloc: Global) -> Command<'a>
+    ensures { IsCommand (new_app (codes "trace")) result }
+{
+    described(alloc, "trace", help::TRACE_ABOUT, help::TRACE_HELP)
 }
 
 fn serve_alone<'a>(alloc: Global) -> Command<'a>
@@ -151,13 +161,15 @@ fn run_command<'a>(alloc: Global) -> Result<Command<'a>, AllocError>
     let file = input_argument(alloc, "The file of the script; - or none: standard input");
     let one = with_argument(Ok(run_alone(alloc)), file);
     let two = with_argument(one, flag(alloc, STOPS, stops_help));
-    let from_help = "With --stops: the first step after which it is crashed";
-    let three = with_argument(two, number_option(alloc, "from", "1", from_help));
+    let from_help = "With --stops: the first step after which it is crashed, from 1";
+    let three = with_argument(two, given_number(alloc, "from", from_help));
     let to_help = "With --stops: the last one; 0: to the end";
-    let four = with_argument(three, number_option(alloc, "to", "0", to_help));
+    let four = with_argument(three, given_number(alloc, "to", to_help));
     let five = with_argument(four, flag(alloc, "strict", help::STRICT_HELP));
-    let six = with_argument(five, a1_flag(alloc));
-    called(six, "dsheet run")
+    let six = with_argument(five, flag(alloc, BRIEF, help::BRIEF_STOPS_HELP));
+    let seven = with_argument(six, flag(alloc, "json", help::RUN_JSON_HELP));
+    let eight = with_argument(seven, a1_flag(alloc));
+    called(eight, "dsheet run")
 }
 
 // A flag.
@@ -179,8 +191,9 @@ fn a1_flag<'a>(alloc: Global) -> Arg<'a>
     flag(alloc, "a1", help::A1_HELP)
 }
 
-fn explore_command<'a>(alloc: Global) -> Result<Command<'a>, AllocError>
-    ensures { IfOk result (IsCommand explore_app) }
+// What may come between steps, and how many states are gone through.
+fn orders_command<'a>(alloc: Global) -> Result<Command<'a>, AllocError>
+    ensures { IfOk result (IsCommand orders_app) }
 {
     let crashes_help = "A crash at each state, which ends the order";
     let crashes = flag(alloc, "crashes", crashes_help);
@@ -193,10 +206,23 @@ fn explore_command<'a>(alloc: Global) -> Result<Command<'a>, AllocError>
     with_argument(three, number_option(alloc, "most", "1000", most_help))
 }
 
-fn trace_command<'a>(alloc: Global) -> Command<'a>
-    ensures { IsCommand trace_app result }
+fn explore_command<'a>(alloc: Global) -> Result<Command<'a>, AllocError>
+    ensures { IfOk result (IsCommand explore_app) }
 {
-    described(alloc, "trace", help::TRACE_ABOUT, help::TRACE_HELP)
+    let summary = flag(alloc, "summary", help::SUMMARY_HELP);
+    let one = with_argument(orders_command(alloc), summary);
+    let json_help = "Writes the figures, and each outcome, as a line of JSON";
+    let two = with_argument(one, flag(alloc, "json", json_help));
+    let show_help = "Writes the outcome with this number alone; 0: all";
+    let three = with_argument(two, number_option(alloc, "show", "0", show_help));
+    let trace_help = "Draws the script of the outcome with this number, as SVG; 0: no picture";
+    with_argument(three, number_option(alloc, "trace", "0", trace_help))
+}
+
+fn trace_command<'a>(alloc: Global) -> Result<Command<'a>, AllocError>
+    ensures { IfOk result (IsCommand trace_app) }
+{
+    with_argument(Ok(trace_alone(alloc)), flag(alloc, BRIEF, help::BRIEF_HELP))
 }
 
 fn report_command<'a>(alloc: Global) -> Result<Command<'a>, AllocError>
@@ -212,7 +238,19 @@ fn report_command<'a>(alloc: Global) -> Result<Command<'a>, AllocError>
     called(four, "dsheet report")
 }
 
-// An option with a number from 0 to 65,535.
+// An option with a number from 0 to 65,535, which has none where it is not given.
+fn given_number<'a>(alloc: Global, name: &'a str, help: &'a str) -> Arg<'a>
+    ensures rule { rule_of result ≡ given_number_rule name.now }
+    ensures local { result.global ≡ false }
+{
+    Arg::new(alloc, name)
+        .long(name)
+        .value_name("N")
+        .value_parser(value_parser!(u16))
+        .help(help)
+}
+
+// An option with a number from 0 to 65,535, and this one where it is not given.
 fn number_option<'a>(alloc: Global, name: &'a str, default: &'a str, help: &'a str) -> Arg<'a>
     ensures rule { rule_of result ≡ number_rule name.now default.now }
     ensures local { result.global ≡ false }
@@ -225,7 +263,7 @@ fn number_option<'a>(alloc: Global, name: &'a str, default: &'a str, help: &'a s
         .help(help)
 }
 
-// The option of `serve` that has to be there.
+// The option of `serve` that has the address for lines.
 fn listen_option<'a>(alloc: Global) -> Arg<'a>
     ensures rule { rule_of result ≡ listen_rule }
     ensures local { result.global ≡ false }
@@ -233,8 +271,7 @@ fn listen_option<'a>(alloc: Global) -> Arg<'a>
     Arg::new(alloc, "listen")
         .long("listen")
         .value_name("ADDRESS")
-        .required(true)
-        .help("The address and the port, as 127.0.0.1:8080")
+        .help("Takes sessions at this address and port, as 127.0.0.1:8080")
 }
 
 // The option of `serve` that has the store.
@@ -258,7 +295,7 @@ fn http_option<'a>(alloc: Global) -> Arg<'a>
     Arg::new(alloc, "http")
         .long("http")
         .value_name("ADDRESS")
-        .help("Answers HTTP at this address and port, too, as 127.0.0.1:8081")
+        .help("Answers HTTP at this address and port, as 127.0.0.1:8081")
 }
 
 // The option of `serve` that has the file of the token.
@@ -345,7 +382,8 @@ fn export_command<'a>(alloc: Global) -> Result<Command<'a>, AllocError>
         "The lines before the first that is wrong, N at most; 0: all, or none where one is wrong";
     let one = with_argument(command, number_option(alloc, "until", "0", until_help));
     let two = with_argument(one, flag(alloc, "csv", help::EXPORT_CSV_HELP));
-    with_argument(two, flag(alloc, "values", help::EXPORT_VALUES_HELP))
+    let three = with_argument(two, flag(alloc, "values", help::EXPORT_VALUES_HELP));
+    with_argument(three, flag(alloc, "json", help::EXPORT_JSON_HELP))
 }
 
 // The option of `log` that names a cell.
@@ -414,8 +452,9 @@ fn shared_command<'a>(alloc: Global) -> Result<Command<'a>, AllocError>
     let one = with_argument(sheet_command(alloc), processes);
     let workers_help = "Workers, fewer than the processes";
     let two = with_argument(one, number_option(alloc, "workers", "0", workers_help));
-    let sessions_help = "Connections that are served before the server ends, at least 1";
-    let three = with_argument(two, number_option(alloc, "sessions", "1", sessions_help));
+    let sessions_help =
+        "Connections that are served before the server ends, at least 1; 1 without it";
+    let three = with_argument(two, given_number(alloc, "sessions", sessions_help));
     let forever_help = "Serves as many connections as come, until it is asked to stop";
     with_argument(three, flag(alloc, "forever", forever_help))
 }
@@ -449,8 +488,8 @@ fn connect_command<'a>(alloc: Global) -> Result<Command<'a>, AllocError>
     let server_help = "The address and the port of the server, as 127.0.0.1:8080";
     let server = file_argument(alloc, "server", "SERVER", server_help);
     let one = with_argument(Ok(connect_alone(alloc)), server);
-    let process_help = "The process that is joined, 0 to 7";
-    let two = with_argument(one, number_option(alloc, "process", "0", process_help));
+    let process_help = "The process that is joined, 0 to 7; without it any that nobody has";
+    let two = with_argument(one, given_number(alloc, "process", process_help));
     let timeout_help = "Seconds for which an answer is waited for; 0: for ever";
     let three = with_argument(two, number_option(alloc, "timeout", "60", timeout_help));
     let four = with_argument(three, token_file_option(alloc));
@@ -481,7 +520,7 @@ fn program<'a>(alloc: Global) -> Result<Command<'a>, AllocError>
     let two = with_command(one, report_command(alloc));
     let three = with_command(two, serve_command(alloc));
     let four = with_command(three, explore_command(alloc));
-    let five = with_command(four, Ok(trace_command(alloc)));
+    let five = with_command(four, trace_command(alloc));
     let six = with_command(five, connect_command(alloc));
     called(with_stores(alloc, six), "dsheet")
 }
@@ -535,7 +574,10 @@ fn ran<'a>(found: &ArgMatches<'a>) -> Result<Action<'a>, OptionsFault>
 {
     let running = read_running(found);
     if !is_set(found, STOPS) {
-        return Ok(Action::Run(running));
+        return match names_no_step(found) {
+            Ok(()) => Ok(Action::Run(running)),
+            Err(limit) => Err(OptionsFault::OutOfLimits(limit)),
+        };
     }
     match read_stopping(found) {
         Ok(stopping) => Ok(Action::Stops(stopping, running)),
@@ -571,12 +613,17 @@ fn exported<'a>(found: &ArgMatches<'a>) -> Result<Action<'a>, OptionsFault>
     ensures fault { IfErr result (AsksOfStore (codes "export") (rows_of (found_of found.now))) }
 {
     let path = value_of(found, "file")?;
-    match number(found, "until") {
-        Some(until) => {
-            let form = form_of(found);
-            Ok(Action::Export(Exporting { path, until, form }))
-        }
-        None => Err(OptionsFault::OutOfLimits(OutOfLimits::Until)),
+    let Some(until) = number(found, "until") else {
+        return Err(OptionsFault::OutOfLimits(OutOfLimits::Until));
+    };
+    match form_of(found) {
+        Ok(form) => Ok(Action::Export(Exporting {
+            path,
+            until,
+            form,
+            json: is_set(found, "json"),
+        })),
+        Err(limit) => Err(OptionsFault::OutOfLimits(limit)),
     }
 }
 
@@ -630,7 +677,7 @@ fn asked<'a>(name: &str, found: &ArgMatches<'a>) -> Result<Action<'a>, OptionsFa
         "run" => ran(found),
         "connect" => connected(found),
         "report" => Ok(Action::Report(read_reporting(found))),
-        "trace" => Ok(Action::Trace),
+        "trace" => Ok(Action::Trace(read_tracing(found))),
         "serve" => served(found),
         "explore" => explored(found),
         _ => asked_of_store(name, found),

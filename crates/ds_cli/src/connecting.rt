@@ -1,22 +1,23 @@
 //! What `dsheet connect` and `dsheet run --stops` are asked for.
 
-ghost use Rattle.std.specs.Prelude.{◌≡◌, ◌≤◌, IfErr, IfOk, codes};
-ghost use Rattle.clap.specs.Words.{found_of, rows_of};
-ghost use Rattle.ds_cli.specs.Servings.{IsNumberOf, IsOutOfLimits};
-ghost use Rattle.ds_cli.specs.Connectings.{IsConnecting, IsStopping};
+ghost use Rattle.std.specs.Prelude.{◌≡◌, ◌≤◌, IfErr, IfOk, None, Some, codes};
+ghost use Rattle.clap.specs.Words.{first_of, found_of, one_of, rows_of};
+ghost use Rattle.ds_cli.specs.Servings.{IsNumberOr, IsOutOfLimits};
+ghost use Rattle.ds_cli.specs.Connectings.{IsConnecting, IsProcessOf, IsStopping};
 
-use crate::serving::{OutOfLimits, address, number, text};
+use crate::exploring::is_set;
+use crate::serving::{OutOfLimits, address, number, number_or, text};
 use clap::ArgMatches;
 use ds_layout::layout::PROCESS_LIMIT;
 use std::net::SocketAddr;
 
-/// A client: which server it speaks to, and by which process.
+/// A client: which server it speaks to, and by which process, if it is to be a certain one.
 #[derive(Clone, Copy, Debug, PartialEq, Eq)]
 pub struct Connecting<'a> {
     /// The address and the port of the server.
     pub server: SocketAddr,
-    /// The process, from 0 to 7.
-    pub process: usize,
+    /// The process, from 0 to 7; none: any that nobody has.
+    pub process: Option<usize>,
     /// For how many seconds an answer is waited for, at most 65,535. 0: for ever.
     pub timeout: usize,
     /// The file whose first line is the server's token, if it has one.
@@ -26,10 +27,26 @@ pub struct Connecting<'a> {
 /// The steps after which a script is crashed.
 #[derive(Clone, Copy, Debug, PartialEq, Eq)]
 pub struct Stopping {
-    /// The first one; 0 and 1: from the first on.
+    /// The first one, from 1.
     pub from: usize,
-    /// The last one; 0: to the end.
+    /// The last one, not below the first; 0: to the end.
     pub to: usize,
+    /// Whether those that follow each other and come to the same are written as one.
+    pub brief: bool,
+}
+
+// The process that they ask for, if any.
+fn read_process(found: &ArgMatches<'_>) -> Result<Option<usize>, OutOfLimits>
+    ensures process { IfOk result (IsProcessOf (rows_of (found_of found.now))) }
+    ensures limit { IfErr result (IsOutOfLimits (rows_of (found_of found.now))) }
+{
+    if text(found, "process").is_none() {
+        return Ok(None);
+    }
+    match number(found, "process") {
+        Some(process) if process < PROCESS_LIMIT => Ok(Some(process)),
+        _ => Err(OutOfLimits::Process),
+    }
 }
 
 /// The client that the arguments of `dsheet connect` ask for. An error names the first that is out of its limits.
@@ -40,10 +57,7 @@ pub fn read_connecting<'a>(found: &ArgMatches<'a>) -> Result<Connecting<'a>, Out
     let Some(server) = address(found, "server") else {
         return Err(OutOfLimits::Server);
     };
-    let process = match number(found, "process") {
-        Some(process) if process < PROCESS_LIMIT => process,
-        _ => return Err(OutOfLimits::Process),
-    };
+    let process = read_process(found)?;
     let Some(timeout) = number(found, "timeout") else {
         return Err(OutOfLimits::Timeout);
     };
@@ -57,23 +71,59 @@ pub fn read_connecting<'a>(found: &ArgMatches<'a>) -> Result<Connecting<'a>, Out
 
 // The first step that they ask for.
 fn read_from(found: &ArgMatches<'_>) -> Result<usize, OutOfLimits>
-    ensures some { IfOk result (λ n. IsNumberOf (rows_of (found_of found.now)) (codes "from") n × (1 ≤ n)) }
+    ensures some { IfOk result (λ n. IsNumberOr (rows_of (found_of found.now)) (codes "from") 1 n × (1 ≤ n)) }
     ensures limit { IfErr result (IsOutOfLimits (rows_of (found_of found.now))) }
 {
-    match number(found, "from") {
+    match number_or(found, "from", 1) {
         Some(from) if 1 <= from => Ok(from),
         _ => Err(OutOfLimits::From),
     }
 }
 
-/// The steps that the options of `dsheet run --stops` ask for. An error names the first that is out of its limits.
-pub fn read_stopping(found: &ArgMatches<'_>) -> Result<Stopping, OutOfLimits>
+// The last step that they ask for, where this is the first.
+fn read_to(found: &ArgMatches<'_>, from: usize) -> Result<usize, OutOfLimits>
+    requires { IsNumberOr (rows_of (found_of found.now)) (codes "from") 1 from }
+    ensures some { IfOk result (λ n. IsNumberOr (rows_of (found_of found.now)) (codes "to") 0 n × (1 ≤ n → from ≤ n)) }
+    ensures limit { IfErr result (IsOutOfLimits (rows_of (found_of found.now))) }
+{
+    match number_or(found, "to", 0) {
+        Some(to) if to == 0 || from <= to => Ok(to),
+        Some(_) => Err(OutOfLimits::Backwards),
+        None => Err(OutOfLimits::To),
+    }
+}
+
+/// The steps that the options of `dsheet run --stops` ask for. An error names the first that is out of its limits, or that
+/// means nothing beside `--stops`.
+pub(crate) fn read_stopping(found: &ArgMatches<'_>) -> Result<Stopping, OutOfLimits>
+    requires { one_of (codes "stops") (rows_of (found_of found.now)) ≡ Some (codes "true") }
     ensures stopping { IfOk result (IsStopping (rows_of (found_of found.now))) }
     ensures limit { IfErr result (IsOutOfLimits (rows_of (found_of found.now))) }
 {
+    if is_set(found, "json") {
+        return Err(OutOfLimits::JsonStops);
+    }
     let from = read_from(found)?;
-    let Some(to) = number(found, "to") else {
-        return Err(OutOfLimits::To);
-    };
-    Ok(Stopping { from, to })
+    let to = read_to(found, from)?;
+    let brief = is_set(found, "brief");
+    Ok(Stopping { from, to, brief })
+}
+
+/// That the options of `dsheet run` say nothing of steps, where `--stops` is not there. An error names the one that does.
+pub(crate) fn names_no_step(found: &ArgMatches<'_>) -> Result<(), OutOfLimits>
+    requires { one_of (codes "stops") (rows_of (found_of found.now)) ≡ Some (codes "true") → ⊥ }
+    ensures none { IfOk result (λ _. (first_of (codes "from") (rows_of (found_of found.now)) ≡ None) × (first_of (codes "to") (rows_of (found_of found.now)) ≡ None)
+        × (one_of (codes "brief") (rows_of (found_of found.now)) ≡ Some (codes "true") → ⊥)) }
+    ensures limit { IfErr result (IsOutOfLimits (rows_of (found_of found.now))) }
+{
+    if text(found, "from").is_some() {
+        return Err(OutOfLimits::FromAlone);
+    }
+    if text(found, "to").is_some() {
+        return Err(OutOfLimits::ToAlone);
+    }
+    if is_set(found, "brief") {
+        return Err(OutOfLimits::Brief);
+    }
+    Ok(())
 }

@@ -5,6 +5,9 @@ pub(crate) const A1_HELP: &str = "Formulas are written as in Calc and Excel: =A1
 pub(crate) const STRICT_HELP: &str =
     "Ends with status 1 where an answer is a refusal; with --stops, where a text is refused";
 
+pub(crate) const RUN_JSON_HELP: &str =
+    "Writes each answer as a line of JSON, as {\"number\":0,\"ok\":\"done\",\"process\":0}";
+
 pub(crate) const JSON_HELP: &str =
     "Writes one line of JSON, as {\"rows\":[[\"3\",\"\"],[\"\",\"\"]]}";
 
@@ -18,8 +21,17 @@ pub(crate) const REPORT_ABOUT: &str =
 
 pub(crate) const EXPLORE_ABOUT: &str = "Goes through all orders of the steps of a script's calls";
 
+pub(crate) const SUMMARY_HELP: &str =
+    "Writes what may be reported after the orders, and how often, in place of the outcomes";
+
 pub(crate) const TRACE_ABOUT: &str =
     "Draws the run of a script from standard input, as one SVG on standard output";
+
+pub(crate) const BRIEF_STOPS_HELP: &str =
+    "With --stops: one line for steps that follow each other and come to the same";
+
+pub(crate) const BRIEF_HELP: &str =
+    "Draws no more than what decides, in at most 850 pixels: for a page of text";
 
 pub(crate) const SERVE_ABOUT: &str =
     "Serves a sheet to clients, each a session of JSON lines over a connection";
@@ -72,19 +84,24 @@ Empty lines and lines that begin with # are skipped. The answers come when the i
 
 With --stops its own answers are not written. After each of its steps, or of those from --from
 to --to, a copy of the sheet crashes, and what is answered then is written: stop K, then the lines
-of recover for each process, of settle 0 and of report 0.
+of recover for each process, of settle 0 and of report 0. With --brief steps that follow each other and come to the
+same are one line: stops 1-8: and these lines, parted by bars.
+
+With --json each answer is one line of JSON, with sorted keys: \"ok\" has the word of the answer, \"process\" its process; a
+report has \"rows\", and a refusal \"code\" and \"error\" in the place of \"ok\". With --stops it is refused.
 
 With --strict any answer P refused CODE NAME counts as a fault, once the script has ended: all answers are written, and
 standard error says how many there are. What is overtaken, not enabled or out of memory is no refusal.
 
 Examples:
   printf 'set 0 A1 =1+2\\nsettle 0\\nreport 0\\n' | dsheet run
-  printf 'set 0 A1 7\\n' | dsheet run --stops
+  printf 'set 0 A1 7\\n' | dsheet run --stops --brief
   printf 'set 0 A1 =B1+1\\nsettle 0\\nreport 0\\n' | dsheet run --a1
+  printf 'set 0 A1 =1+2\\nsettle 0\\nreport 0\\n' | dsheet run --json
   dsheet run budget.script
 
 Exit status: 0 ended; 1 a fault in a line, which is named, or with --strict a refusal; 2 wrong words on the
-command line; 3 a failed read or write, or a script over 1048576 bytes; 4 no memory.";
+command line; 3 a failed read or write, or a script over 1048576 bytes; 4 no memory; 141 nobody reads the answers.";
 
 pub(crate) const REPORT_HELP: &str = "\
 The grid is CSV without a heading line: a record is a row, a field the text of a cell.
@@ -112,17 +129,19 @@ Examples:
   printf 'Rent,900\\nFood,350\\nAll,=SUM(B1:B2)\\n' | dsheet report --labels --a1
 
 Exit status: 0 ended; 1 a fault in the grid; 2 wrong words on the command line;
-3 a failed read or write, or a grid over 1048576 bytes; 4 no memory.";
+3 a failed read or write, or a grid over 1048576 bytes; 4 no memory; 141 nobody reads the values.";
 
 pub(crate) const EXPLORE_HELP: &str = "\
 The script begins calls and does not finish them, as \"begin 0 set A1 1\" and \"begin 1 work A1\". All orders of their
 steps are carried out; after each end every process recovers, and the sheet is settled and reported by process 0.
 What is written is how many states and orders there are, and each different outcome once: how many orders lead to it,
 what is wrong with it, if anything is, and a shortest script, with what \"dsheet run\" answers it. A state that was seen
-before is not gone through again.
+before is not gone through again. With --summary it is how many states, orders, outcomes and endings there are, and each
+ending, which is what is reported: how many orders have it, whether with a crash, and which outcomes.
 
-Example:
-  printf 'begin 0 set A1 1\\nbegin 1 set A1 2\\n' | dsheet explore --crashes
+Examples:
+  printf 'begin 0 set A1 1\\nbegin 1 set A1 2\\n' | dsheet explore --crashes --summary
+  printf 'begin 0 set A1 1\\nbegin 1 set A1 2\\n' | dsheet explore --crashes --show 3
 
 Exit status: 0 all orders were gone through, and nothing is wrong; 1 something is wrong with an outcome, or a fault in
 a line, which is named; 2 wrong words on the command line; 3 a failed read or write, a script over 1048576 bytes, or
@@ -133,15 +152,20 @@ Time runs down. Each process has a lane with its calls and steps, each word that
 filled bars are what processes see, hatched ones what a crash leaves. Flushes, write-backs and evictions are arrows, a
 crash is a line across, and what it takes back is struck out. Titles, on hover, say what a word means.
 
-Example:
+With --brief a row is kept where a call begins, is answered or refused, at stops and crashes, where a head changes, and
+where an announcement or a mark changes on the side that a crash leaves. These words alone have columns, as many as have
+room; how many have none is said. A crash says whose edits it takes back.
+
+Examples:
   dsheet trace < examples/taken_back > run.svg
+  dsheet trace --brief < examples/taken_back > brief.svg
 
 Exit status: 0 drawn; 1 a fault in a line, which is named; 2 wrong words on the command line; 3 a failed read or write,
 a script or a picture over 1048576 bytes, or more than 1000 events; 4 no memory. Nothing is written unless it is drawn.";
 
 pub(crate) const SERVE_HELP: &str = "\
-Serves as many connections as --sessions says, each a session in its thread, and ends when they have ended; with
---forever it serves on until a line \"stop\" comes on standard input: the sessions that are there then answer what they
+Listens at --listen for sessions, at --http for HTTP, or at both. Serves as many connections as --sessions says, each a
+session in its thread, and ends when they have ended; with both, those of --listen count. With --forever it serves on until a line \"stop\" comes on standard input: the sessions that are there then answer what they
 have read. The last processes are the workers': they go round the cells and work on those that are
 marked; no session can join them. Once it listens it says so on standard error, with its port.
 
@@ -154,7 +178,7 @@ Whoever reaches the address may join a process and edit, so only addresses of th
 is a token, or --open is given. With --token-file a join has to have the first line of that file as \"token\", else it is
 refused: 20 denied. Nothing is encrypted: put an SSH tunnel, or a proxy with TLS, before it.
 
-With --http it answers HTTP, too, over the same sheet: a page for people at /, POST /edits, GET /sheet, POST /lines, and
+With --http it answers HTTP over the same sheet: a page for people at /, POST /edits, GET /sheet, POST /lines, and
 sessions over WebSocket at /session. Requests of pages of elsewhere are refused; with --token-file POST /edits and
 GET /sheet need \"authorization: Bearer TOKEN\".
 
@@ -168,11 +192,14 @@ are answered, on a new sheet (a join with \"told\":N, where edit N was answered 
   {\"number\":0,\"ok\":\"done\"}
   {\"ok\":\"settled\",\"rows\":[[\"3\",\"\"],[\"\",\"\"]]}
   {\"last\":{\"cell\":\"A1\",\"number\":0,\"outcome\":\"done\"},\"ok\":\"last\"}
+A join of \"process\":\"any\" takes one that nobody has. {\"op\":\"undo\",\"cell\":\"A1\"} is an edit to the text that the cell had
+before its last edit. Three calls need no join: {\"op\":\"view\"}, which is as report; {\"op\":\"get\",\"cell\":\"A1\"}, which tells of
+a cell and its last edit; {\"op\":\"history\",\"from\":0}, which lists the edits that count, from a place on, at most 100.
 A set may also be answered \"overtaken\", with the edit that has overtaken it: it does not count. A report may be
 answered \"unsettled\", with a word of the sheet that was not at rest: others were editing. Ask again.
 Refusals have a code: 1 not-json, 2 unknown-op, 3 bad-field, 4 process-taken, 5 line-too-long (over 4096
 bytes), 6 not-joined, 7 already-joined, 11 text, 13 stopped, 14 records-full (no room; a server goes over to
-a new sheet before), 15 no-memory. They change no text.
+a new sheet before), 15 no-memory, 22 no-edit (of that cell), 23 no-history. They change no text.
 A session is of at most 1048576 bytes; at its end its process is free again. What ends a connection is said as its
 last line: 16 busy (as many sessions as --at-once), 17 too-long, 18 idle (nothing said or taken for --idle seconds),
 19 where the client speaks HTTP or TLS.
@@ -180,7 +207,7 @@ last line: 16 busy (as many sessions as --at-once), 17 too-long, 18 idle (nothin
 Example:
   dsheet serve --listen 127.0.0.1:8080 --store sheet.db --forever &
   printf '{\"op\":\"join\",\"process\":0}\\n{\"op\":\"report\"}\\n' | nc -N 127.0.0.1 8080
-  dsheet serve --listen 127.0.0.1:8080 --http 127.0.0.1:8081 --forever &
+  dsheet serve --http 127.0.0.1:8081 --forever &
   curl -d '{\"cell\":\"A1\",\"text\":\"=1+2\"}' 127.0.0.1:8081/edits
 
 Exit status: 0 ended; 1 a store that is another sheet's, or unsound; 2 wrong words on the command line; 3 the address
@@ -190,11 +217,13 @@ Each session that does not end with its client is one line on standard error, an
 
 pub(crate) const CONNECT_HELP: &str = "\
 Joins the process, and tells what became of its last edit, as recover does in a script. Then each line of standard
-input is one call: set CELL TEXT, report, or last. Empty lines and lines that begin with # are skipped. Where the
-connection breaks, the process is joined anew, and what is answered then says whether the edit under way counts; an edit is
+input is one call: set CELL TEXT, undo CELL, report, view, get CELL, history FROM, or last. Without --process any process
+that nobody has is joined, by the first line that needs one: view, get and history need none. Empty lines and lines that
+begin with # are skipped. Where the connection breaks, the process is joined anew, and what is answered then says whether the edit under way counts; an edit is
 never sent twice. Where the server then has lost an edit that it had answered done, as with a file that was cut, this is
 said, and ends the client with status 3. With --a1 a text is written as in Calc and Excel, as =A1*2, and is sent as
-=[.A1]*2.
+=[.A1]*2. On a terminal there are prompts, help lists the lines, quit ends, values stand in a table, and a line that is no
+call ends nothing.
 
 Example:
   printf 'set A1 =1+2\\nreport\\n' | dsheet connect 127.0.0.1:8080 --process 1
@@ -238,7 +267,8 @@ Examples:
   dsheet log sheet.db --cell A1
   dsheet log sheet.db --at 12 | dsheet report
 
-Exit status: as of check; 2 also of a cell that the sheet has not; 3 also where standard output can not be written.";
+Exit status: as of check; 2 also of a cell that the sheet has not; 3 also where standard output can not be written;
+141 nobody reads it.";
 
 pub(crate) const EXPORT_ABOUT: &str =
     "Writes the lines of a store to standard output: a script, which run reads";
@@ -247,8 +277,12 @@ pub(crate) const EXPORT_CSV_HELP: &str = "The texts of the cells as CSV, which r
 
 pub(crate) const EXPORT_VALUES_HELP: &str = "The values of the cells as CSV, as report writes them";
 
+pub(crate) const EXPORT_JSON_HELP: &str =
+    "The texts, or with --values the values, as one line of JSON, as report --json writes it";
+
 pub(crate) const EXPORT_HELP: &str = "\
-With --csv the texts of the cells are written, as CSV, which report and import --csv read, or the values with --values.
+With --csv the texts of the cells are written, as CSV, which report and import --csv read, or the values with --values;
+with --json in the place of --csv as one line of JSON, as {\"rows\":[[\"3\",\"\"],[\"\",\"\"]]}.
 
 Of a store that is damaged nothing is written, but with --until what can be saved: the lines before the one that check
 names. Standard error says from which line on they are left out. Lines are counted as in the store, with those of sums,
@@ -260,7 +294,7 @@ Example:
   dsheet export sheet.db --csv | dsheet report
   dsheet export damaged.db --until 65535 | dsheet import saved.db
 
-Exit status: as of check; 3 also where standard output can not be written.";
+Exit status: as of check; 3 also where standard output can not be written; 141 nobody reads it.";
 
 pub(crate) const IMPORT_ABOUT: &str =
     "Makes a store of the lines on standard input, as export writes them";

@@ -18,6 +18,8 @@ pub struct Running<'a> {
     pub notation: Notation,
     /// Whether an answer that is a refusal counts as a fault.
     pub strict: bool,
+    /// Whether its answers are written as JSON.
+    pub json: bool,
 }
 
 /// The run that the options of `dsheet run` ask for.
@@ -28,5 +30,6 @@ pub(crate) fn read_running<'a>(found: &ArgMatches<'a>) -> Running<'a>
         file: input_of(found),
         notation: notation_of(found),
         strict: is_set(found, "strict"),
+        json: is_set(found, "json"),
     }
 }

@@ -4,8 +4,10 @@ ghost use Rattle.ds_formula.specs.Limits.{PROCESSES_MOST};
 ghost use Rattle.std.specs.Prelude.{◌≡◌, ◌<◌, ◌≤◌, ℕ, IfErr, IfOk, IfSome, None, codes, false, option_map, true};
 ghost use Rattle.clap.specs.Matches.{found_of};
 ghost use Rattle.clap.specs.Walk.{rows_of};
-ghost use Rattle.ds_cli.specs.Servings.{HasBadAddress, HasNoAddress, HasNoLevel, HasNoNumber, HasNoShape, IsAddressOf, IsGivenAddress, IsHttpAddress, IsLevelOf, IsNumberOf, IsOpen, IsOutOfLimits, IsServing, IsTextOf, IsWritten, MayListen, ServesSessions};
+ghost use Rattle.ds_cli.specs.Addresses.{HasNoAddress, IsAddressOf};
+ghost use Rattle.ds_cli.specs.Servings.{HasNoLevel, HasNoNumber, HasNoShape, IsLevelOf, IsNumberOf, IsNumberOr, IsOutOfLimits, IsServing, IsTextOf, IsWritten, ServesSessions, usage_of};
 
+use crate::addresses::{Addresses, read_addresses};
 use crate::exploring::is_set;
 use clap::ArgMatches;
 use ds_formula::cells::Shape;
@@ -17,10 +19,8 @@ use thiserror::Error;
 /// A server: where it listens, its sheet, and how long it serves.
 #[derive(Clone, Copy, Debug, PartialEq, Eq)]
 pub struct Serving<'a> {
-    /// The address and the port that it listens on.
-    pub listen: SocketAddr,
-    /// The address and the port that it listens on for HTTP, if it does.
-    pub http: Option<SocketAddr>,
+    /// Where it listens.
+    pub addresses: Addresses,
     /// The file whose first line is the token that a join has to have, if any.
     pub token_file: Option<&'a str>,
     /// The shape of its sheet, at most 26 columns, 64 rows and 1,024 cells.
@@ -43,6 +43,9 @@ pub struct Serving<'a> {
 /// Which value of an option is out of its limits.
 #[derive(Clone, Copy, Debug, PartialEq, Eq, Drop, Error)]
 pub enum OutOfLimits {
+    /// No address is given.
+    #[error("where it listens: give --listen ADDRESS, --http ADDRESS, or both")]
+    Nowhere,
     /// The address is none with a port.
     #[error("--listen: no address with a port, as 127.0.0.1:8080")]
     Listen,
@@ -67,12 +70,24 @@ pub enum OutOfLimits {
     /// The number of sessions is none.
     #[error("--sessions: from 1 to 65535")]
     Sessions,
+    /// Connections are counted, and as many served as come.
+    #[error("--sessions: how many connections are served; without --forever, which serves all")]
+    SessionsForever,
     /// No session may be there at once.
     #[error("--at-once: from 1 to 65535")]
     AtOnce,
     /// The number of states that are gone through at most is none.
     #[error("--most: from 1 to 65535 thousand states")]
     Most,
+    /// The number of the outcome that is shown is none.
+    #[error("--show: from 1 to 65535; 0: all outcomes")]
+    Show,
+    /// The number of the outcome that is drawn is none.
+    #[error("--trace: from 1 to 65535; 0: no picture")]
+    Trace,
+    /// Two forms of an exploration are asked for.
+    #[error("--summary, --json, --show, --trace: one of them")]
+    Forms,
     /// The time for which a client may be silent is none.
     #[error("--idle: from 0 to 65535 seconds")]
     Idle,
@@ -94,15 +109,59 @@ pub enum OutOfLimits {
     /// The last step after which a script is crashed is none.
     #[error("--to: from 0 to 65535; 0: to the end")]
     To,
+    /// The last step after which a script is crashed is before the first one.
+    #[error("--to: not below --from; 0: to the end")]
+    Backwards,
+    /// A first step is named after which a script is crashed, and it is not crashed.
+    #[error("--from: the first step after which the sheet is crashed; give --stops")]
+    FromAlone,
+    /// The same of the last step.
+    #[error("--to: the last step after which the sheet is crashed; give --stops")]
+    ToAlone,
+    /// What a crash leaves is asked for as JSON.
+    #[error("--json: the answers of a script; --stops does not write them")]
+    JsonStops,
     /// The number of lines that are exported at most is none.
     #[error("--until: from 0 to 65535; 0: all lines")]
     Until,
+    /// A table is asked for as CSV and as JSON.
+    #[error("--json: a table as JSON, in the place of --csv; with --values the values")]
+    CsvJson,
     /// The number of edits after which a sheet is shown is none.
     #[error("--at: from 0 to 65535; 0: the list of edits")]
     At,
     /// Values are asked for, and after no edit.
     #[error("--values: the values of the sheet after some edits; give --at N, from 1 to 65535")]
     NoAt,
+    /// The stops of a script are to be written in short, and none are asked for.
+    #[error("--brief: only with --stops")]
+    Brief,
+}
+
+impl OutOfLimits {
+    /// How the command is used whose option it is.
+    pub fn usage(self) -> &'static str
+        ensures { result.now ≡ usage_of self }
+    {
+        match self {
+            OutOfLimits::From
+            | OutOfLimits::To
+            | OutOfLimits::Backwards
+            | OutOfLimits::FromAlone
+            | OutOfLimits::ToAlone
+            | OutOfLimits::Brief
+            | OutOfLimits::JsonStops => "dsheet run [OPTIONS] [FILE]",
+            OutOfLimits::Most | OutOfLimits::Show | OutOfLimits::Trace | OutOfLimits::Forms => {
+                "dsheet explore [OPTIONS]"
+            }
+            OutOfLimits::Server | OutOfLimits::Process | OutOfLimits::Timeout => {
+                "dsheet connect [OPTIONS] <SERVER>"
+            }
+            OutOfLimits::Until | OutOfLimits::CsvJson => "dsheet export [OPTIONS] <FILE>",
+            OutOfLimits::At | OutOfLimits::NoAt => "dsheet log [OPTIONS] <FILE>",
+            _ => "dsheet serve [OPTIONS]",
+        }
+    }
 }
 
 // The number of 16 bits that these digits are; none where they are none, as where a sign stands before them.
@@ -127,6 +186,17 @@ pub(crate) fn number(matches: &ArgMatches<'_>, name: &str) -> Option<usize>
     match matches.get_str(name) {
         Some(text) => digits(text),
         None => None,
+    }
+}
+
+/// The number of an option, or this one where it is not given; none where its value is none.
+pub(crate) fn number_or(matches: &ArgMatches<'_>, name: &str, default: usize) -> Option<usize>
+    ensures some { IfSome result (IsNumberOr (rows_of (found_of matches.now)) name.now default) }
+    ensures none { result ≡ None → HasNoNumber (rows_of (found_of matches.now)) name.now }
+{
+    match matches.get_str(name) {
+        Some(text) => digits(text),
+        None => Some(default),
     }
 }
 
@@ -209,9 +279,12 @@ fn read_sessions(matches: &ArgMatches<'_>) -> Result<Option<usize>, OutOfLimits>
     ensures limit { IfErr result (IsOutOfLimits (rows_of (found_of matches.now))) }
 {
     if is_set(matches, "forever") {
-        return Ok(None);
+        return match text(matches, "sessions") {
+            Some(_) => Err(OutOfLimits::SessionsForever),
+            None => Ok(None),
+        };
     }
-    match number(matches, "sessions") {
+    match number_or(matches, "sessions", 1) {
         Some(sessions) if 1 <= sessions => Ok(Some(sessions)),
         _ => Err(OutOfLimits::Sessions),
     }
@@ -224,83 +297,13 @@ pub(crate) fn text<'a>(matches: &ArgMatches<'a>, name: &str) -> Option<&'a str>
     matches.get_str(name)
 }
 
-// The address of an option, where it is given; none where its value is no address.
-fn given_address(matches: &ArgMatches<'_>, name: &str) -> Option<Option<SocketAddr>>
-    ensures some { IfSome result (IsGivenAddress (rows_of (found_of matches.now)) name.now) }
-    ensures none { result ≡ None → HasBadAddress (rows_of (found_of matches.now)) name.now }
-{
-    let Some(text) = matches.get_str(name) else {
-        return Some(None);
-    };
-    match text.parse::<SocketAddr>() {
-        Ok(address) => Some(Some(address)),
-        Err(_) => None,
-    }
-}
-
-// Whether the options let a server listen at this address: it is one of this machine alone, there is a token, or they say so.
-fn may_listen(
-    matches: &ArgMatches<'_>,
-    name: &str,
-    listen: SocketAddr,
-    token_file: Option<&str>,
-) -> bool
-    requires { IsTextOf (rows_of (found_of matches.now)) (codes "token-file") (option_map (λ t. t.now) token_file) }
-    ensures may { result ≡ true → MayListen (rows_of (found_of matches.now)) listen }
-    ensures open { result ≡ false → IsAddressOf (rows_of (found_of matches.now)) name.now listen → IsOpen (rows_of (found_of matches.now)) name.now }
-{
-    if listen.ip().is_loopback() || token_file.is_some() {
-        return true;
-    }
-    is_set(matches, "open")
-}
-
-// Where the options let a server listen for HTTP, if they ask for that.
-fn read_http(
-    matches: &ArgMatches<'_>,
-    token_file: Option<&str>,
-) -> Result<Option<SocketAddr>, OutOfLimits>
-    requires { IsTextOf (rows_of (found_of matches.now)) (codes "token-file") (option_map (λ t. t.now) token_file) }
-    ensures http { IfOk result (IsHttpAddress (rows_of (found_of matches.now))) }
-    ensures limit { IfErr result (IsOutOfLimits (rows_of (found_of matches.now))) }
-{
-    let Some(given) = given_address(matches, "http") else {
-        return Err(OutOfLimits::Http);
-    };
-    let Some(http) = given else {
-        return Ok(None);
-    };
-    if may_listen(matches, "http", http, token_file) {
-        Ok(Some(http))
-    } else {
-        Err(OutOfLimits::OpenHttp)
-    }
-}
-
-// Where the options let a server listen, and the file of its token, if any.
-fn read_address<'a>(matches: &ArgMatches<'a>) -> Result<(SocketAddr, Option<&'a str>), OutOfLimits>
-    ensures address { IfOk result (λ it. IsAddressOf (rows_of (found_of matches.now)) (codes "listen") it.0
-        × IsTextOf (rows_of (found_of matches.now)) (codes "token-file") (option_map (λ t. t.now) it.1) × MayListen (rows_of (found_of matches.now)) it.0) }
-    ensures limit { IfErr result (IsOutOfLimits (rows_of (found_of matches.now))) }
-{
-    let Some(listen) = address(matches, "listen") else {
-        return Err(OutOfLimits::Listen);
-    };
-    let token_file = text(matches, "token-file");
-    if may_listen(matches, "listen", listen, token_file) {
-        Ok((listen, token_file))
-    } else {
-        Err(OutOfLimits::Open)
-    }
-}
-
 /// The server that the options of `dsheet serve` ask for. An error names the first option that is out of its limits.
 pub fn read_serving<'a>(matches: &ArgMatches<'a>) -> Result<Serving<'a>, OutOfLimits>
     ensures serving { IfOk result (IsServing (rows_of (found_of matches.now))) }
     ensures limit { IfErr result (IsOutOfLimits (rows_of (found_of matches.now))) }
 {
-    let (listen, token_file) = read_address(matches)?;
-    let http = read_http(matches, token_file)?;
+    let token_file = text(matches, "token-file");
+    let addresses = read_addresses(matches, token_file)?;
     let Some(shape) = read_shape(matches) else {
         return Err(OutOfLimits::Shape);
     };
@@ -315,8 +318,7 @@ pub fn read_serving<'a>(matches: &ArgMatches<'a>) -> Result<Serving<'a>, OutOfLi
         return Err(OutOfLimits::Log);
     };
     Ok(Serving {
-        listen,
-        http,
+        addresses,
         token_file,
         shape,
         processes,

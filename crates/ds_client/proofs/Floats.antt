@@ -1,7 +1,7 @@
 -- No request has a float.
 use Rattle.std.proofs.Common.{◌≡◌, false, refl, Some, None}
 use Rattle.serde_json.specs.Written.{has_float}
-use Rattle.ds_client.specs.Asks.{Wish, Join, Set, Report, Last}
+use Rattle.ds_client.specs.Asks.{Wish, Join, JoinAny, Set, Undo, Report, View, Get, History, Last}
 use Rattle.ds_client.specs.Requests.{wish_data}
 
 -- no request has a float
@@ -11,5 +11,14 @@ wish_no_float (Join process None (Some token)) = refl
 wish_no_float (Join process (Some done) None) = refl
 wish_no_float (Join process (Some done) (Some token)) = refl
 wish_no_float (Set cell text) = refl
+wish_no_float (JoinAny None) = refl
+wish_no_float (JoinAny (Some token)) = refl
+wish_no_float (Undo cell) = refl
+wish_no_float (Get cell None) = refl
+wish_no_float (Get cell (Some token)) = refl
+wish_no_float (History from None) = refl
+wish_no_float (History from (Some token)) = refl
+wish_no_float (View None) = refl
+wish_no_float (View (Some token)) = refl
 wish_no_float Report = refl
 wish_no_float Last = refl

@@ -8,7 +8,7 @@ use Rattle.serde_json.specs.Find.{as_str}
 use Rattle.serde_json.specs.View.{items_of, items_view, view}
 use Rattle.serde_json.specs.declared.value.Value.{Value}
 use Rattle.ds_script_io.specs.Fields.{◌>>=◌}
-use Rattle.ds_client.specs.AnswerLines.{row_in, rows_in, texts_in}
+use Rattle.ds_client.specs.AnswerLines.{entries_in, entry_shown, row_in, rows_in, texts_in}
 
 -- what is left of the row, from a field on
 field_here : (row : List Value) (i : ℕ) (field : Value) → i < length row → field ≡ get_or row i field → items_view (drop i row) ≡ items_of (view field ∷ map view (drop (i + 1) row))
@@ -59,3 +59,24 @@ pub row_none : (rows : List Value) (i : ℕ) (row : Value) (lines : List ℕ) (w
     → option_map (λ text. lines ++ text) (rows_in (items_view (drop i rows))) ≡ whole → None ≡ whole
 row_none rows i row lines whole low at none so_far =
     sym (ap (λ (o : Option (List ℕ)). option_map (λ (text : List ℕ). lines ++ text) o) (ap rows_in (field_here rows i row low at) ∙ ap (λ (o : Option (List (List ℕ))). o >>= λ t. rows_in (items_view (drop (i + 1) rows)) >>= λ more. Some (row_text default_writer t ++ more)) none)) ∙ so_far
+
+-- one edit more is written
+pub entry_more : (edits : List Value) (i : ℕ) (edit : Value) (lines new line : List ℕ) (whole : Option (List ℕ)) → i < length edits → edit ≡ get_or edits i edit → entry_shown (view edit) ≡ Some line → new ≡ lines ++ line
+    → option_map (λ text. lines ++ text) (entries_in (items_view (drop i edits))) ≡ whole → option_map (λ text. new ++ text) (entries_in (items_view (drop (i + 1) edits))) ≡ whole
+entry_more edits i edit lines new line whole low at reads is so_far = go (entries_in (items_view (drop (i + 1) edits))) refl
+  where
+    step : entries_in (items_view (drop i edits)) ≡ entries_in (items_view (drop (i + 1) edits)) >>= λ more. Some (line ++ more)
+    step = ap entries_in (field_here edits i edit low at) ∙ ap (λ (o : Option (List ℕ)). o >>= λ l. entries_in (items_view (drop (i + 1) edits)) >>= λ more. Some (l ++ more)) reads
+
+    go : (rest : Option (List ℕ)) → entries_in (items_view (drop (i + 1) edits)) ≡ rest → option_map (λ text. new ++ text) (entries_in (items_view (drop (i + 1) edits))) ≡ whole
+    go None e =
+        ap (option_map (λ (text : List ℕ). new ++ text)) e ∙ sym (ap (option_map (λ (text : List ℕ). lines ++ text)) (step ∙ ap (λ (o : Option (List ℕ)). o >>= λ more. Some (line ++ more)) e)) ∙ so_far
+    go (Some rest) e =
+        ap (option_map (λ (text : List ℕ). new ++ text)) e ∙ ap (λ (l : List ℕ). Some (l ++ rest)) is ∙ ap Some (append_assoc lines line rest)
+        ∙ sym (ap (option_map (λ (text : List ℕ). lines ++ text)) (step ∙ ap (λ (o : Option (List ℕ)). o >>= λ more. Some (line ++ more)) e)) ∙ so_far
+
+-- an item that is no edit
+pub entry_none : (edits : List Value) (i : ℕ) (edit : Value) (lines : List ℕ) (whole : Option (List ℕ)) → i < length edits → edit ≡ get_or edits i edit → entry_shown (view edit) ≡ None
+    → option_map (λ text. lines ++ text) (entries_in (items_view (drop i edits))) ≡ whole → None ≡ whole
+entry_none edits i edit lines whole low at none so_far =
+    sym (ap (λ (o : Option (List ℕ)). option_map (λ (text : List ℕ). lines ++ text) o) (ap entries_in (field_here edits i edit low at) ∙ ap (λ (o : Option (List ℕ)). o >>= λ l. entries_in (items_view (drop (i + 1) edits)) >>= λ more. Some (l ++ more)) none)) ∙ so_far

@@ -2,6 +2,7 @@
 use Rattle.std.proofs.Common.{◌≡◌, ◌∙◌, ℕ, zero, suc, Bool, true, false, refl, ap, sym, List, [], ◌∷◌, ◌++◌, map, take, drop, Some, None, Ok, Err, codes, append_assoc}
 use Rattle.std.specs.Prelude.{Option, option_map}
 use Rattle.std.specs.Fmt.{decimal}
+use Rattle.std.specs.List.{concat}
 use Rattle.csv.specs.Writing.{default_writer, row_text}
 use Rattle.serde_json.specs.View.{items_of}
 use Rattle.ds_eval.specs.declared.value.Value.{Value}
@@ -19,13 +20,15 @@ use Rattle.ds_script.specs.ScriptTexts.{counts_text}
 use Rattle.std.specs.Prelude.{if◌then◌else◌}
 use Rattle.std.proofs.lemmas.Slice.Eq.{bytes_eq-Decides}
 use Rattle.ds_server.specs.LineRequests.{call_of, join_by, number_field, or_bad_field}
+use Rattle.ds_server.specs.DeskCalls.{JoinAny as JoinsAny, Listing, View as Views}
+use Rattle.ds_server.specs.SessionLimits.{HISTORY_MOST}
 use Rattle.ds_server.specs.declared.desk.CallRefusal.TheVariants as refusal
 use Rattle.ds_server.specs.declared.request.LineFault.TheVariants as fault
-use Rattle.ds_server.specs.Replies.{Said, Joined, JoinedLost, Done, Overtaken, Settled, Unsettled, Tells, Left, Refused, Faulted}
-use Rattle.ds_server.specs.SessionTexts.{said_data, outcome_text, row_data, rows_of, value_data}
-use Rattle.ds_client.specs.AnswerLines.{IsSaid, is_loss, says_lost, rows_in, said_lines, shown, texts_in}
-use Rattle.ds_client.specs.Asks.{Join, Set}
-use Rattle.ds_client.specs.Requests.{edit_named, wish_data}
+use Rattle.ds_server.specs.Replies.{Said, Joined, JoinedLost, Done, Overtaken, Settled, Unsettled, Tells, EditEntry, GotCell, Listed, Left, Refused, Faulted}
+use Rattle.ds_server.specs.SessionTexts.{entry_data, said_data, outcome_text, row_data, rows_of, value_data}
+use Rattle.ds_client.specs.AnswerLines.{IsSaid, entries_in, heading, is_loss, line_of_entry, says_lost, rows_in, said_lines, shown, texts_in}
+use Rattle.ds_client.specs.Asks.{Get, History, Join, JoinAny, Set, Undo, View}
+use Rattle.ds_client.specs.Requests.{edit_named, get_named, undo_named, wish_data}
 
 -- a join is read as one
 pub joins : (shape : Shape) (processes process : ℕ) (done : Option ℕ) (token : Option (List ℕ)) → call_of shape processes None None (wish_data (Join process done token)) ≡ or_bad_field (join_by processes process)
@@ -51,6 +54,36 @@ pub sets : (shape : Shape) (processes process : ℕ) (token : Option (List ℕ))
     → call_of shape processes token (Some process) (wish_data (Set cell text)) ≡ or_bad_field (edit_named shape process cell text)
 sets shape processes process token cell text = refl
 
+-- a join of any process is read as one
+pub joins_any : (shape : Shape) (processes : ℕ) (token : Option (List ℕ)) → call_of shape processes token None (wish_data (JoinAny token)) ≡ Ok JoinsAny
+joins_any shape processes None = refl
+joins_any shape processes (Some token) = ap (λ (b : Bool). if b then Ok JoinsAny else Err fault.Denied) ((bytes_eq-Decides token token).1 refl)
+
+-- an undo is read as one of the cell of that name
+pub undoes : (shape : Shape) (processes process : ℕ) (token : Option (List ℕ)) (cell : List ℕ) → call_of shape processes token (Some process) (wish_data (Undo cell)) ≡ or_bad_field (undo_named shape process cell)
+undoes shape processes process token cell = refl
+
+-- a question for all values is read as one
+pub views : (shape : Shape) (processes : ℕ) (joined : Option ℕ) (token : Option (List ℕ)) → call_of shape processes token joined (wish_data (View token)) ≡ Ok (Views joined)
+views shape processes (Some process) None = refl
+views shape processes (Some process) (Some token) = refl
+views shape processes None None = refl
+views shape processes None (Some token) = ap (λ (b : Bool). if b then Ok (Views None) else Err fault.Denied) ((bytes_eq-Decides token token).1 refl)
+
+-- a question for a cell is read as one for the cell of that name
+pub gets : (shape : Shape) (processes : ℕ) (joined : Option ℕ) (token : Option (List ℕ)) (cell : List ℕ) → call_of shape processes token joined (wish_data (Get cell token)) ≡ or_bad_field (get_named shape joined cell)
+gets shape processes (Some process) None cell = refl
+gets shape processes (Some process) (Some token) cell = refl
+gets shape processes None None cell = refl
+gets shape processes None (Some token) cell = ap (λ (b : Bool). if b then or_bad_field (get_named shape None cell) else Err fault.Denied) ((bytes_eq-Decides token token).1 refl)
+
+-- a question for the edits is read as one for those from that place on
+pub lists : (shape : Shape) (processes from : ℕ) (joined : Option ℕ) (token : Option (List ℕ)) → call_of shape processes token joined (wish_data (History from token)) ≡ Ok (Listing from HISTORY_MOST)
+lists shape processes from (Some process) None = refl
+lists shape processes from (Some process) (Some token) = refl
+lists shape processes from None None = refl
+lists shape processes from None (Some token) = ap (λ (b : Bool). if b then Ok (Listing from HISTORY_MOST) else Err fault.Denied) ((bytes_eq-Decides token token).1 refl)
+
 outcome_is : (counts : Bool) → outcome_text counts ≡ counts_text counts
 outcome_is true = refl
 outcome_is false = refl
@@ -73,6 +106,11 @@ rows_are columns (suc rows) values =
     ap (λ (o : Option (List (List ℕ))). o >>= λ texts. rows_in (items_of (map row_data (rows_of columns rows (drop columns values)))) >>= λ lines. Some (row_text default_writer texts ++ lines)) (texts_are (take columns values))
     ∙ ap (λ (o : Option (List ℕ)). o >>= λ lines. Some (row_text default_writer (map value_text (take columns values)) ++ lines)) (rows_are columns rows (drop columns values))
 
+-- the lines of the edits of a list
+entries_are : (edits : List EditEntry) → entries_in (items_of (map entry_data edits)) ≡ Some (concat (map line_of_entry edits))
+entries_are [] = refl
+entries_are (e ∷ es) = ap (λ (o : Option (List ℕ)). o >>= λ lines. Some (line_of_entry e ++ lines)) (entries_are es)
+
 -- what a client shows of what a server says
 pub shows : (process : ℕ) (shape : Shape) (said : Said) → IsSaid said → shown process (said_data shape said) ≡ Some (said_lines process shape said)
 shows p shape (Joined q None) h = refl
@@ -87,6 +125,9 @@ shows p shape (Unsettled (place.Announce q) word) h = refl
 shows p shape (Unsettled other word) h = refl
 shows p shape (Tells None) h = refl
 shows p shape (Tells (Some told)) h = ap Some (told_is p shape told (outcome_text told.counts) (outcome_is told.counts))
+shows p shape (GotCell cell value None) h = refl
+shows p shape (GotCell cell value (Some edit)) h = refl
+shows p shape (Listed from edits of) h = ap (option_map (λ (lines : List ℕ). heading from of ++ lines)) (entries_are edits)
 shows p shape Left h = absurd h
 shows p shape (Refused refusal.ProcessTaken) h = refl
 shows p shape (Refused (refusal.Text at)) h =
@@ -96,6 +137,8 @@ shows p shape (Refused (refusal.Text at)) h =
 shows p shape (Refused refusal.Stopped) h = refl
 shows p shape (Refused refusal.RecordsFull) h = refl
 shows p shape (Refused refusal.NoMemory) h = refl
+shows p shape (Refused refusal.NoEdit) h = refl
+shows p shape (Refused refusal.NoHistory) h = refl
 shows p shape (Faulted fault.NotJson) h = refl
 shows p shape (Faulted fault.UnknownOp) h = refl
 shows p shape (Faulted fault.BadField) h = refl
@@ -114,10 +157,15 @@ losses shape (Overtaken number by) = refl
 losses shape (Settled values) = refl
 losses shape (Unsettled place word) = refl
 losses shape (Tells last) = refl
+losses shape (GotCell cell value None) = refl
+losses shape (GotCell cell value (Some edit)) = refl
+losses shape (Listed from edits of) = refl
 losses shape Left = refl
 losses shape (Refused refusal.ProcessTaken) = refl
 losses shape (Refused (refusal.Text at)) = refl
 losses shape (Refused refusal.Stopped) = refl
 losses shape (Refused refusal.RecordsFull) = refl
 losses shape (Refused refusal.NoMemory) = refl
+losses shape (Refused refusal.NoEdit) = refl
+losses shape (Refused refusal.NoHistory) = refl
 losses shape (Faulted fault) = refl

@@ -1,7 +1,8 @@
 -- What a client shows of an answer: the lines of a script's answers.
-use Rattle.std.specs.Prelude.{ℕ, Bool, true, false, List, [], ◌∷◌, ◌++◌, codes, Option, Some, None, option_map, if◌then◌else◌}
+use Rattle.std.specs.Prelude.{ℕ, Bool, true, false, List, [], ◌∷◌, ◌++◌, map, codes, Option, Some, None, option_map, if◌then◌else◌}
 use Rattle.ds_script_io.specs.Fields.{◌>>=◌}
 use Rattle.std.specs.Fmt.{decimal}
+use Rattle.std.specs.List.{concat}
 use Rattle.std.specs.Str.{bytes_eq}
 use Rattle.csv.specs.Writing.{default_writer, row_text}
 use Rattle.serde_json.specs.Data.{Data, null, boolean, Items, no_items, item}
@@ -15,13 +16,22 @@ use Rattle.ds_server.specs.declared.desk.CallRefusal.{CallRefusal}
 use Rattle.ds_server.specs.declared.desk.CallRefusal.TheVariants as refusal
 use Rattle.ds_server.specs.declared.request.LineFault.{LineFault}
 use Rattle.ds_server.specs.declared.request.LineFault.TheVariants as fault
-use Rattle.ds_server.specs.Replies.{Said, Joined, JoinedLost, Done, Overtaken, Settled, Unsettled, Tells, Left, Refused, Faulted}
-use Rattle.ds_server.specs.SessionTexts.{name_of_fault}
+use Rattle.ds_eval.specs.declared.value.Value.{Value}
+use Rattle.ds_eval.specs.Numbers.{value_text}
+use Rattle.ds_formula.specs.Bytes.{is_space}
+use Rattle.ds_formula.specs.Names.{cell_text}
+use Rattle.ds_formula.specs.declared.cells.Cell.{Cell}
+use Rattle.ds_server.specs.Replies.{Said, EditEntry, Joined, JoinedLost, Done, Overtaken, Settled, Unsettled, Tells, GotCell, Listed, Left, Refused, Faulted}
+use Rattle.ds_server.specs.SessionTexts.{name_of_fault, text_by}
 
 -- the last edit of a process as a recovery of a script reports it
 abbrev pub last_lines : Shape → ℕ → Option LastEdit → List ℕ
 last_lines shape p None = word_line p (codes "nothing")
 last_lines shape p (Some told) = last_text shape p told
+
+-- what is refused by its name alone: P refused NAME
+abbrev pub named_lines : ℕ → List ℕ → List ℕ
+named_lines p name = decimal p ++ (codes " refused " ++ (name ++ codes "\n"))
 
 -- the refusal of a script; a process that another session has is busy
 abbrev pub refusal_lines : ℕ → CallRefusal → List ℕ
@@ -30,15 +40,60 @@ refusal_lines p (refusal.Text at) = refused_text p (state.Text at)
 refusal_lines p refusal.Stopped = refused_text p state.Stopped
 refusal_lines p refusal.RecordsFull = refused_text p state.RecordsFull
 refusal_lines p refusal.NoMemory = refused_text p state.NoMemory
-
--- the answer to a line that is no call: P refused NAME
-abbrev pub named_lines : ℕ → List ℕ → List ℕ
-named_lines p name = decimal p ++ (codes " refused " ++ (name ++ codes "\n"))
+refusal_lines p refusal.NoEdit = named_lines p (codes "no-edit")
+refusal_lines p refusal.NoHistory = named_lines p (codes "no-history")
 
 -- what a client shows of a line that asks for no call: why
 abbrev pub fault_lines : ℕ → LineFault → List ℕ
 fault_lines p fault.NoMemory = refused_text p state.NoMemory
 fault_lines p other = named_lines p (name_of_fault other)
+
+-- a byte of a text in a line: white space is a space
+abbrev pub byte_in_line : ℕ → ℕ
+byte_in_line b = if is_space b then 32 else b
+
+-- a text at the end of a line: after a space, where it is not empty
+abbrev pub ending : List ℕ → List ℕ
+ending [] = codes "\n"
+ending (b ∷ text) = 32 ∷ (map byte_in_line (b ∷ text) ++ codes "\n")
+
+-- a value in a line: `blank` where it is empty
+abbrev pub or_blank : List ℕ → List ℕ
+or_blank [] = codes "blank"
+or_blank (b ∷ value) = b ∷ value
+
+-- an edit: its process and its number
+abbrev pub edit_words : ℕ → ℕ → List ℕ
+edit_words process number = decimal process ++ (codes " " ++ decimal number)
+
+-- the edit that a cell is of; without one `- -`
+abbrev pub edit_or_none : Option EditEntry → List ℕ
+edit_or_none None = codes "- -"
+edit_or_none (Some e) = edit_words e.process e.number
+
+-- a cell: its name, its value, and the edit that it is of
+abbrev pub got_front : List ℕ → List ℕ → List ℕ → List ℕ
+got_front cell value edit = codes "got " ++ (cell ++ (codes " " ++ (or_blank value ++ (codes " " ++ edit))))
+
+-- the same, and its text
+abbrev pub got_line : List ℕ → List ℕ → List ℕ → List ℕ → List ℕ
+got_line cell value edit text = got_front cell value edit ++ ending text
+
+-- an edit of a list: whose it is, its number and its cell
+abbrev pub entry_front : ℕ → ℕ → List ℕ → List ℕ
+entry_front process number cell = decimal process ++ (codes " " ++ (decimal number ++ (codes " " ++ cell)))
+
+-- the same, and its text
+abbrev pub entry_line : ℕ → ℕ → List ℕ → List ℕ → List ℕ
+entry_line process number cell text = entry_front process number cell ++ ending text
+
+-- the same, of an edit
+abbrev pub line_of_entry : EditEntry → List ℕ
+line_of_entry e = entry_line e.process e.number (cell_text e.cell) e.text
+
+-- the line before the edits of a list: from which place on, and how many there are
+abbrev pub heading : ℕ → ℕ → List ℕ
+heading from of = codes "edits " ++ (decimal from ++ (codes " of " ++ (decimal of ++ codes "\n")))
 
 -- what a client of this process shows of what is said to it; that a process is given back is said to nobody
 abbrev pub said_lines : ℕ → Shape → Said → List ℕ
@@ -49,6 +104,8 @@ said_lines p shape (Overtaken number by) = overtaken_text p number by
 said_lines p shape (Settled values) = settled_text shape values
 said_lines p shape (Unsettled place word) = unsettled_text shape place word
 said_lines p shape (Tells last) = last_lines shape p last
+said_lines p shape (GotCell cell value edit) = got_line (cell_text cell) (value_text value) (edit_or_none edit) (text_by edit)
+said_lines p shape (Listed from edits of) = heading from of ++ concat (map line_of_entry edits)
 said_lines p shape Left = []
 said_lines p shape (Refused why) = refusal_lines p why
 said_lines p shape (Faulted fault) = fault_lines p fault
@@ -92,6 +149,34 @@ place_shown (b ∷ place) word = codes "unsettled " ++ ((b ∷ place) ++ (codes 
 -- the same, of the place and the word of an answer
 abbrev pub unsettled_shown : Data → Option (List ℕ)
 unsettled_shown value = text_at (codes "place") value >>= λ place. number_at (codes "word") value >>= λ word. Some (place_shown place word)
+
+-- the words of an edit, or of none
+abbrev pub edit_shown : Data → Option (List ℕ)
+edit_shown null = Some (codes "- -")
+edit_shown edit = number_at (codes "process") edit >>= λ q. number_at (codes "number") edit >>= λ n. Some (edit_words q n)
+
+-- the line of a cell
+abbrev pub got_shown : Data → Option (List ℕ)
+got_shown value =
+    text_at (codes "cell") value >>= λ cell. text_at (codes "text") value >>= λ text. text_at (codes "value") value >>= λ shown. (get (codes "edit") value >>= edit_shown) >>= λ edit.
+    Some (got_line cell shown edit text)
+
+-- the line of an edit of a list
+abbrev pub entry_shown : Data → Option (List ℕ)
+entry_shown e =
+    number_at (codes "process") e >>= λ q. number_at (codes "number") e >>= λ n. text_at (codes "cell") e >>= λ cell. text_at (codes "text") e >>= λ text.
+    Some (entry_line q n cell text)
+
+-- the lines of the edits of a list; none where one is no edit
+abbrev pub entries_in : Items → Option (List ℕ)
+entries_in no_items = Some []
+entries_in (item edit edits) = entry_shown edit >>= λ line. entries_in edits >>= λ lines. Some (line ++ lines)
+
+-- the edits from a place on
+abbrev pub listed_shown : Data → Option (List ℕ)
+listed_shown value =
+    number_at (codes "from") value >>= λ from. number_at (codes "of") value >>= λ of. (get (codes "edits") value >>= as_array) >>= λ edits.
+    option_map (λ lines. heading from of ++ lines) (entries_in edits)
 
 -- a text with a fault
 abbrev pub text_fault_shown : ℕ → Data → Option (List ℕ)
@@ -138,7 +223,11 @@ line_shown p value name =
 
 -- an answer by its name
 abbrev pub ok_shown : ℕ → Data → List ℕ → Option (List ℕ)
-ok_shown p value name = if bytes_eq name (codes "settled") then settled_shown value else line_shown p value name
+ok_shown p value name =
+    if bytes_eq name (codes "settled") then settled_shown value
+    else (if bytes_eq name (codes "history") then listed_shown value
+    else (if bytes_eq name (codes "got") then got_shown value
+    else line_shown p value name))
 
 -- an error by its name, if it is one
 abbrev pub refused_shown : ℕ → Data → Option (List ℕ)

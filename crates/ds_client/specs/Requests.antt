@@ -8,7 +8,7 @@ use Rattle.ds_script_io.specs.Fields.{◌>>=◌}
 use Rattle.ds_server.specs.DeskCalls.{Call}
 use Rattle.ds_server.specs.DeskCalls as calls
 use Rattle.ds_server.specs.SessionTexts.{number_data, text_data}
-use Rattle.ds_client.specs.Asks.{Wish, Join, Set, Report, Last}
+use Rattle.ds_client.specs.Asks.{Wish, Join, JoinAny, Set, Undo, Report, View, Get, History, Last}
 
 -- the number of the last edit that was answered done, if any, as the last field
 abbrev pub with_done : Option ℕ → Members
@@ -20,10 +20,19 @@ abbrev pub with_token : Option (List ℕ) → Members → Members
 with_token None members = members
 with_token (Some token) members = member (codes "token") (text_data token) members
 
+-- what is asked of a cell, with a token, if any, as JSON: {"cell":"A1","op":"get"}
+abbrev pub of_cell_data : List ℕ → List ℕ → Option (List ℕ) → Data
+of_cell_data op cell token = object (member (codes "cell") (text_data cell) (member (codes "op") (text_data op) (with_token token no_members)))
+
 -- what is asked, as JSON: {"op":"set","cell":"A1","text":"=1+2"}, with its keys in byte order
 abbrev pub wish_data : Wish → Data
 wish_data (Join process done token) = object (member (codes "op") (text_data (codes "join")) (member (codes "process") (number_data process) (with_token token (with_done done))))
 wish_data (Set cell text) = object (member (codes "cell") (text_data cell) (member (codes "op") (text_data (codes "set")) (member (codes "text") (text_data text) no_members)))
+wish_data (JoinAny token) = object (member (codes "op") (text_data (codes "join")) (member (codes "process") (text_data (codes "any")) (with_token token no_members)))
+wish_data (Undo cell) = of_cell_data (codes "undo") cell None
+wish_data (Get cell token) = of_cell_data (codes "get") cell token
+wish_data (History from token) = object (member (codes "from") (number_data from) (member (codes "op") (text_data (codes "history")) (with_token token no_members)))
+wish_data (View token) = object (member (codes "op") (text_data (codes "view")) (with_token token no_members))
 wish_data Report = object (member (codes "op") (text_data (codes "report")) no_members)
 wish_data Last = object (member (codes "op") (text_data (codes "last")) no_members)
 
@@ -34,3 +43,11 @@ wish_text wish = compact_text (wish_data wish) ++ 10 ∷ []
 -- the edit by the process of the cell of this name, where the sheet has one
 abbrev pub edit_named : Shape → ℕ → List ℕ → List ℕ → Option Call
 edit_named shape process cell text = cell_named shape cell >>= λ at. Some (calls.Set process at text)
+
+-- the undo by the process of the cell of this name, where the sheet has one
+abbrev pub undo_named : Shape → ℕ → List ℕ → Option Call
+undo_named shape process cell = cell_named shape cell >>= λ at. Some (calls.Undo process at)
+
+-- the question for the cell of this name, where the sheet has one
+abbrev pub get_named : Shape → Option ℕ → List ℕ → Option Call
+get_named shape joined cell = cell_named shape cell >>= λ at. Some (calls.Get joined at)

@@ -1,11 +1,11 @@
 //! Answers of a server, as a client shows them.
 
-ghost use Rattle.std.specs.Prelude.{◌≡◌, ◌++◌, Some, IfOk, OnOk, option_map, string_bytes, codes};
+ghost use Rattle.std.specs.Prelude.{◌≡◌, ◌++◌, map, Some, IfOk, OnOk, option_map, string_bytes, codes};
 ghost use Rattle.csv.specs.Records.{fields_of};
 ghost use Rattle.csv.specs.Writing.{default_writer, row_text};
 ghost use Rattle.serde_json.specs.View.{items_view, view};
 ghost use Rattle.ds_script_io.specs.Csv.{IsReady, text_of};
-ghost use Rattle.ds_client.specs.AnswerLines.{done_shown, error_shown, last_shown, line_shown, number_at, ok_shown, overtaken_shown, place_shown, refused_shown, says_lost, row_in, rows_in, settled_shown, shown, text_at, text_fault_shown, texts_in, told_shown, unsettled_shown};
+ghost use Rattle.ds_client.specs.AnswerLines.{byte_in_line, done_shown, edit_shown, ending, entries_in, entry_front, entry_line, entry_shown, error_shown, got_front, got_line, got_shown, heading, last_shown, line_shown, listed_shown, or_blank, number_at, ok_shown, overtaken_shown, place_shown, refused_shown, says_lost, row_in, rows_in, settled_shown, shown, text_at, text_fault_shown, texts_in, told_shown, unsettled_shown};
 
 use csv::{ByteRecord, Writer, WriterBuilder};
 use ds_script_io::answer::refused_line;
@@ -161,6 +161,187 @@ fn settled(alloc: Global, value: &Json) -> Result<Option<Vec<u8>>, AllocError>
     with_rows(alloc, heading, rows)
 }
 
+// A value in a line.
+fn or_blank(value: &str) -> &str
+    ensures { result.now ≡ or_blank value.now }
+{
+    if value.is_empty() { "blank" } else { value }
+}
+
+// The process and the number of an edit, `- -` of none.
+fn edit_words(alloc: Global, edit: &Json) -> Result<Option<String>, AllocError>
+    ensures { IfOk result (λ words. option_map string_bytes words ≡ edit_shown (view edit.now)) }
+{
+    if let Json::Null = edit {
+        return Ok(Some(format!(in alloc; "- -")?));
+    }
+    let (Some(process), Some(number)) = (number_at(edit, "process"), number_at(edit, "number"))
+    else {
+        return Ok(None);
+    };
+    Ok(Some(format!(in alloc; "{process} {number}")?))
+}
+
+// A byte of a text in a line: white space is a space.
+fn byte_in_line(byte: u8) -> u8
+    ensures { result ≡ byte_in_line byte }
+{
+    match byte {
+        b'\t' | b'\n' | b'\r' => b' ',
+        other => other,
+    }
+}
+
+// A text in a line.
+fn in_line(alloc: Global, text: &[u8]) -> Result<Vec<u8>, AllocError>
+    ensures { IfOk result (λ shown. shown.items ≡ map byte_in_line text.now) }
+{
+    let mut shown = Vec::with_capacity(alloc, text.len())?;
+    for byte in text {
+        shown.push(byte_in_line(*byte))?;
+    }
+    Ok(shown)
+}
+
+// The front of a line, and a text as its end.
+fn with_ending(alloc: Global, front: Vec<u8>, text: &str) -> Result<Vec<u8>, AllocError>
+    ensures { IfOk result (λ line. line.items ≡ front.items ++ ending text.now) }
+{
+    let mut line = front;
+    if !text.is_empty() {
+        line.push(b' ')?;
+        line.extend_from_slice(&in_line(alloc, text.as_bytes())?)?;
+    }
+    line.push(b'\n')?;
+    Ok(line)
+}
+
+// `got C VALUE P NUMBER`.
+fn got_front(alloc: Global, cell: &str, value: &str, edit: &str) -> Result<Vec<u8>, AllocError>
+    ensures { IfOk result (λ front. front.items ≡ got_front cell.now value.now edit.now) }
+{
+    let value = or_blank(value);
+    let front = format!(in alloc; "got {cell} {value} {edit}")?;
+    Ok(front.into_bytes())
+}
+
+// `got C VALUE P NUMBER TEXT`.
+fn got_line(
+    alloc: Global,
+    cell: &str,
+    value: &str,
+    edit: &str,
+    text: &str,
+) -> Result<Vec<u8>, AllocError>
+    ensures { IfOk result (λ line. line.items ≡ got_line cell.now value.now edit.now text.now) }
+{
+    with_ending(alloc, got_front(alloc, cell, value, edit)?, text)
+}
+
+// The same, of an answer.
+fn got(alloc: Global, value: &Json) -> Result<Option<Vec<u8>>, AllocError>
+    ensures { IfOk result (λ lines. option_map (λ l. l.items) lines ≡ got_shown (view value.now)) }
+{
+    let (Some(cell), Some(text)) = (text_at(value, "cell"), text_at(value, "text")) else {
+        return Ok(None);
+    };
+    let (Some(shown), Some(edit)) = (text_at(value, "value"), value.get("edit")) else {
+        return Ok(None);
+    };
+    match edit_words(alloc, edit)? {
+        Some(edit) => Ok(Some(got_line(alloc, cell, shown, edit.as_str(), text)?)),
+        None => Ok(None),
+    }
+}
+
+// `P NUMBER C`.
+fn entry_front(alloc: Global, process: u64, number: u64, cell: &str) -> Result<Vec<u8>, AllocError>
+    ensures { IfOk result (λ front. front.items ≡ entry_front process number cell.now) }
+{
+    let front = format!(in alloc; "{process} {number} {cell}")?;
+    Ok(front.into_bytes())
+}
+
+// `P NUMBER C TEXT`.
+fn entry_line(
+    alloc: Global,
+    process: u64,
+    number: u64,
+    cell: &str,
+    text: &str,
+) -> Result<Vec<u8>, AllocError>
+    ensures { IfOk result (λ line. line.items ≡ entry_line process number cell.now text.now) }
+{
+    with_ending(alloc, entry_front(alloc, process, number, cell)?, text)
+}
+
+// The same, of an edit of a list.
+fn entry(alloc: Global, edit: &Json) -> Result<Option<Vec<u8>>, AllocError>
+    ensures { IfOk result (λ line. option_map (λ l. l.items) line ≡ entry_shown (view edit.now)) }
+{
+    let (Some(process), Some(number)) = (number_at(edit, "process"), number_at(edit, "number"))
+    else {
+        return Ok(None);
+    };
+    let (Some(cell), Some(text)) = (text_at(edit, "cell"), text_at(edit, "text")) else {
+        return Ok(None);
+    };
+    Ok(Some(entry_line(alloc, process, number, cell, text)?))
+}
+
+// Lines, and the line of an edit after them. None where it is no edit.
+fn with_entry(alloc: Global, lines: Vec<u8>, edit: &Json) -> Result<Option<Vec<u8>>, AllocError>
+    ensures { IfOk result (λ more. option_map (λ lines. lines.items) more ≡ option_map (λ line. lines.items ++ line) (entry_shown (view edit.now))) }
+{
+    let mut all = lines;
+    match entry(alloc, edit)? {
+        Some(line) => {
+            all.extend_from_slice(&line)?;
+            Ok(Some(all))
+        }
+        None => Ok(None),
+    }
+}
+
+// Lines, and those of these edits after them. None where one is no edit.
+fn with_entries(
+    alloc: Global,
+    lines: Vec<u8>,
+    edits: &[Json],
+) -> Result<Option<Vec<u8>>, AllocError>
+    ensures { IfOk result (λ more. option_map (λ lines. lines.items) more ≡ option_map (λ text. lines.items ++ text) (entries_in (items_view edits.now))) }
+{
+    let mut all = lines;
+    for i in 0..edits.len() {
+        match with_entry(alloc, all, &edits[i])? {
+            Some(more) => all = more,
+            None => return Ok(None),
+        }
+    }
+    Ok(Some(all))
+}
+
+// `edits FROM of OF`.
+fn heading(alloc: Global, from: u64, of: u64) -> Result<Vec<u8>, AllocError>
+    ensures { IfOk result (λ line. line.items ≡ heading from of) }
+{
+    let line = format!(in alloc; "edits {from} of {of}\n")?;
+    Ok(line.into_bytes())
+}
+
+// The edits from a place on, a line an edit.
+fn listed(alloc: Global, value: &Json) -> Result<Option<Vec<u8>>, AllocError>
+    ensures { IfOk result (λ lines. option_map (λ l. l.items) lines ≡ listed_shown (view value.now)) }
+{
+    let (Some(from), Some(of)) = (number_at(value, "from"), number_at(value, "of")) else {
+        return Ok(None);
+    };
+    let Some(edits) = value.get("edits").and_then(Json::as_array) else {
+        return Ok(None);
+    };
+    with_entries(alloc, heading(alloc, from, of)?, edits)
+}
+
 // `P refused 1 FAULT OFFSET`.
 fn text_fault(alloc: Global, process: usize, value: &Json) -> Result<Option<String>, AllocError>
     ensures { IfOk result (λ lines. option_map string_bytes lines ≡ text_fault_shown process (view value.now)) }
@@ -231,6 +412,12 @@ fn answered(
     if name == "settled" {
         return settled(alloc, value);
     }
+    if name == "history" {
+        return listed(alloc, value);
+    }
+    if name == "got" {
+        return got(alloc, value);
+    }
     Ok(bytes_of(named(alloc, process, value, name)?))
 }
 
@@ -255,7 +442,7 @@ pub fn is_lost(answer: &Json) -> bool
 }
 
 /// What a client of a process shows of an answer: lines as a script's answers are, those of a settled report with its
-/// values as CSV. None where it is no answer of a server. An error means that an allocation failed.
+/// values as CSV, those of a list of edits with a line for each. None where it is no answer of a server. An error means that an allocation failed.
 pub fn answer_lines(
     alloc: Global,
     process: usize,

@@ -2,18 +2,21 @@
 
 ghost use Rattle.std.specs.Prelude.{◌≡◌, ℕ, List, Option, Some, None, Ok, codes};
 ghost use Rattle.ds_formula.specs.declared.cells.Shape.{Shape};
-ghost use Rattle.ds_server.specs.DeskCalls.{Last as LastCall, Report as AskedReport};
+ghost use Rattle.ds_server.specs.DeskCalls.{JoinAny as JoinsAny, Last as LastCall, Listing, Report as AskedReport, View as Views};
 ghost use Rattle.ds_server.specs.LineRequests.{call_of, join_by, number_field, or_bad_field};
 ghost use Rattle.ds_server.specs.Replies.{Said};
+ghost use Rattle.ds_server.specs.SessionLimits.{HISTORY_MOST};
 ghost use Rattle.ds_server.specs.SessionTexts.{said_data};
 ghost use Rattle.ds_client.specs.AnswerLines.{IsSaid, is_loss, said_lines, says_lost, shown};
-ghost use Rattle.ds_client.specs.Asks.{Join, Last, Report, Set};
-ghost use Rattle.ds_client.specs.Requests.{edit_named, wish_data};
+ghost use Rattle.ds_client.specs.Asks.{Get, History, Join, JoinAny, Last, Report, Set, Undo, View};
+ghost use Rattle.ds_client.specs.Requests.{edit_named, get_named, undo_named, wish_data};
 
 /// A server reads each request as the call that was asked for: a join of that process where it has it, also one with the
 /// token of a server that has one, and with the number of the client's last edit that was answered done; an edit of the
-/// cell of that name, where the sheet has one, to that text, a report, and what is reported of the last edit.
-#[tactic(auto, using(crate::proofs::Understood::joins, crate::proofs::Understood::joins_with, crate::proofs::Understood::said_done, crate::proofs::Understood::sets))]
+/// cell of that name, where the sheet has one, to that text, a report, and what is reported of the last edit. Also a join of
+/// any process, an undo of the cell of that name, and, by a process or, with the server's token, if it has one, without one, a
+/// report, what the cell of that name is, and the edits from that place on.
+#[tactic(auto, using(crate::proofs::Understood::joins, crate::proofs::Understood::joins_with, crate::proofs::Understood::said_done, crate::proofs::Understood::sets, crate::proofs::Understood::joins_any, crate::proofs::Understood::undoes, crate::proofs::Understood::views, crate::proofs::Understood::gets, crate::proofs::Understood::lists))]
 pub fn requests_are_read()
     ensures join { (shape : Shape) (processes process : ℕ) (done : Option ℕ) (token : Option (List ℕ))
         → call_of shape processes None None (wish_data (Join process done token)) ≡ or_bad_field (join_by processes process) }
@@ -24,6 +27,14 @@ pub fn requests_are_read()
         → call_of shape processes token (Some process) (wish_data (Set cell text)) ≡ or_bad_field (edit_named shape process cell text) }
     ensures report { (shape : Shape) (processes process : ℕ) (token : Option (List ℕ)) → call_of shape processes token (Some process) (wish_data Report) ≡ Ok (AskedReport process) }
     ensures last { (shape : Shape) (processes process : ℕ) (token : Option (List ℕ)) → call_of shape processes token (Some process) (wish_data Last) ≡ Ok (LastCall process) }
+    ensures join_any { (shape : Shape) (processes : ℕ) (token : Option (List ℕ)) → call_of shape processes token None (wish_data (JoinAny token)) ≡ Ok JoinsAny }
+    ensures undo { (shape : Shape) (processes process : ℕ) (token : Option (List ℕ)) (cell : List ℕ)
+        → call_of shape processes token (Some process) (wish_data (Undo cell)) ≡ or_bad_field (undo_named shape process cell) }
+    ensures view { (shape : Shape) (processes : ℕ) (joined : Option ℕ) (token : Option (List ℕ)) → call_of shape processes token joined (wish_data (View token)) ≡ Ok (Views joined) }
+    ensures get { (shape : Shape) (processes : ℕ) (joined : Option ℕ) (token : Option (List ℕ)) (cell : List ℕ)
+        → call_of shape processes token joined (wish_data (Get cell token)) ≡ or_bad_field (get_named shape joined cell) }
+    ensures history { (shape : Shape) (processes from : ℕ) (joined : Option ℕ) (token : Option (List ℕ))
+        → call_of shape processes token joined (wish_data (History from token)) ≡ Ok (Listing from HISTORY_MOST) }
 {}
 
 /// What a client shows of an answer are the lines of a script's answer of that kind: of a settled report with its values.

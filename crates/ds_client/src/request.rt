@@ -4,9 +4,9 @@ ghost use Rattle.std.specs.Prelude.{◌≡◌, IfOk, Some, codes, option_map, st
 ghost use Rattle.serde_json.specs.Data.{member, no_members, object};
 ghost use Rattle.serde_json.specs.View.{view};
 ghost use Rattle.serde_json.specs.Written.{compact_text};
-ghost use Rattle.ds_client.specs.Asks.{Join, Set, wish_view};
+ghost use Rattle.ds_client.specs.Asks.{Join, JoinAny, History, Set, View, wish_view};
 ghost use Rattle.ds_server.specs.SessionTexts.{text_data};
-ghost use Rattle.ds_client.specs.Requests.{wish_data, wish_text};
+ghost use Rattle.ds_client.specs.Requests.{of_cell_data, wish_data, wish_text};
 
 use crate::ask::Ask;
 use serde_json::{Value as Json, json};
@@ -44,10 +44,52 @@ fn join_value(
     }
 }
 
+fn join_any_value(alloc: Global, token: Option<&str>) -> Result<Json, AllocError>
+    ensures { IfOk result (λ v. view v ≡ wish_data (JoinAny (option_map (λ t. t.now) token.entry))) }
+{
+    match token {
+        None => json!(in alloc; {"op": "join", "process": "any"}),
+        Some(token) => json!(in alloc; {"op": "join", "process": "any", "token": token}),
+    }
+}
+
 fn set_value(alloc: Global, cell: &str, text: &str) -> Result<Json, AllocError>
     ensures { IfOk result (λ v. view v ≡ wish_data (Set cell.now text.now)) }
 {
     json!(in alloc; {"cell": cell, "op": "set", "text": text})
+}
+
+// A request that has this name, of the cell of that one.
+fn of_cell_value(
+    alloc: Global,
+    name: &str,
+    cell: &str,
+    token: Option<&str>,
+) -> Result<Json, AllocError>
+    ensures { IfOk result (λ v. view v ≡ of_cell_data name.now cell.now (option_map (λ t. t.now) token.entry)) }
+{
+    match token {
+        None => json!(in alloc; {"cell": cell, "op": name}),
+        Some(token) => json!(in alloc; {"cell": cell, "op": name, "token": token}),
+    }
+}
+
+fn history_value(alloc: Global, from: usize, token: Option<&str>) -> Result<Json, AllocError>
+    ensures { IfOk result (λ v. view v ≡ wish_data (History from (option_map (λ t. t.now) token.entry))) }
+{
+    match token {
+        None => json!(in alloc; {"from": (from as u64), "op": "history"}),
+        Some(token) => json!(in alloc; {"from": (from as u64), "op": "history", "token": token}),
+    }
+}
+
+fn view_value(alloc: Global, token: Option<&str>) -> Result<Json, AllocError>
+    ensures { IfOk result (λ v. view v ≡ wish_data (View (option_map (λ t. t.now) token.entry))) }
+{
+    match token {
+        None => json!(in alloc; {"op": "view"}),
+        Some(token) => json!(in alloc; {"op": "view", "token": token}),
+    }
 }
 
 // A request that is its name alone.
@@ -63,6 +105,11 @@ fn request_value(alloc: Global, ask: Ask<'_>) -> Result<Json, AllocError>
     match ask {
         Ask::Join(process, done, token) => join_value(alloc, process, done, token),
         Ask::Set { cell, text } => set_value(alloc, cell, text),
+        Ask::JoinAny(token) => join_any_value(alloc, token),
+        Ask::Undo(cell) => of_cell_value(alloc, "undo", cell, None),
+        Ask::Get(cell, token) => of_cell_value(alloc, "get", cell, token),
+        Ask::History(from, token) => history_value(alloc, from, token),
+        Ask::View(token) => view_value(alloc, token),
         Ask::Report => named_value(alloc, "report"),
         Ask::Last => named_value(alloc, "last"),
     }

@@ -1,11 +1,13 @@
 //! `dsheet connect`.
 
 use crate::notes::show_note;
+use crate::screen::{HELP, Screen, Typed, table_of};
 use ds_a1::notation::Notation;
 use ds_a1_script::lines::Commands;
+use ds_batch::closing::is_closed;
 use ds_batch::lines::opened_line;
 use ds_batch::run::no_memory;
-use ds_batch::status::{NO_MEMORY, STREAM_FAILED};
+use ds_batch::status::{CLOSED, NO_MEMORY, STREAM_FAILED};
 use ds_batch::token::{read_token, text_of};
 use ds_cli::connecting::Connecting;
 use ds_client::answer::{answer_lines, is_lost};
@@ -33,26 +35,28 @@ const CHUNK: usize = 1024;
 // A line of the script language has a fault, or a join was refused.
 const REFUSED: u8 = 1;
 
-// A connection by which a process is joined, and what the server has said to the join.
+// A connection, and what the server has said to the join of the client's process, if it has one.
 #[derive(Drop)]
 struct Joined {
     stream: TcpStream,
-    said: Json,
+    said: Option<Json>,
 }
 
-// A client at work: what it was asked for, the server's token, if it has one, and the number of the last edit of which it was
-// answered that it is done, if any.
+// A client at work: what it was asked for, the server's token, if it has one, the process that it joins or has joined, if any,
+// and the number of the last edit of which it was answered that it is done, if any.
 #[derive(Clone, Copy)]
 struct Client<'a> {
     connecting: Connecting<'a>,
+    screen: Screen,
     token: Option<&'a str>,
+    process: Option<usize>,
     done: Option<u64>,
 }
 
 impl Client<'_> {
-    // What it asks a server for first.
-    fn join(&self) -> Ask<'_> {
-        Ask::Join(self.connecting.process, self.done, self.token)
+    // What it asks a server for first, where it has a process.
+    fn join(&self) -> Option<Ask<'_>> {
+        Some(Ask::Join(self.process?, self.done, self.token))
     }
 
     // It is answered so: keeps the number of an edit that is done.
@@ -65,6 +69,12 @@ impl Client<'_> {
         if outcome.and_then(Json::as_str) == Some("done") {
             self.done = edit.get("number").and_then(Json::as_u64).or(self.done);
         }
+    }
+
+    // A join of any process is answered so: keeps the process.
+    fn note_process(&mut self, said: &Json) {
+        let process = said.get("process").and_then(Json::as_u64);
+        self.process = process.and_then(|process| usize::try_from(process).ok());
     }
 }
 
@@ -127,11 +137,30 @@ fn fits(ask: Ask<'_>, said: &Json) -> bool {
         return said.get("error").is_some();
     };
     match ask {
-        Ask::Join(_, _, _) => name == "join",
-        Ask::Set { cell: _, text: _ } => name == "done" || name == "overtaken",
-        Ask::Report => name == "settled" || name == "unsettled",
+        Ask::Join(_, _, _) | Ask::JoinAny(_) => name == "join",
+        Ask::Set { cell: _, text: _ } | Ask::Undo(_) => name == "done" || name == "overtaken",
+        Ask::Report | Ask::View(_) => name == "settled" || name == "unsettled",
+        Ask::Get(_, _) => name == "got" || name == "unsettled",
+        Ask::History(_, _) => name == "history",
         Ask::Last => name == "last",
     }
+}
+
+// Whether this is asked by a process.
+fn wants_process(ask: Ask<'_>) -> bool {
+    match ask {
+        Ask::Set { cell: _, text: _ } | Ask::Undo(_) | Ask::Report | Ask::Last => true,
+        Ask::Join(_, _, _) | Ask::JoinAny(_) | Ask::View(_) | Ask::Get(_, _) | Ask::History(_, _) =>
+            false,
+    }
+}
+
+// Whether this only reads, so that it may be asked again.
+fn only_reads(ask: Ask<'_>) -> bool {
+    matches!(
+        ask,
+        Ask::Report | Ask::View(_) | Ask::Get(_, _) | Ask::History(_, _)
+    )
 }
 
 // Asks the server, and reads what it says.
@@ -165,7 +194,7 @@ fn is_final(error: &io::Error) -> bool {
     )
 }
 
-// Connects, and joins the process.
+// Connects, and joins the process, where the client has one.
 fn join<R: AllocGlobal + Net<Stream = TcpStream>>(
     rt: &R,
     client: &Client<'_>,
@@ -173,13 +202,24 @@ fn join<R: AllocGlobal + Net<Stream = TcpStream>>(
     let mut stream = TcpStream::connect(rt, client.connecting.server)?;
     stream.set_read_timeout(patience(client.connecting))?;
     stream.set_write_timeout(patience(client.connecting))?;
-    let said = exchange(rt.alloc(), &mut stream, client.join())?;
+    let said = match client.join() {
+        Some(ask) => Some(exchange(rt.alloc(), &mut stream, ask)?),
+        None => None,
+    };
     Ok(Joined { stream, said })
 }
 
 // Whether the server says that a call is refused.
 fn is_refusal(said: &Json) -> bool {
     said.get("ok").is_none()
+}
+
+// Whether the server refuses the join of the client's process.
+fn is_refused(joined: &Joined) -> bool {
+    match &joined.said {
+        Some(said) => is_refusal(said),
+        None => false,
+    }
 }
 
 // Connects again and again after a broken connection, until the process is free.
@@ -190,7 +230,7 @@ fn join_anew<R: AllocGlobal + Clock + Net<Stream = TcpStream>>(
     for _ in 0..TRIES {
         thread::sleep(rt, Duration::from_millis(REST));
         match join(rt, client) {
-            Ok(joined) if is_refusal(&joined.said) => {}
+            Ok(joined) if is_refused(&joined) => {}
             Ok(joined) => return Ok(joined),
             Err(error) if is_final(&error) => return Err(error),
             Err(_) => {}
@@ -199,9 +239,12 @@ fn join_anew<R: AllocGlobal + Clock + Net<Stream = TcpStream>>(
     Err(io::Error::from(ErrorKind::ConnectionRefused))
 }
 
-// Whether lines are shown as they are: none has a control character, and an answer without values is one line.
+// Whether lines are shown as they are: none has a control character, and an answer without values is one line, and one more
+// for each edit of a list.
 fn is_plain(lines: &str, said: &Json) -> bool {
-    let (mut ends, mut plain) = (0u32, true);
+    let edits = said.get("edits").and_then(Json::as_array);
+    let count = edits.map_or(0, |edits| edits.len());
+    let (mut ends, mut plain) = (0usize, true);
     for letter in lines.chars() {
         if letter == '\n' {
             ends = ends.saturating_add(1);
@@ -209,7 +252,7 @@ fn is_plain(lines: &str, said: &Json) -> bool {
             plain = false;
         }
     }
-    plain && (ends == 1 || said.get("rows").is_some())
+    plain && (ends == count.saturating_add(1) || said.get("rows").is_some())
 }
 
 // The server says what none says: what is shown of it, and the status.
@@ -218,9 +261,50 @@ fn unknown<R: Eprint>(rt: &R) -> u8 {
     STREAM_FAILED
 }
 
+// Prints an answer, whose lines these are; on a terminal values stand in a table. An error is the status.
+fn print_answer<R: AllocGlobal + Print + Eprint>(
+    rt: &R,
+    screen: Screen,
+    lines: &str,
+    said: &Json,
+) -> Result<(), u8> {
+    let is_settled = said.get("ok").and_then(Json::as_str) == Some("settled");
+    let printed = match said.get("rows").and_then(Json::as_array) {
+        Some(rows) if is_settled && screen.input && screen.output => {
+            let Ok(table) = table_of(rt.alloc(), rows) else {
+                return Err(no_memory(rt));
+            };
+            print!(rt; "settled\n{table}")
+        }
+        _ => print!(rt; "{lines}"),
+    };
+    match printed {
+        Ok(()) => Ok(()),
+        Err(error) if is_closed(&error) => Err(CLOSED),
+        Err(_) => Err(STREAM_FAILED),
+    }
+}
+
+// The lines that show what the server says; a client without a process is refused by the name alone.
+fn lines_of(
+    alloc: Global,
+    client: &Client<'_>,
+    said: &Json,
+) -> Result<Option<Vec<u8>>, AllocError> {
+    match (client.process, said.get("error").and_then(Json::as_str)) {
+        (Some(process), _) => answer_lines(alloc, process, said),
+        (None, Some(name)) => Ok(Some(format!(in alloc; "refused {name}\n")?.into_bytes())),
+        (None, None) => answer_lines(alloc, 0, said),
+    }
+}
+
 // Shows what the server says. An error is the status.
-fn show<R: AllocGlobal + Print + Eprint>(rt: &R, process: usize, said: &Json) -> Result<(), u8> {
-    let Ok(lines) = answer_lines(rt.alloc(), process, said) else {
+fn show<R: AllocGlobal + Print + Eprint>(
+    rt: &R,
+    client: &Client<'_>,
+    said: &Json,
+) -> Result<(), u8> {
+    let Ok(lines) = lines_of(rt.alloc(), client, said) else {
         return Err(no_memory(rt));
     };
     let Some(lines) = lines else {
@@ -232,10 +316,7 @@ fn show<R: AllocGlobal + Print + Eprint>(rt: &R, process: usize, said: &Json) ->
     if !is_plain(lines, said) {
         return Err(unknown(rt));
     }
-    if print!(rt; "{lines}").is_err() {
-        return Err(STREAM_FAILED);
-    }
-    Ok(())
+    print_answer(rt, client.screen, lines, said)
 }
 
 // What is wrong with the connection, and the status.
@@ -263,7 +344,7 @@ fn show_joined<R: AllocGlobal + Print + Eprint>(
     client: &mut Client<'_>,
     said: &Json,
 ) -> Result<(), u8> {
-    show(rt, client.connecting.process, said)?;
+    show(rt, client, said)?;
     match client.done {
         Some(number) if is_lost(said) => {
             let _reported = eprintln!(rt;
@@ -287,26 +368,30 @@ fn reconnect<R: AllocGlobal + Print + Eprint + Clock + Net<Stream = TcpStream>>(
     match join_anew(rt, client) {
         Ok(joined) => {
             *stream = joined.stream;
-            show_joined(rt, client, &joined.said)
+            match &joined.said {
+                Some(said) => show_joined(rt, client, said),
+                None => Ok(()),
+            }
         }
         Err(error) => Err(tell_error(rt, client.connecting, &error)),
     }
 }
 
-// A report, on a new connection. An error is the status.
-fn report_again<R: AllocGlobal + Print + Eprint>(
+// The same question, on a new connection. An error is the status.
+fn ask_again<R: AllocGlobal + Print + Eprint>(
     rt: &R,
-    connecting: Connecting<'_>,
+    client: &Client<'_>,
     stream: &mut TcpStream,
+    ask: Ask<'_>,
 ) -> Result<(), u8> {
-    match exchange(rt.alloc(), stream, Ask::Report) {
-        Ok(said) => show(rt, connecting.process, &said),
-        Err(error) => Err(tell_error(rt, connecting, &error)),
+    match exchange(rt.alloc(), stream, ask) {
+        Ok(said) => show(rt, client, &said),
+        Err(error) => Err(tell_error(rt, client.connecting, &error)),
     }
 }
 
-// A call whose connection is broken: what the join of a new one says is shown, and a report is asked for again, but no
-// edit. An error is the status.
+// A call whose connection is broken: what the join of a new one says is shown, and what only reads is asked for again, but
+// no edit. An error is the status.
 fn call_anew<R: AllocGlobal + Print + Eprint + Clock + Net<Stream = TcpStream>>(
     rt: &R,
     client: &mut Client<'_>,
@@ -315,10 +400,29 @@ fn call_anew<R: AllocGlobal + Print + Eprint + Clock + Net<Stream = TcpStream>>(
 ) -> Result<(), u8> {
     let _reported = eprintln!(rt; "dsheet: the connection is broken; joining anew");
     reconnect(rt, client, stream)?;
-    match ask {
-        Ask::Report => report_again(rt, client.connecting, stream),
-        _ => Ok(()),
+    if only_reads(ask) {
+        ask_again(rt, client, stream, ask)
+    } else {
+        Ok(())
     }
+}
+
+// A client without a process joins any; what the server says is shown. An error is the status.
+fn join_any<R: AllocGlobal + Print + Eprint + Clock + Net<Stream = TcpStream>>(
+    rt: &R,
+    client: &mut Client<'_>,
+    stream: &mut TcpStream,
+) -> Result<(), u8> {
+    let said = match exchange(rt.alloc(), stream, Ask::JoinAny(client.token)) {
+        Ok(said) => said,
+        Err(error) => return Err(tell_error(rt, client.connecting, &error)),
+    };
+    if is_refusal(&said) {
+        show(rt, client, &said)?;
+        return Err(REFUSED);
+    }
+    client.note_process(&said);
+    show_joined(rt, client, &said)
 }
 
 // One call, that of a line in this notation, on this connection, or on a new one where it is broken: what the new join says
@@ -331,6 +435,9 @@ fn call<R: AllocGlobal + Print + Eprint + Clock + Net<Stream = TcpStream>>(
     line: &str,
     ask: Ask<'_>,
 ) -> Result<(), u8> {
+    if client.process.is_none() && wants_process(ask) {
+        join_any(rt, client, stream)?;
+    }
     let said = match exchange(rt.alloc(), stream, ask) {
         Ok(said) => said,
         Err(error) if is_final(&error) => {
@@ -338,7 +445,7 @@ fn call<R: AllocGlobal + Print + Eprint + Clock + Net<Stream = TcpStream>>(
         }
         Err(_) => return call_anew(rt, client, stream, ask),
     };
-    show(rt, client.connecting.process, &said)?;
+    show(rt, client, &said)?;
     client.note(&said);
     show_note(rt, notation, line, &said);
     Ok(())
@@ -360,33 +467,89 @@ fn obey<R: AllocGlobal + Print + Eprint + Clock + Net<Stream = TcpStream>>(
 ) -> Result<(), u8> {
     let open = opened_line(rt, notation, Commands::OfClient, line.number, line.text)?;
     match read_ask(open.as_bytes()) {
-        Ok(ask) => call(rt, client, notation, stream, line.text, ask),
+        Ok(ask) => {
+            let ask = ask.bearing(client.token);
+            call(rt, client, notation, stream, line.text, ask)
+        }
         Err(fault) => {
-            let _reported = eprintln!(rt; "line {}: {fault}", line.number);
+            let _reported = if client.screen.input {
+                eprintln!(rt; "{fault}; help shows what each line does")
+            } else {
+                eprintln!(rt; "line {}: {fault}", line.number)
+            };
             Err(REFUSED)
         }
     }
 }
 
-// The calls of the lines of standard input, up to its end; one with a fault ends nothing where there are prompts. An error
-// is the status.
+// Shows the process, and that a line may be typed.
+fn prompt(rt: &impl Eprint, client: &Client<'_>) {
+    let _prompted = match client.process {
+        Some(process) => eprint!(rt; "{process}> "),
+        None => eprint!(rt; "> "),
+    };
+}
+
+// Reads the next line of standard input, after a prompt where lines are typed: whether there is one. An error is the status.
+fn read_typed<R: Input + Eprint>(
+    rt: &R,
+    client: &Client<'_>,
+    text: &mut String,
+) -> Result<bool, u8> {
+    if client.screen.input {
+        prompt(rt, client);
+    }
+    text.clear();
+    match rt.read_line(text) {
+        Ok(0) => {
+            if client.screen.input {
+                let _ended = eprintln!(rt; "");
+            }
+            Ok(false)
+        }
+        Ok(_) => Ok(true),
+        Err(_) => Err(STREAM_FAILED),
+    }
+}
+
+// What is done of a line before it is a call: whether the lines go on. An error is the status.
+fn take_typed<R: AllocGlobal + Print + Eprint + Clock + Net<Stream = TcpStream>>(
+    rt: &R,
+    client: &mut Client<'_>,
+    notation: Notation,
+    stream: &mut TcpStream,
+    line: Line<'_>,
+) -> Result<bool, u8> {
+    let typed = if client.screen.input {
+        Typed::of(line.text)
+    } else {
+        Typed::Call
+    };
+    match typed {
+        Typed::Quit => return Ok(false),
+        Typed::Help if print!(rt; "{HELP}").is_err() => return Err(STREAM_FAILED),
+        Typed::Help => {}
+        Typed::Call => match obey(rt, client, notation, stream, line) {
+            Err(REFUSED) if client.screen.input => {}
+            Err(status) => return Err(status),
+            Ok(()) => {}
+        },
+    }
+    Ok(true)
+}
+
+// The calls of the lines of standard input, up to its end; one with a fault ends nothing where they are typed. An error is
+// the status.
 fn talk<R: AllocGlobal + Input + Print + Eprint + Clock + Net<Stream = TcpStream>>(
     rt: &R,
     client: &mut Client<'_>,
     notation: Notation,
     stream: &mut TcpStream,
-    prompts: bool,
 ) -> Result<(), u8> {
     let mut text = String::new(rt.alloc());
     for number in 1..u64::MAX {
-        if prompts {
-            let _prompted = eprint!(rt; "{}> ", client.connecting.process);
-        }
-        text.clear();
-        match rt.read_line(&mut text) {
-            Ok(0) => return Ok(()),
-            Ok(_) => {}
-            Err(_) => return Err(STREAM_FAILED),
+        if !read_typed(rt, client, &mut text)? {
+            return Ok(());
         }
         let line = Line {
             number,
@@ -395,42 +558,40 @@ fn talk<R: AllocGlobal + Input + Print + Eprint + Clock + Net<Stream = TcpStream
         if is_skipped(line.text.as_bytes()) {
             continue;
         }
-        match obey(rt, client, notation, stream, line) {
-            Err(REFUSED) if prompts => {}
-            Err(status) => return Err(status),
-            Ok(()) => {}
+        if !take_typed(rt, client, notation, stream, line)? {
+            return Ok(());
         }
     }
     Ok(())
 }
 
-// Joins, and makes the calls of standard input. An error is the status.
+// Joins, where the client has a process, and makes the calls of standard input. An error is the status.
 fn converse<R: AllocGlobal + Input + Print + Eprint + Clock + Net<Stream = TcpStream>>(
     rt: &R,
     client: &mut Client<'_>,
     notation: Notation,
-    prompts: bool,
 ) -> Result<(), u8> {
     let Joined { mut stream, said } = match join(rt, client) {
         Ok(joined) => joined,
         Err(error) => return Err(tell_error(rt, client.connecting, &error)),
     };
-    show_joined(rt, client, &said)?;
-    if is_refusal(&said) {
-        return Err(REFUSED);
+    if let Some(said) = &said {
+        show_joined(rt, client, said)?;
+        if is_refusal(said) {
+            return Err(REFUSED);
+        }
     }
-    talk(rt, client, notation, &mut stream, prompts)
+    talk(rt, client, notation, &mut stream)
 }
 
-/// `dsheet connect`: joins a process of a server, and makes a call for each line of standard input, with formulas in this
-/// notation; what the server says
-/// goes to standard output as the lines of a script's answers. A prompt is shown on standard error where that is asked
-/// for; then a line with a fault ends nothing. Gives the status.
+/// `dsheet connect`: joins a process of a server, any where it is asked for none, and then by the first line that needs one,
+/// and makes a call for each line of standard input, with formulas in this notation; what the server says goes to standard output as the lines of a script's answers. Where lines are typed, there are
+/// prompts on standard error, and a line with a fault ends nothing. Gives the status.
 pub fn connect<R: AllocGlobal + Input + Print + Eprint + Clock + Files + Net<Stream = TcpStream>>(
     rt: &R,
     connecting: Connecting<'_>,
     notation: Notation,
-    prompts: bool,
+    screen: Screen,
 ) -> u8 {
     let token = match read_token(rt, connecting.token_file) {
         Ok(token) => token,
@@ -438,10 +599,12 @@ pub fn connect<R: AllocGlobal + Input + Print + Eprint + Clock + Files + Net<Str
     };
     let mut client = Client {
         connecting,
+        screen,
         token: text_of(&token),
+        process: connecting.process,
         done: None,
     };
-    match converse(rt, &mut client, notation, prompts) {
+    match converse(rt, &mut client, notation) {
         Ok(()) => 0,
         Err(status) => status,
     }

@@ -3,3 +3,4 @@
 
 pub mod connect;
 mod notes;
+pub mod screen;

@@ -202,6 +202,7 @@ impl<L: Ledger, M: Ledger> LockedSheet<L, M> {
                 return end;
             }
         }
+        // The loop has no end but an answer: that this line is never reached is proved.
         unreachable!()
     }
 
@@ -258,6 +259,7 @@ impl<L: Ledger, M: Ledger> LockedSheet<L, M> {
                 return end;
             }
         }
+        // The loop has no end but an answer: that this line is never reached is proved.
         unreachable!()
     }
 
@@ -356,6 +358,7 @@ impl<L: Ledger, M: Ledger> LockedSheet<L, M> {
                 return end;
             }
         }
+        // The loop has no end but an answer: that this line is never reached is proved.
         unreachable!()
     }
 
@@ -412,6 +415,7 @@ impl<L: Ledger, M: Ledger> LockedSheet<L, M> {
                 return end;
             }
         }
+        // The loop has no end but an answer: that this line is never reached is proved.
         unreachable!()
     }
 

@@ -1,9 +1,9 @@
 -- Scripts that are answered, and the outcomes that are written.
 use Rattle.std.proofs.Common.{ℕ, zero, suc, arith, map, Ok, Err, ◌+◌, ◌||◌, add-one, ◌≡◌, ◌≤◌, ◌<◌, get_or, Bool, true, false, List, [], ◌++◌, Option, Some, length, take, refl, sym, subst, ap, ◌∙◌, ◌∷◌, append_assoc, inl, inr}
-use Rattle.std.proofs.lemmas.List.{append-nil, map-append, take_all, take_more}
+use Rattle.std.proofs.lemmas.List.{append-nil, length-take-le, map-append, take_all, take_more}
 use Rattle.std.specs.Global.{Vec}
 use Rattle.std.proofs.KnownBytes.{Consumes-all}
-use Rattle.std.specs.Prelude.{◌-◌, ◌^◌, All, IfOk, Result, nat_eq, slice_get}
+use Rattle.std.specs.Prelude.{◌-◌, ◌^◌, All, IfOk, Result, min, nat_eq, slice_get}
 use Rattle.std.specs.List.{ends_with}
 use Rattle.std.specs.Str.{bytes_eq}
 use Rattle.std.proofs.lemmas.Slice.Eq.{bytes_eq-Decides}
@@ -18,6 +18,9 @@ use Rattle.ds_script_stops.specs.declared.reach.Short.TheVariants as shorts
 use Rattle.ds_script_stops.specs.Reaching.{MeetsFault}
 use Rattle.ds_formula.specs.declared.cells.Shape.{Shape}
 use Rattle.ds_explore.specs.declared.lines.FoundLine.{FoundLine}
+use Rattle.ds_explore.specs.declared.exploration.Outcome.{Outcome}
+use Rattle.ds_explore.specs.declared.exploration.Unexplored.{Unexplored}
+use Rattle.ds_explore.specs.declared.exploration.Unexplored.TheVariants as unexplored
 use Rattle.ds_explore.specs.declared.flaw.Flaw.{Flaw}
 use Rattle.ds_explore.specs.declared.options.Options.{Options}
 use Rattle.ds_explore.specs.declared.search.Start.{Start}
@@ -28,10 +31,9 @@ use Rattle.ds_explore_state.specs.declared.position.ProcessState.{ProcessState}
 use Rattle.ds_explore_state.specs.States.{seat_of}
 use Rattle.ds_explore.specs.declared.judge.Judge.{Judge}
 use Rattle.ds_explore.specs.Judging.{ComesTo, EndsIn, IsFound, IsPart, texts_of}
-use Rattle.ds_explore.specs.Starts.{IsEnd}
-use Rattle.ds_explore.specs.Whole.{Explores, IsAmong}
+use Rattle.ds_explore.specs.Whole.{Explores, IsAmong, LacksExploration, lacks_by}
 use Rattle.ds_explore.specs.Lines.{IsLines, no_line, one_line_more, line_text, GoesOn}
-use Rattle.ds_explore.specs.Explored.{wrong_text, wrong_texts, joined, key_text, IsBlock, IsOutcome, AreOutcomes, one_outcome, one_outcome_more, orders_joined, end_short}
+use Rattle.ds_explore.specs.Explored.{AreOutcomes, IsOutcome, any_wrong, at_most_orders, end_lacking, is_wrong, joined, key_text, one_outcome, one_outcome_more, orders_to, outcome_text, outcomes_text, wrong_text, wrong_texts}
 
 -- a reader over a script that has ended gave all of it
 gave_all : (limit : ℕ) (script : List ℕ) (after : Option (List ℕ)) (ended failed : Bool) (bytes : List ℕ) (end : InputEnd)
@@ -51,11 +53,18 @@ finishes_of limit script after ended failed bytes out short consumed (inr unread
 
 -- ---- ends
 
--- nothing is written of a script that does not end
-pub explores_none : (script : List ℕ) (options : Options) (short : Short) → MeetsFault true script (2 ^ 64 - 1) short → Explores script options [] (end_short short)
-explores_none script options (shorts.Fault line kind) h = (refl, h)
-explores_none script options shorts.Ended h = refl
-explores_none script options shorts.NoMemory h = refl
+-- there is no exploration of a script that does not end
+pub lacks_short : (script : List ℕ) (short : Short) → MeetsFault true script (2 ^ 64 - 1) short → LacksExploration script (lacks_by short)
+lacks_short script (shorts.Fault line kind) h = h
+lacks_short script shorts.Ended h = tt
+lacks_short script shorts.NoMemory h = tt
+
+-- nothing is written where there is no exploration
+pub explores_none : (script : List ℕ) (options : Options) (why : Unexplored) → LacksExploration script why → Explores script options [] (end_lacking why)
+explores_none script options (unexplored.Fault line kind) h = (refl, h)
+explores_none script options unexplored.TooLong h = (refl, h)
+explores_none script options unexplored.FoundTooLong h = refl
+explores_none script options unexplored.NoMemory h = refl
 
 -- ---- texts, line by line
 
@@ -95,42 +104,72 @@ joined_at texts i t text new low at is e =
 
 -- ---- outcomes
 
--- the outcome with this number, by the text of its script
-pub outcome_of : (shape : Shape) (script longer given : List ℕ) (start : Start) (x : Position) (crashed : Bool) (found : Finding) (at orders : ℕ) (flawed : Bool) (key text : List ℕ)
-    → shape ≡ start.first.world.sheet.layout.shape → IsEnd start x crashed → ComesTo start.judge x crashed found → key ≡ key_text found → GoesOn shape script longer → given ≡ longer → IsBlock (at + 1) orders given found flawed text
-    → IsOutcome script start (suc at) orders flawed key text
-outcome_of shape script longer given start x crashed found at orders flawed key text shape_is end comes key_is goes is block = record {
-  position = x;
-  crashed = crashed;
-  end = end;
-  found = found;
-  comes = comes;
-  key_is = key_is;
-  longer = longer;
-  goes_on = subst (λ (s : Shape). GoesOn s script longer) shape_is goes;
-  block = subst (λ (n : ℕ). IsBlock n orders longer found flawed text) (add-one at) (subst (λ (s : List ℕ). IsBlock (at + 1) orders s found flawed text) is block);
-}
-
--- the first outcome
-pub outcomes_first : (script : List ℕ) (start : Start) (orders : ℕ) (flawed : Bool) (key : Vec ℕ) (keys : List (Vec ℕ)) (text : List ℕ) → keys ≡ key ∷ [] → IsOutcome script start 1 orders flawed key.items text
-    → AreOutcomes script start 1 orders flawed (texts_of keys) text
-outcomes_first script start orders flawed key keys text is outcome =
-    subst (λ (ks : List (Vec ℕ)). AreOutcomes script start 1 orders flawed (texts_of ks) text) (sym is) (one_outcome orders flawed key.items text outcome)
-
 -- the texts of one more
-pub texts_push : (texts more : List (Vec ℕ)) (text : Vec ℕ) → more ≡ texts ++ text ∷ [] → texts_of texts ++ text.items ∷ [] ≡ texts_of more
+texts_push : (texts more : List (Vec ℕ)) (text : Vec ℕ) → more ≡ texts ++ text ∷ [] → texts_of texts ++ text.items ∷ [] ≡ texts_of more
 texts_push texts more text is = sym (ap (λ (ts : List (Vec ℕ)). texts_of ts) is ∙ map-append (λ (v : Vec ℕ). v.items) texts (text ∷ []))
 
+-- the first outcome
+pub outcomes_first : (script : List ℕ) (start : Start) (key : Vec ℕ) (keys : List (Vec ℕ)) (outcome : Outcome) (outcomes : List Outcome) → keys ≡ key ∷ [] → outcomes ≡ outcome ∷ [] → IsOutcome script start key.items outcome → AreOutcomes script start (texts_of keys) outcomes
+outcomes_first script start key keys outcome outcomes e f is =
+    subst (λ (os : List Outcome). AreOutcomes script start (texts_of keys) os) (sym f) (subst (λ (ks : List (Vec ℕ)). AreOutcomes script start (texts_of ks) (outcome ∷ [])) (sym e) (one_outcome key.items outcome is))
+
 -- one outcome more after the others
-pub outcomes_more : (script : List ℕ) (start : Start) (count orders more sum : ℕ) (wrong flawed : Bool) (keys : List (List ℕ)) (key out text new : List ℕ) → AreOutcomes script start (suc count) orders wrong keys out
-    → IsOutcome script start (suc (count + 1)) more flawed key text → All (λ other. other ≡ key → ⊥) keys
-    → sum ≡ orders_joined orders more → new ≡ out ++ text → AreOutcomes script start (suc (count + 1)) sum (wrong || flawed) (keys ++ key ∷ []) new
-outcomes_more script start count orders more sum wrong flawed keys key out text new before outcome fresh is e =
-    let numbered = subst (λ (n : ℕ). IsOutcome script start (suc n) more flawed key text) (add-one count) outcome in
-    subst (λ (t : List ℕ). AreOutcomes script start (suc (count + 1)) sum (wrong || flawed) (keys ++ key ∷ []) t) (sym e)
-    (subst (λ (n : ℕ). AreOutcomes script start (suc (count + 1)) n (wrong || flawed) (keys ++ key ∷ []) (out ++ text)) (sym is)
-    (subst (λ (n : ℕ). AreOutcomes script start (suc n) (orders_joined orders more) (wrong || flawed) (keys ++ key ∷ []) (out ++ text)) (sym (add-one count))
-    (one_outcome_more (suc count) orders more wrong flawed keys key out text before numbered fresh)))
+pub outcomes_more : (script : List ℕ) (start : Start) (keys : List (Vec ℕ)) (outcomes : List Outcome) (key : Vec ℕ) (outcome : Outcome) (more : List (Vec ℕ)) (new : List Outcome) → AreOutcomes script start (texts_of keys) outcomes → IsOutcome script start key.items outcome
+    → All (λ other. other ≡ key.items → ⊥) (texts_of keys) → more ≡ keys ++ key ∷ [] → new ≡ outcomes ++ outcome ∷ [] → AreOutcomes script start (texts_of more) new
+outcomes_more script start keys outcomes key outcome more new before is fresh e f =
+    subst (λ (os : List Outcome). AreOutcomes script start (texts_of more) os) (sym f)
+    (subst (λ (ks : List (List ℕ)). AreOutcomes script start ks (outcomes ++ outcome ∷ [])) (texts_push keys more key e) (one_outcome_more (texts_of keys) outcomes key.items outcome before is fresh))
+
+-- ---- texts of outcomes
+
+outcomes_push : (n : ℕ) (outcomes : List Outcome) (outcome : Outcome) → outcomes_text n (outcomes ++ outcome ∷ []) ≡ outcomes_text n outcomes ++ outcome_text (suc (length outcomes + n)) outcome
+outcomes_push n [] outcome =
+    let same : n ≡ length {A = Outcome} [] + n = omega arith in
+    append-nil (outcome_text (suc n) outcome) ∙ ap (λ (k : ℕ). outcome_text (suc k) outcome) same
+outcomes_push n (first ∷ outcomes) outcome =
+    let same : length outcomes + suc n ≡ suc (length outcomes) + n = omega arith in
+    ap (λ (t : List ℕ). outcome_text (suc n) first ++ t) (outcomes_push (suc n) outcomes outcome ∙ ap (λ (k : ℕ). outcomes_text (suc n) outcomes ++ outcome_text (suc k) outcome) same)
+    ∙ sym (append_assoc (outcome_text (suc n) first) (outcomes_text (suc n) outcomes) (outcome_text (suc (suc (length outcomes) + n)) outcome))
+
+-- one outcome's text more, after those before
+pub outcomes_at : (outcomes : List Outcome) (i : ℕ) (outcome : Outcome) (old more new : List ℕ) → i < length outcomes → outcome ≡ get_or outcomes i outcome → old ≡ outcomes_text 0 (take i outcomes) → more ≡ outcome_text (i + 1) outcome → new ≡ old ++ more
+    → new ≡ outcomes_text 0 (take (i + 1) outcomes)
+outcomes_at outcomes i outcome old more new low at before is e =
+    let number : i + 1 ≡ suc (length (take i outcomes) + 0) = omega (arith, length-take-le i outcomes (omega (arith, low))) in
+    e ∙ ap (λ (t : List ℕ). t ++ more) before ∙ ap (λ (t : List ℕ). outcomes_text 0 (take i outcomes) ++ t) (is ∙ ap (λ (k : ℕ). outcome_text k outcome) number)
+    ∙ sym (outcomes_push 0 (take i outcomes) outcome) ∙ ap (λ (os : List Outcome). outcomes_text 0 os) (ap (λ (o : Outcome). take i outcomes ++ o ∷ []) at ∙ sym (take_more outcomes i outcome low))
+
+orders_push : (outcomes : List Outcome) (outcome : Outcome) → orders_to (outcomes ++ outcome ∷ []) ≡ orders_to outcomes + outcome.orders
+orders_push [] outcome = omega arith
+orders_push (first ∷ outcomes) outcome = omega (arith, orders_push outcomes outcome)
+
+-- the orders of one more, up to the most that is counted
+pub orders_at : (outcomes : List Outcome) (i : ℕ) (outcome : Outcome) (old new : ℕ) → i < length outcomes → outcome ≡ get_or outcomes i outcome → old ≡ at_most_orders (orders_to (take i outcomes)) → new ≡ at_most_orders (old + (get_or outcomes i outcome).orders)
+    → new ≡ at_most_orders (orders_to (take (i + 1) outcomes))
+orders_at outcomes i outcome old new low at before is =
+    is ∙ ap (λ (o : Outcome). at_most_orders (old + o.orders)) (sym at) ∙ ap (λ (n : ℕ). at_most_orders (n + outcome.orders)) before ∙ cap (orders_to (take i outcomes)) outcome.orders (2 ^ 128 - 1)
+    ∙ ap (λ (n : ℕ). at_most_orders n) (sym (orders_push (take i outcomes) outcome)) ∙ ap (λ (os : List Outcome). at_most_orders (orders_to os)) (ap (λ (o : Outcome). take i outcomes ++ o ∷ []) at ∙ sym (take_more outcomes i outcome low))
+  where
+    cap : (a b most : ℕ) → min (min a most + b) most ≡ min (a + b) most
+    cap a b most = omega arith
+
+or_assoc : (a b c : Bool) → (a || b) || c ≡ a || (b || c)
+or_assoc true b c = refl
+or_assoc false b c = refl
+
+or_false : (a : Bool) → a || false ≡ a
+or_false true = refl
+or_false false = refl
+
+wrong_after : (outcomes : List Outcome) (outcome : Outcome) → any_wrong (outcomes ++ outcome ∷ []) ≡ any_wrong outcomes || is_wrong outcome.flaws.items
+wrong_after [] outcome = or_false (is_wrong outcome.flaws.items)
+wrong_after (first ∷ outcomes) outcome = ap (λ (b : Bool). is_wrong first.flaws.items || b) (wrong_after outcomes outcome) ∙ sym (or_assoc (is_wrong first.flaws.items) (any_wrong outcomes) (is_wrong outcome.flaws.items))
+
+-- one outcome more with which something is wrong, or nothing
+pub any_at : (outcomes : List Outcome) (i : ℕ) (outcome : Outcome) (old more new : Bool) → i < length outcomes → outcome ≡ get_or outcomes i outcome → old ≡ any_wrong (take i outcomes) → more ≡ is_wrong outcome.flaws.items → new ≡ old || more → new ≡ any_wrong (take (i + 1) outcomes)
+any_at outcomes i outcome old more new low at before is e =
+    e ∙ ap (λ (b : Bool). b || more) before ∙ ap (λ (b : Bool). any_wrong (take i outcomes) || b) is ∙ sym (wrong_after (take i outcomes) outcome)
+    ∙ ap (λ (os : List Outcome). any_wrong os) (ap (λ (o : Outcome). take i outcomes ++ o ∷ []) at ∙ sym (take_more outcomes i outcome low))
 
 -- ---- parts of texts
 

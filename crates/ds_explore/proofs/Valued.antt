@@ -1,9 +1,10 @@
 -- Contents of texts, and values that are wrong.
-use Rattle.std.proofs.Common.{ℕ, suc, add-one, ◌+◌, ◌≡◌, ◌<◌, ◌∙◌, get_or, length, List, [], ◌∷◌, ◌++◌, map, take, Ok, Err, ap, append_assoc, inl, inr, refl, subst, sym}
-use Rattle.std.proofs.lemmas.List.{append-nil, map_more}
+use Rattle.std.proofs.Common.{ℕ, suc, add-one, ◌+◌, ◌≡◌, ◌<◌, ◌∙◌, get_or, length, true, List, [], ◌∷◌, ◌++◌, map, take, Ok, Err, ap, append_assoc, inl, inr, refl, subst, sym}
+use Rattle.std.proofs.lemmas.List.{append-nil, map-append, map_more}
 use Rattle.std.specs.Global.{Vec}
-use Rattle.std.specs.Prelude.{IfOk, OnOk, Option, Result, Some}
+use Rattle.std.specs.Prelude.{IfOk, OnOk, Option, Result, Some, option_map}
 use Rattle.ds_state.specs.Value.{WorldValue}
+use Rattle.ds_state.specs.declared.situation.Situation.{Situation}
 use Rattle.ds_eval.specs.Scratch.{IsScratch}
 use Rattle.ds_eval.specs.SheetContents.{contents_of}
 use Rattle.ds_eval.specs.declared.sheet.Sheet.{Sheet}
@@ -16,8 +17,9 @@ use Rattle.ds_formula.specs.declared.fault.FaultKind.TheVariants.{NoMemory}
 use Rattle.ds_formula.specs.declared.fault.TextFault.{TextFault}
 use Rattle.ds_eval.specs.declared.value.Value.{Value}
 use Rattle.ds_explore.specs.declared.flaw.Flaw.{Flaw}
+use Rattle.ds_explore.specs.declared.judge.Asked.{Asked}
 use Rattle.ds_explore.specs.declared.flaw.Flaw.TheVariants.{NotSettled}
-use Rattle.ds_explore.specs.Judging.{AddsValueFlaws, AreContents, AreValueFlaws, FitsValue, Holds, IsEvaluated, JudgesValues, listed, reported_in, no_content, no_value, one_content_more, one_value_more, texts_of}
+use Rattle.ds_explore.specs.Judging.{AddsValueFlaws, AreContents, AreValueFlaws, EndsIn, FitsValue, Holds, IsEvaluated, JudgesValues, PlainAsked, asked_in, listed, reported_in, no_content, no_value, one_content_more, one_value_more, plain_asked, texts_in, texts_of}
 
 -- a text that is refused, but for want of memory, gives its cell nothing
 pub blank_holds : (shape : Shape) (text : List ℕ) (why : TextFault) → (why.kind ≡ NoMemory → ⊥) → Answers shape text (Err why) → Holds shape text contents.Blank
@@ -79,3 +81,22 @@ values_ok (Err why) w shape texts expected now shown before after e evaluated f 
 pub unsettled_ok : {E : Type 0} (r : Result (Unit {0}) E) (before after : List Flaw) → OnOk r (after ≡ before ++ listed (Some NotSettled)) → OnOk r ((more : List Flaw) × (more ≡ NotSettled ∷ []) × (after ≡ before ++ more))
 unsettled_ok (Ok u) before after h = (NotSettled ∷ [], refl, h)
 unsettled_ok (Err why) before after h = tt
+
+-- ---- edits that are asked for
+
+-- no edit
+pub asked_none : (all : List (Option Asked)) → all ≡ [] → map (option_map plain_asked) all ≡ []
+asked_none all e = ap (λ (l : List (Option Asked)). map (option_map plain_asked) l) e
+
+-- the edit of one process more
+pub asked_more : (xs : List Situation) (n : ℕ) (x : Situation) (asked : Option Asked) (old new : List (Option Asked)) → n < length xs → x ≡ get_or xs n x → option_map plain_asked asked ≡ asked_in x → map (option_map plain_asked) old ≡ map asked_in (take n xs)
+    → new ≡ old ++ asked ∷ [] → map (option_map plain_asked) new ≡ map asked_in (take (n + 1) xs)
+asked_more xs n x asked old new low at is before e =
+    ap (λ (l : List (Option Asked)). map (option_map plain_asked) l) e ∙ map-append (option_map plain_asked) old (asked ∷ []) ∙ ap (λ (l : List (Option PlainAsked)). l ++ option_map plain_asked asked ∷ []) before
+    ∙ ap (λ (o : Option PlainAsked). map asked_in (take n xs) ++ o ∷ []) (is ∙ ap asked_in at) ∙ sym (map_more asked_in xs n x low)
+
+-- the texts that a crash leaves
+pub crashed_ok : {E : Type 0} (r : Result (Vec (Vec ℕ)) E) (w copy lost : WorldValue) → copy ≡ w → EndsIn true copy lost → IfOk r (λ texts. texts_of texts.items ≡ texts_in lost)
+    → IfOk r (λ texts. (after : WorldValue) × EndsIn true w after × (texts_of texts.items ≡ texts_in after))
+crashed_ok (Ok texts) w copy lost e ends is = (lost, subst (λ (x : WorldValue). EndsIn true x lost) e ends, is)
+crashed_ok (Err why) w copy lost e ends is = tt

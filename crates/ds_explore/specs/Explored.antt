@@ -3,10 +3,12 @@ use Rattle.std.specs.Prelude.{ℕ, suc, ◌+◌, ◌≡◌, ◌-◌, ◌^◌, �
 use Rattle.std.specs.Fmt.{decimal}
 use Rattle.ds_script.specs.Script.{Finishes}
 use Rattle.ds_script_io.specs.ScriptEndings.{name_of_fault}
-use Rattle.ds_script_stops.specs.declared.reach.Short.{Short}
-use Rattle.ds_script_stops.specs.declared.reach.Short.TheVariants as shorts
 use Rattle.ds_explore.specs.declared.flaw.Flaw.{Flaw}
 use Rattle.ds_explore.specs.declared.flaw.Flaw.TheVariants as flaw
+use Rattle.ds_explore.specs.declared.exploration.Exploration.{Exploration}
+use Rattle.ds_explore.specs.declared.exploration.Outcome.{Outcome}
+use Rattle.ds_explore.specs.declared.exploration.Unexplored.{Unexplored}
+use Rattle.ds_explore.specs.declared.exploration.Unexplored.TheVariants as unexplored
 use Rattle.ds_explore.specs.declared.explore.ExploreEnd.{ExploreEnd}
 use Rattle.ds_explore.specs.declared.explore.ExploreEnd.TheVariants as ends
 use Rattle.ds_explore.specs.declared.search.Start.{Start}
@@ -70,43 +72,47 @@ AreFlaws found answers flaws =
 abbrev pub heading_text : ℕ → ℕ → List ℕ
 heading_text number orders = codes "outcome " ++ (decimal number ++ (codes ": orders " ++ (decimal orders ++ codes "\n")))
 
--- the text of an outcome: its head, what is wrong with it, a script, and what that is answered
-abbrev pub outcome_text : ℕ → ℕ → List ℕ → List ℕ → List ℕ → List ℕ
-outcome_text number orders wrong script answers = heading_text number orders ++ (wrong ++ (script ++ (codes "answers\n" ++ (answers ++ codes "\n"))))
+-- the text of the outcome with this number: its head, what is wrong with it, its script, and what that is answered
+abbrev pub outcome_text : ℕ → Outcome → List ℕ
+outcome_text number outcome = heading_text number outcome.orders ++ (wrong_texts outcome.flaws.items ++ (outcome.script.items ++ (codes "answers\n" ++ (outcome.answers.items ++ codes "\n"))))
 
--- an outcome with this number and these orders, of a script that ends: its text, and whether something is wrong with it
-pub record IsBlock (number orders : ℕ) (script : List ℕ) (found : Finding) (flawed : Bool) (text : List ℕ) : Type 0 where
-  pub answers : List ℕ
-  pub finishes : Finishes true script answers
-  pub flaws : List Flaw
-  pub are : AreFlaws found answers flaws
-  pub flawed_is : flawed ≡ is_wrong flaws
-  pub is : text ≡ outcome_text number orders (wrong_texts flaws) script answers
+-- the texts of outcomes, whose numbers follow this one
+abbrev pub outcomes_text : ℕ → List Outcome → List ℕ
+outcomes_text number [] = []
+outcomes_text number (outcome ∷ outcomes) = outcome_text (suc number) outcome ++ outcomes_text (suc number) outcomes
 
--- the outcome with this number, to which n orders lead: what one of them comes to, by the judge; and a script that goes on
--- after the one that was given, and ends. What is written is what is wrong, that script, and what it is answered
-pub record IsOutcome (script : List ℕ) (start : Start) (number orders : ℕ) (flawed : Bool) (key text : List ℕ) : Type 0 where
+-- an outcome is what an order comes to, by the judge; its script goes on after the one that was given, and is answered as
+-- is written, and what comes after the order is answered so. The key distinguishes it from others
+pub record IsOutcome (script : List ℕ) (start : Start) (key : List ℕ) (outcome : Outcome) : Type 0 where
   pub position : Position
-  pub crashed : Bool
-  pub end : IsEnd start position crashed
+  pub end : IsEnd start position outcome.crashed
   pub found : Finding
-  pub comes : ComesTo start.judge position crashed found
+  pub comes : ComesTo start.judge position outcome.crashed found
   pub key_is : key ≡ key_text found
-  pub longer : List ℕ
-  pub goes_on : GoesOn start.first.world.sheet.layout.shape script longer
-  pub block : IsBlock number orders longer found flawed text
+  pub goes_on : GoesOn start.first.world.sheet.layout.shape script outcome.script.items
+  pub finishes : Finishes true outcome.script.items outcome.answers.items
+  pub flaws : AreFlaws found outcome.answers.items outcome.flaws.items
+  pub tail : outcome.tail ≡ found.tail
 
--- the orders of all, one outcome more; they are not counted beyond 2^128 - 1
-abbrev pub orders_joined : ℕ → ℕ → ℕ
-orders_joined orders more = min (orders + more) (2 ^ 128 - 1)
+-- outcomes, at least one, and what distinguishes each from the others
+pub data AreOutcomes (script : List ℕ) (start : Start) : List (List ℕ) → List Outcome → Type 0 where
+  one_outcome : (key : List ℕ) (outcome : Outcome) → IsOutcome script start key outcome → AreOutcomes script start (key ∷ []) (outcome ∷ [])
+  one_outcome_more : (keys : List (List ℕ)) (outcomes : List Outcome) (key : List ℕ) (outcome : Outcome) → AreOutcomes script start keys outcomes
+      → IsOutcome script start key outcome → All (λ other. other ≡ key → ⊥) keys → AreOutcomes script start (keys ++ key ∷ []) (outcomes ++ outcome ∷ [])
 
--- n outcomes, one after the other, from number 1; how many orders lead to them, whether something is wrong with one, and
--- what distinguishes each from the others
-pub data AreOutcomes (script : List ℕ) (start : Start) : ℕ → ℕ → Bool → List (List ℕ) → List ℕ → Type 0 where
-  one_outcome : (orders : ℕ) (flawed : Bool) (key text : List ℕ) → IsOutcome script start 1 orders flawed key text → AreOutcomes script start 1 orders flawed (key ∷ []) text
-  one_outcome_more : (count orders more : ℕ) (wrong flawed : Bool) (keys : List (List ℕ)) (key out text : List ℕ) → AreOutcomes script start count orders wrong keys out
-      → IsOutcome script start (suc count) more flawed key text → All (λ other. other ≡ key → ⊥) keys
-      → AreOutcomes script start (suc count) (orders_joined orders more) (wrong || flawed) (keys ++ key ∷ []) (out ++ text)
+-- how many orders lead to these outcomes
+abbrev pub orders_to : List Outcome → ℕ
+orders_to [] = 0
+orders_to (outcome ∷ outcomes) = outcome.orders + orders_to outcomes
+
+-- orders are not counted beyond 2^128 - 1
+abbrev pub at_most_orders : ℕ → ℕ
+at_most_orders orders = min orders (2 ^ 128 - 1)
+
+-- whether something is wrong with one of these outcomes
+abbrev pub any_wrong : List Outcome → Bool
+any_wrong [] = false
+any_wrong (outcome ∷ outcomes) = is_wrong outcome.flaws.items || any_wrong outcomes
 
 -- ---- all that is written
 
@@ -119,17 +125,26 @@ abbrev pub endless_text : Bool → List ℕ
 endless_text true = codes "wrong: an order comes to a state again\n\n"
 endless_text false = codes "\n"
 
--- how an exploration ends whose outcomes are written: by whether there are more states, and whether something is wrong
+-- the text of an exploration: the lines at its head, and its outcomes
+abbrev pub exploration_text : Exploration → List ℕ
+exploration_text e = (figures_text e.states (at_most_orders (orders_to e.outcomes.items)) ++ endless_text e.is_endless) ++ outcomes_text 0 e.outcomes.items
+
+-- whether something is wrong: an order comes to a state again, or something is wrong with an outcome
+abbrev pub wrong_in : Exploration → Bool
+wrong_in e = e.is_endless || any_wrong e.outcomes.items
+
+-- how an exploration ends that is written: by whether there are more states, and whether something is wrong
 abbrev pub end_of : Bool → Bool → ExploreEnd
 end_of true wrong = ends.TooManyStates
 end_of false true = ends.Wrong
 end_of false false = ends.Ended
 
--- how an exploration ends whose script does not end
-abbrev pub end_short : Short → ExploreEnd
-end_short (shorts.Fault line kind) = ends.Fault line kind
-end_short shorts.Ended = ends.NoMemory
-end_short shorts.NoMemory = ends.NoMemory
+-- how it ends where there is none
+abbrev pub end_lacking : Unexplored → ExploreEnd
+end_lacking (unexplored.Fault line kind) = ends.Fault line kind
+end_lacking unexplored.TooLong = ends.TooLong
+end_lacking unexplored.FoundTooLong = ends.FoundTooLong
+end_lacking unexplored.NoMemory = ends.NoMemory
 
 -- the text of how an exploration ended
 abbrev pub end_text : ExploreEnd → List ℕ
@@ -138,5 +153,6 @@ end_text ends.Wrong = codes "something is wrong: see the lines that begin with w
 end_text ends.TooManyStates = codes "more states than may be gone through: what was found until then is written"
 end_text (ends.Fault line kind) = codes "line " ++ (decimal line ++ (codes ": " ++ name_of_fault kind))
 end_text ends.TooLong = codes "script too long: more than 1048576 bytes"
+end_text ends.FoundTooLong = codes "the script of an outcome would be too long: more than 1048576 bytes"
 end_text ends.WriteFailed = codes "an outcome could not be written"
 end_text ends.NoMemory = codes "out of memory"

@@ -1,5 +1,5 @@
 -- What is wrong with what an order came to, by what was answered and reported.
-use Rattle.std.specs.Prelude.{ℕ, zero, suc, ◌≡◌, ◌≢◌, ◌⊎◌, ◌==◌, ◌&&◌, ◌||◌, Bool, true, false, List, [], ◌∷◌, ◌++◌, Option, Some, None, Result, Ok, Err, All, drop, length, map, slice_get, slice_index_or, nat_lt, if◌then◌else◌, not, nat_eq}
+use Rattle.std.specs.Prelude.{ℕ, zero, suc, ◌≡◌, ◌≢◌, ◌⊎◌, ◌==◌, ◌&&◌, ◌||◌, Bool, true, false, List, [], ◌∷◌, ◌++◌, Option, Some, None, Result, Ok, Err, All, drop, length, map, option_map, slice_get, slice_index_or, nat_lt, if◌then◌else◌, not, nat_eq}
 use Rattle.std.specs.List.{starts_with, ends_with}
 use Rattle.std.specs.Str.{bytes_eq}
 use Rattle.std.specs.Global.{Vec}
@@ -15,6 +15,7 @@ use Rattle.ds_eval.specs.declared.sheet.Sheet.{Sheet}
 use Rattle.ds_eval.specs.declared.value.Value.{Value}
 use Rattle.ds_layout.specs.Places.{cells_of}
 use Rattle.ds_layout.specs.SheetMemory.{memory}
+use Rattle.ds_state.specs.Edits.{PlainEditCall}
 use Rattle.ds_state.specs.Shown.{text_at}
 use Rattle.ds_state.specs.Value.{WorldValue}
 use Rattle.ds_state.specs.declared.answer.Answer.{Answer}
@@ -27,6 +28,8 @@ use Rattle.ds_state.specs.declared.recovery.RecoveryEnd.TheVariants.{Last, Nothi
 use Rattle.ds_state.specs.declared.refusal.Refusal.{Refusal}
 use Rattle.ds_state.specs.declared.show.ShowEnd.{ShowEnd}
 use Rattle.ds_state.specs.declared.show.ShowEnd.TheVariants.{Settled}
+use Rattle.ds_state.specs.declared.situation.Situation.{Situation}
+use Rattle.ds_state.specs.declared.situation.Situation.TheVariants.{Editing}
 use Rattle.ds_core.specs.Ends.{Kind, recoveries, reports}
 use Rattle.ds_core.specs.Takes.{Fits}
 use Rattle.ds_core.specs.declared.event.Event.TheVariants as events
@@ -94,6 +97,25 @@ abbrev pub Answers : List ℕ → List (List ℕ) → List ℕ → Type 0
 Answers answered texts tail = All (IsPart answered) texts × (ends_with nat_eq answered tail ≡ true)
 
 -- ---- an edit that was asked for
+
+-- an edit that a process is asked for: its number, cell and text
+pub record PlainAsked : Type 0 where
+  pub number : ℕ
+  pub cell : ℕ
+  pub text : List ℕ
+
+-- the same, without where it lies in memory
+abbrev pub plain_asked : Asked → PlainAsked
+plain_asked asked = record { number = asked.number; cell = asked.cell; text = asked.text.items }
+
+-- the edit that a call carries out
+abbrev pub asked_of : PlainEditCall → PlainAsked
+asked_of call = record { number = call.number; cell = call.cell; text = call.text }
+
+-- the edit that a process in this situation carries out, if it is in one
+abbrev pub asked_in : Situation → Option PlainAsked
+asked_in (Editing call) = Some (asked_of call)
+asked_in _ = None
 
 -- the edit that was asked of the process, if one was
 abbrev pub edit_by : Option (Option Asked) → Option Asked
@@ -320,6 +342,14 @@ pub record IsJudged (judge : Judge) (w : WorldValue) (ending : OutcomeEnding) (f
 abbrev pub EndsIn : Bool → WorldValue → WorldValue → Type 0
 EndsIn true w begun = (reply : Reply) × Fits w events.Crash reply begun
 EndsIn false w begun = begun ≡ w
+
+-- the judge knows of this world the edit that each process carries out, the texts of the cells, and those that a crash leaves
+pub record IsJudgeOf (w : WorldValue) (judge : Judge) : Type 0 where
+  pub asked : map (option_map plain_asked) judge.asked.items ≡ map asked_in w.situations
+  pub texts : texts_of judge.texts.items ≡ texts_in w
+  pub lost : WorldValue
+  pub crashes : EndsIn true w lost
+  pub crashed : texts_of judge.crashed.items ≡ texts_in lost
 
 -- what is found after an order that leaves this world and has left its processes so: what they were answered, what is
 -- reported, and what the judge finds

@@ -8,6 +8,8 @@ use Rattle.ds_explore_state.specs.Buffers.{HasEmptyBuffers}
 use Rattle.ds_explore_state.specs.Closed.{Order}
 use Rattle.ds_explore_state.specs.Following.{KnowsBuffers}
 use Rattle.ds_explore_state.specs.Orders.{IsBusy, seats_of}
+use Rattle.ds_explore_state.specs.States.{all_places, groups_of}
+use Rattle.ds_explore.specs.Judging.{IsJudgeOf}
 use Rattle.ds_explore.specs.declared.options.Options.{Options}
 use Rattle.ds_explore.specs.declared.search.Start.{Start}
 
@@ -15,11 +17,14 @@ use Rattle.ds_explore.specs.declared.search.Start.{Start}
 abbrev pub allowed_by : Options → Allowed
 allowed_by options = record { stops = options.stops; evictions = options.evictions; crashes = options.crashes }
 
--- orders begin where the script ends, with what these options ask for; what buffers hold there is known where it is nothing
+-- orders begin where the script ends, with what these options ask for; what buffers hold there is known where it is nothing.
+-- The judge knows of that world what it judges by, and the words that may be evicted are all that are followed
 pub record IsStart (script : List ℕ) (options : Options) (start : Start) : Type 0 where
   pub asked : start.options ≡ options
   pub ends : EndsHere true script (2 ^ 64 - 1) start.first.world
   pub known : HasEmptyBuffers start.first.world → KnowsBuffers start.first
+  pub judges : IsJudgeOf start.first.world start.judge
+  pub evicts : start.touched.places.items ≡ all_places (groups_of start.touched)
 
 -- an order may end at the position: with a crash, where crashes may come; without one, where no call is under way
 abbrev pub MayEnd : Options → Position → Bool → Type 0

@@ -1,14 +1,19 @@
 -- The states that an exploration went through, and what is written of the orders that end in them.
-use Rattle.std.specs.Prelude.{ℕ, suc, ◌≡◌, ◌<◌, ◌-◌, ◌^◌, ◌++◌, ◌||◌, Bool, true, false, List, [], Some, length, slice_get}
+use Rattle.std.specs.Prelude.{ℕ, ◌≡◌, ◌<◌, ◌≤◌, ◌-◌, ◌^◌, Bool, true, false, IsFalse, IsTrue, List, [], Some, length, slice_get}
 use Rattle.ds_formula.specs.Limits.{INPUT_MOST}
 use Rattle.ds_script_stops.specs.StopBlocks.{BreaksBefore}
+use Rattle.ds_script_stops.specs.declared.reach.Short.{Short}
+use Rattle.ds_script_stops.specs.declared.reach.Short.TheVariants as shorts
 use Rattle.ds_explore_state.specs.declared.states.States.{States}
 use Rattle.ds_explore_state.specs.States.{groups_of}
-use Rattle.ds_explore_state.specs.Closed.{AreAll, Order, OrdersAreWritten}
+use Rattle.ds_explore_state.specs.Closed.{AreAll, Order, OrdersAreWritten, keys_of}
 use Rattle.ds_explore_state.specs.Following.{KnowsBuffers}
 use Rattle.ds_explore_state.specs.declared.position.Move.{Move}
 use Rattle.ds_explore_state.specs.declared.position.Position.{Position}
 use Rattle.ds_explore.specs.declared.judge.Judge.{Judge}
+use Rattle.ds_explore.specs.declared.exploration.Exploration.{Exploration}
+use Rattle.ds_explore.specs.declared.exploration.Unexplored.{Unexplored}
+use Rattle.ds_explore.specs.declared.exploration.Unexplored.TheVariants as unexplored
 use Rattle.ds_explore.specs.declared.explore.ExploreEnd.{ExploreEnd}
 use Rattle.ds_explore.specs.declared.explore.ExploreEnd.TheVariants as ends
 use Rattle.ds_explore.specs.declared.options.Options.{Options}
@@ -16,7 +21,7 @@ use Rattle.ds_explore.specs.declared.outcomes.Finding.{Finding}
 use Rattle.ds_explore.specs.declared.search.Start.{Start}
 use Rattle.ds_explore.specs.Judging.{ComesTo}
 use Rattle.ds_explore.specs.Starts.{IsStart, allowed_by}
-use Rattle.ds_explore.specs.Explored.{AreOutcomes, endless_text, figures_text, key_text}
+use Rattle.ds_explore.specs.Explored.{AreOutcomes, exploration_text, key_text, wrong_in}
 
 -- what an order comes to that ends at a position, with a crash there or without one, is one of the outcomes with these keys
 pub record IsAmong (judge : Judge) (keys : List (List ℕ)) (x : Position) (crashed : Bool) : Type 0 where
@@ -37,41 +42,56 @@ abbrev pub EveryOrderIsWritten : Start → List (List ℕ) → States → Type 0
 EveryOrderIsWritten start keys states = KnowsBuffers start.first → (moves : List Move) (y : Position) → Order (allowed_by start.options) start.touched.places.items start.first moves y
     → OrdersAreWritten states (groups_of start.touched) (IsAmong start.judge keys) (allowed_by start.options) start.touched.places.items start.first y
 
--- all orders from this start were gone through: the states that were found are all, and the outcomes with these keys are all
-pub record GoesThrough (start : Start) (keys : List (List ℕ)) : Type 0 where
+-- all orders from this start were gone through: the states that were found, as many as this, are all, and the outcomes with
+-- these keys are all
+pub record GoesThrough (start : Start) (keys : List (List ℕ)) (count : ℕ) : Type 0 where
   pub states : States
   pub all : HasAll start keys states
   pub orders : EveryOrderIsWritten start keys states
+  pub counted : count ≡ length (keys_of states)
+
+-- ---- explorations
+
+-- an exploration of the script: outcomes, no two the same, of orders that begin where the script ends; where it is not cut,
+-- these are the outcomes of all orders; else there were as many states as may be gone through
+pub record IsExploration (script : List ℕ) (options : Options) (exploration : Exploration) : Type 0 where
+  pub start : Start
+  pub begins : IsStart script options start
+  pub keys : List (List ℕ)
+  pub outcomes : AreOutcomes script start keys exploration.outcomes.items
+  pub through : IsFalse exploration.is_cut → GoesThrough start keys exploration.states
+  pub cut : IsTrue exploration.is_cut → options.most ≤ exploration.states
+
+-- why there is no exploration, where the script does not end
+abbrev pub lacks_by : Short → Unexplored
+lacks_by (shorts.Fault line kind) = unexplored.Fault line kind
+lacks_by shorts.Ended = unexplored.NoMemory
+lacks_by shorts.NoMemory = unexplored.NoMemory
+
+-- there is no exploration: the script has a fault, or is too long; or one that was found is, or memory lacks
+abbrev pub LacksExploration : List ℕ → Unexplored → Type 0
+LacksExploration script (unexplored.Fault line kind) = BreaksBefore true script (2 ^ 64 - 1) line kind
+LacksExploration script unexplored.TooLong = INPUT_MOST < length script
+LacksExploration script unexplored.FoundTooLong = Unit {0}
+LacksExploration script unexplored.NoMemory = Unit {0}
 
 -- ---- all that is written
 
--- the figures, and at least one outcome after them, no two the same, of orders that begin where the script ends; whether
--- something is wrong. There are as many orders as lead to the outcomes
-pub record WritesAll (script : List ℕ) (options : Options) (wrong : Bool) (out : List ℕ) : Type 0 where
-  pub start : Start
-  pub begins : IsStart script options start
-  pub states : ℕ
-  pub orders : ℕ
-  pub endless : Bool
-  pub flawed : Bool
-  pub more : ℕ
-  pub keys : List (List ℕ)
-  pub text : List ℕ
-  pub outcomes : AreOutcomes script start (suc more) orders flawed keys text
-  pub is_wrong : wrong ≡ (endless || flawed)
-  pub is : out ≡ (figures_text states orders ++ endless_text endless) ++ text
-
--- the same, and these are the outcomes of all orders
-pub record WritesWhole (script : List ℕ) (options : Options) (wrong : Bool) (out : List ℕ) : Type 0 where
-  pub writes : WritesAll script options wrong out
-  pub through : GoesThrough writes.start writes.keys
+-- the text of an exploration of the script, by whether it is cut, and whether something is wrong
+pub record Writes (script : List ℕ) (options : Options) (cut wrong : Bool) (out : List ℕ) : Type 0 where
+  pub exploration : Exploration
+  pub explores : IsExploration script options exploration
+  pub is_cut : exploration.is_cut ≡ cut
+  pub is_wrong : wrong_in exploration ≡ wrong
+  pub is : out ≡ exploration_text exploration
 
 -- what is written for a script and these options, by how its exploration ends
 abbrev pub Explores : List ℕ → Options → List ℕ → ExploreEnd → Type 0
-Explores script options out ends.Ended = WritesWhole script options false out
-Explores script options out ends.Wrong = WritesWhole script options true out
-Explores script options out ends.TooManyStates = (wrong : Bool) × WritesAll script options wrong out
+Explores script options out ends.Ended = Writes script options false false out
+Explores script options out ends.Wrong = Writes script options false true out
+Explores script options out ends.TooManyStates = (wrong : Bool) × Writes script options true wrong out
 Explores script options out (ends.Fault line kind) = (out ≡ []) × BreaksBefore true script (2 ^ 64 - 1) line kind
 Explores script options out ends.TooLong = (out ≡ []) × (INPUT_MOST < length script)
+Explores script options out ends.FoundTooLong = out ≡ []
 Explores script options out ends.NoMemory = out ≡ []
 Explores script options out ends.WriteFailed = Unit {0}

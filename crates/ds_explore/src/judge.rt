@@ -1,14 +1,13 @@
 //! Whether an outcome is one that may be.
 
-ghost use Rattle.std.specs.Prelude.{◌≡◌, ◌≢◌, ◌++◌, List, IfOk, IsFalse, IsTrue, OnOk, length, option_copied};
-ghost use Rattle.ds_explore.specs.Judging.{AddsValueFlaws, AreContents, FitsValue, Holds, IsEvaluated, IsJudged, JudgesReport, JudgesValues, answer_at, any_below, edit_at, flaws_below, has_text, is_contradicted, is_done, is_done_at, is_done_in, is_done_with, is_overtaken_by_none, is_refused, is_reported_done, is_reported_otherwise, is_reported_twice, is_text, is_undone, may_hold, process_flaw, same_bool, same_end, settle_flaw, recovery_at, text_flaw, texts_in, texts_of};
+ghost use Rattle.std.specs.Prelude.{◌≡◌, ◌≢◌, ◌++◌, List, IfOk, IsFalse, IsTrue, OnOk, length, map, option_copied, option_map, true};
+ghost use Rattle.ds_explore.specs.Judging.{AddsValueFlaws, AreContents, EndsIn, FitsValue, Holds, IsEvaluated, IsJudgeOf, IsJudged, JudgesReport, JudgesValues, answer_at, any_below, asked_in, asked_of, edit_at, flaws_below, has_text, is_contradicted, is_done, is_done_at, is_done_in, is_done_with, is_overtaken_by_none, is_refused, is_reported_done, is_reported_otherwise, is_reported_twice, is_text, is_undone, may_hold, plain_asked, process_flaw, same_bool, same_end, settle_flaw, recovery_at, text_flaw, texts_in, texts_of};
 ghost use Rattle.ds_explore.specs.declared.flaw.Flaw.{Flaw};
+ghost use Rattle.ds_state.specs.Value.{WorldValue};
 
-use crate::ends::{OutcomeEnding, values};
+use crate::ends::{OutcomeEnding, end_order, values};
 use crate::flaw::{Flaw, add};
 use ds_calls::settle::SettleEnd;
-use ds_core::event::Event;
-use ds_core::take::take;
 use ds_eval::scratch::scratch;
 use ds_eval::sheet::Sheet;
 use ds_eval::value::Value;
@@ -17,6 +16,7 @@ use ds_formula::content::Content;
 use ds_formula::fault::FaultKind;
 use ds_formula::reading::read_content;
 use ds_state::answer::{Answer, EditEnd};
+use ds_state::edit::EditCall;
 use ds_state::recovery::{LastEdit, RecoveryEnd};
 use ds_state::refusal::Refusal;
 use ds_state::show::ShowEnd;
@@ -56,29 +56,42 @@ fn texts(alloc: Global, world: &World) -> Result<Vec<Vec<u8>>, AllocError>
 }
 
 // The texts of the cells after a crash of a copy of the world.
-fn crashed_texts(alloc: Global, world: &World) -> Result<Vec<Vec<u8>>, AllocError> {
+fn crashed_texts(alloc: Global, world: &World) -> Result<Vec<Vec<u8>>, AllocError>
+    ensures { IfOk result (λ texts. (lost : WorldValue) × EndsIn true world.now lost × (texts_of texts.items ≡ texts_in lost)) }
+{
     let mut copy = world.copy(alloc)?;
-    let _crashed = take(alloc, &mut copy, &Event::Crash);
+    end_order(alloc, &mut copy, true);
     texts(alloc, &copy)
 }
 
-// The edit of a situation.
-fn edit_of(alloc: Global, situation: &Situation) -> Result<Option<Asked>, AllocError> {
+// The edit that a call carries out.
+fn asked_by(alloc: Global, call: &EditCall) -> Result<Asked, AllocError>
+    ensures { IfOk result (λ asked. plain_asked asked ≡ asked_of call.now) }
+{
+    Ok(Asked {
+        number: call.number,
+        cell: call.cell,
+        text: Vec::from_slice(alloc, call.text.as_slice())?,
+    })
+}
+
+// The edit that a process in this situation carries out, if it is in one.
+fn edit_of(alloc: Global, situation: &Situation) -> Result<Option<Asked>, AllocError>
+    ensures { IfOk result (λ asked. option_map plain_asked asked ≡ asked_in situation.now) }
+{
     match situation {
-        Situation::Editing(call) => Ok(Some(Asked {
-            number: call.number,
-            cell: call.cell,
-            text: Vec::from_slice(alloc, call.text.as_slice())?,
-        })),
+        Situation::Editing(call) => Ok(Some(asked_by(alloc, call)?)),
         _ => Ok(None),
     }
 }
 
 // The edits under way.
-fn all_asked(alloc: Global, world: &World) -> Result<Vec<Option<Asked>>, AllocError> {
+fn all_asked(alloc: Global, situations: &[Situation]) -> Result<Vec<Option<Asked>>, AllocError>
+    ensures { IfOk result (λ all. map (option_map plain_asked) all.items ≡ map asked_in situations.now) }
+{
     let mut all = Vec::new(alloc);
-    for situation in &world.situations {
-        all.push(edit_of(alloc, situation)?)?;
+    for number in 0..situations.len() {
+        all.push(edit_of(alloc, &situations[number])?)?;
     }
     Ok(all)
 }
@@ -241,9 +254,11 @@ fn settle_flaw(left: SettleEnd) -> Option<Flaw>
 }
 
 impl Judge {
-    /// The judge of orders that begin in this world.
-    pub(crate) fn new(alloc: Global, world: &World) -> Result<Judge, AllocError> {
-        let asked = all_asked(alloc, world)?;
+    /// The judge of orders that begin in this world. An error means that an allocation failed.
+    pub(crate) fn new(alloc: Global, world: &World) -> Result<Judge, AllocError>
+        ensures { IfOk result (IsJudgeOf world.now) }
+    {
+        let asked = all_asked(alloc, &world.situations)?;
         let now = texts(alloc, world)?;
         let crashed = crashed_texts(alloc, world)?;
         Ok(Judge {

@@ -1,8 +1,10 @@
 //! Goes through all orders.
 
-ghost use Rattle.std.specs.Prelude.{◌≡◌, ◌-◌, ◌^◌, true, IfErr, IfOk, IsTrue};
+ghost use Rattle.std.specs.Prelude.{◌≡◌, ◌-◌, ◌^◌, true, IfErr, IfOk, IsTrue, length};
 ghost use Rattle.ds_script_stops.specs.Reaching.{MeetsFault};
-ghost use Rattle.ds_explore.specs.Judging.{texts_of};
+ghost use Rattle.ds_explore.specs.Judging.{IsJudgeOf, texts_of};
+ghost use Rattle.ds_explore_state.specs.Closed.{keys_of};
+ghost use Rattle.ds_explore_state.specs.States.{all_places, groups_of};
 ghost use Rattle.ds_explore_state.specs.Following.{KnowsBuffers};
 ghost use Rattle.ds_explore_state.specs.Orders.{seats_of};
 ghost use Rattle.ds_explore_state.specs.Buffers.{HasEmptyBuffers};
@@ -131,7 +133,10 @@ fn moves(alloc: Global, processes: usize, touched: &Touched) -> Result<Vec<Move>
 }
 
 // The words that orders may touch, what may happen in them, and who judges them.
-fn prepared(alloc: Global, world: &World) -> Result<(Touched, Vec<Move>, Judge), AllocError> {
+fn prepared(alloc: Global, world: &World) -> Result<(Touched, Vec<Move>, Judge), AllocError>
+    ensures evicts { IfOk result (λ made. made.0.places.items ≡ all_places (groups_of made.0)) }
+    ensures judges { IfOk result (λ made. IsJudgeOf world.now made.2) }
+{
     let judge = Judge::new(alloc, world)?;
     let touched = Touched::of(alloc, world)?;
     let moves = moves(alloc, world.words.layout().processes, &touched)?;
@@ -143,6 +148,8 @@ impl Start {
     fn of(alloc: Global, first: Position, options: Options) -> Result<Start, AllocError>
         ensures options { IfOk result (λ start. start.options ≡ options) }
         ensures first { IfOk result (λ start. start.first ≡ first) }
+        ensures judges { IfOk result (λ start. IsJudgeOf first.world start.judge) }
+        ensures evicts { IfOk result (λ start. start.touched.places.items ≡ all_places (groups_of start.touched)) }
     {
         let (touched, moves, judge) = prepared(alloc, &first.world)?;
         Ok(Start {
@@ -159,6 +166,8 @@ impl Start {
         ensures options { IfOk result (λ start. start.options ≡ options) }
         ensures first { IfOk result (λ start. start.first.world ≡ world) }
         ensures known { IfOk result (λ start. HasEmptyBuffers world → KnowsBuffers start.first) }
+        ensures judges { IfOk result (λ start. IsJudgeOf start.first.world start.judge) }
+        ensures evicts { IfOk result (λ start. start.touched.places.items ≡ all_places (groups_of start.touched)) }
     {
         let first = Position::new(alloc, world)?;
         Start::of(alloc, first, options)
@@ -507,8 +516,10 @@ impl Search {
     }
 
     /// How many states were found.
-    pub(crate) fn states(&self) -> usize {
-        self.left.len()
+    pub(crate) fn states(&self) -> usize
+        ensures { result ≡ length (keys_of self.now.found) }
+    {
+        self.found.len()
     }
 
     /// Whether the states that were found are all, and the outcomes with these keys, too: whether nothing that may happen

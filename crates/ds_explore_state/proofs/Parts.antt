@@ -1,6 +1,7 @@
 -- Words at places, and keys of parts.
 use Rattle.std.proofs.Common.{◌&&◌, arith, ℕ, suc, zero, ◌+◌, ◌≡◌, ◌<◌, ◌∙◌, add-one, List, [], ◌∷◌, ◌++◌, length, map, take, get_or, Bool, true, false, Some, refl, sym, ap, subst, append_assoc, if◌then◌else◌}
-use Rattle.std.proofs.lemmas.List.{length_push, map_more, map_push, same_from_push}
+use Rattle.std.proofs.lemmas.List.{append-nil, length_push, map_more, map_push, same_from_push}
+use Rattle.std.specs.Global.{Vec}
 use Rattle.std.specs.Prelude.{slice_get}
 use Rattle.std.specs.List.{AllByRecursion}
 use mathlib.Core.Logic.{dite}
@@ -14,7 +15,7 @@ use Rattle.ds_layout.specs.SheetMemory.{is_place, side_at}
 use Rattle.ds_layout.proofs.Sheet.{IsPlace-is_place}
 use Rattle.ds_explore_state.specs.declared.part.Part.{Part}
 use Rattle.ds_explore_state.specs.declared.position.Position.{Position}
-use Rattle.ds_explore_state.specs.States.{PlainPart, Words, IsKey, KeepsNumbers, SameState, parts_below, plain_part, plain_parts, process_in, state_of, word_in, words_by}
+use Rattle.ds_explore_state.specs.States.{PlainPart, Words, IsKey, KeepsNumbers, SameState, all_places, parts_below, plain_part, plain_parts, process_in, state_of, word_in, words_by}
 
 zero_where : (b : Bool) (n : ℕ) → (b ≡ true → ⊥) → (if b then n else 0) ≡ 0
 zero_where true n h = absurd (h refl)
@@ -146,3 +147,17 @@ key_at old new key more n parts i part low at keeps is there e =
     subst (λ (k : List ℕ). IsKey new k (plain_parts (take (i + 1) parts))) (sym e)
     (subst (λ (s : List PlainPart). IsKey new (key ++ n ∷ []) s) (ap (λ (p : Part). plain_parts (take i parts) ++ plain_part p ∷ []) at ∙ sym (map_more plain_part parts i part low))
     (key_more old new key (plain_parts (take i parts)) n (plain_part part) keeps is there))
+
+-- ---- the places of groups
+
+-- groups before another one
+pub places_push : (groups : List (List Place)) (group : List Place) → all_places (groups ++ group ∷ []) ≡ all_places groups ++ group
+places_push [] group = append-nil group
+places_push (first ∷ groups) group = ap (λ (l : List Place). first ++ l) (places_push groups group) ∙ sym (append_assoc first (all_places groups) group)
+
+-- the places of one group more
+pub places_more : (groups : List (Vec Place)) (n : ℕ) (group : Vec Place) (more old new : List Place) → n < length groups → group ≡ get_or groups n group → more ≡ group.items → old ≡ all_places (map (λ g. g.items) (take n groups)) → new ≡ old ++ more
+    → new ≡ all_places (map (λ g. g.items) (take (n + 1) groups))
+places_more groups n group more old new low at is before e =
+    e ∙ ap (λ (l : List Place). old ++ l) is ∙ ap (λ (l : List Place). l ++ group.items) before ∙ sym (places_push (map (λ g. g.items) (take n groups)) group.items)
+    ∙ ap (λ (g : Vec Place). all_places (map (λ g. g.items) (take n groups) ++ g.items ∷ [])) at ∙ ap (λ (l : List (List Place)). all_places l) (sym (map_more (λ (g : Vec Place). g.items) groups n group low))

@@ -51,6 +51,11 @@ lost_in w place = record { cached = (memory w.sheet).persisted place; persisted 
 abbrev pub groups_of : Touched → List (List Place)
 groups_of touched = map (λ group. group.items) touched.groups.items
 
+-- all places of groups, one group after the other
+abbrev pub all_places : List (List Place) → List Place
+all_places [] = []
+all_places (group ∷ groups) = group ++ all_places groups
+
 -- the words of each group, where a place has this one
 abbrev pub words_by : (Place → Word) → List (List Place) → List PlainPart
 words_by word groups = map (λ group. Words (map word group)) groups

@@ -1,9 +1,9 @@
 //! The words that calls under way may touch.
 
-ghost use Rattle.std.specs.Prelude.{◌≢◌, IsTrue};
+ghost use Rattle.std.specs.Prelude.{◌≡◌, ◌≢◌, IfOk, IsTrue, map};
 ghost use Rattle.std.specs.List.{AllByRecursion};
 ghost use Rattle.ds_explore_state.specs.Following.{IsOff, IsWithin};
-ghost use Rattle.ds_explore_state.specs.States.{groups_of};
+ghost use Rattle.ds_explore_state.specs.States.{all_places, groups_of};
 
 use ds_layout::layout::Layout;
 use ds_layout::place::{DONE_PARTS, Edition, Place, RECORDS};
@@ -148,8 +148,10 @@ fn of_process(
 }
 
 impl Touched {
-    /// The words of this world.
-    pub fn of(alloc: Global, world: &World) -> Result<Touched, AllocError> {
+    /// The words of this world. An error means that an allocation failed.
+    pub fn of(alloc: Global, world: &World) -> Result<Touched, AllocError>
+        ensures { IfOk result (λ touched. touched.places.items ≡ all_places (groups_of touched)) }
+    {
         let layout = world.words.layout();
         let editions = editions_of(alloc, world)?;
         let mut groups = vec![in alloc; vec![in alloc; Place::Version]?]?;
@@ -199,10 +201,12 @@ fn is_in(group: &[Place], place: Place) -> bool
 }
 
 // The places of all groups.
-fn all(alloc: Global, groups: &[Vec<Place>]) -> Result<Vec<Place>, AllocError> {
+fn all(alloc: Global, groups: &[Vec<Place>]) -> Result<Vec<Place>, AllocError>
+    ensures { IfOk result (λ places. places.items ≡ all_places (map (λ group. group.items) groups.now)) }
+{
     let mut places = Vec::new(alloc);
-    for group in groups {
-        places.extend_from_slice(group)?;
+    for number in 0..groups.len() {
+        places.extend_from_slice(&groups[number])?;
     }
     Ok(places)
 }

@@ -16,6 +16,8 @@ fn status_of_refusal(why: CallRefusal) -> StatusCode
 {
     match why {
         CallRefusal::ProcessTaken | CallRefusal::Stopped => StatusCode::SERVICE_UNAVAILABLE,
+        CallRefusal::NoEdit => StatusCode::CONFLICT,
+        CallRefusal::NoHistory => StatusCode::NOT_IMPLEMENTED,
         CallRefusal::Text(_) => StatusCode::UNPROCESSABLE_ENTITY,
         CallRefusal::RecordsFull => StatusCode::INSUFFICIENT_STORAGE,
         CallRefusal::NoMemory => StatusCode::INTERNAL_SERVER_ERROR,
@@ -47,7 +49,9 @@ pub(crate) fn status_of(response: &Response) -> StatusCode
         | Response::JoinedLost(_, _)
         | Response::Done(_)
         | Response::Settled(_)
-        | Response::Tells(_) => StatusCode::OK,
+        | Response::Tells(_)
+        | Response::GotCell(_, _, _)
+        | Response::Listed(_, _) => StatusCode::OK,
         Response::Overtaken(_, _) => StatusCode::CONFLICT,
         Response::Unsettled(_, _) => StatusCode::SERVICE_UNAVAILABLE,
         Response::Refused(why) => status_of_refusal(*why),

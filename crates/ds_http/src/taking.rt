@@ -15,6 +15,8 @@ fn is_taken(why: CallRefusal) -> bool
         CallRefusal::Text(_)
         | CallRefusal::Stopped
         | CallRefusal::RecordsFull
+        | CallRefusal::NoEdit
+        | CallRefusal::NoHistory
         | CallRefusal::NoMemory => false,
     }
 }

@@ -1,11 +1,14 @@
 //! A server goes over to a new sheet.
 
-ghost use Rattle.std.specs.Prelude.{IfOk};
+ghost use Rattle.std.specs.Prelude.{IfOk, map};
+ghost use Rattle.ds_server.specs.Replies.{entry_view};
 ghost use Rattle.ds_net_desks.specs.SeatsOfStores.{AreSeatsOf};
 
+use ds_net_desks::listing::listed_in;
 use ds_net_desks::numbered_seat::{NumberedSeat, seats_of};
 use ds_net_desks::seat_pool::SeatPool;
 use ds_net_floor::keeping::Keeping;
+use ds_server::desk::ListedEdit;
 use ds_shared_seats::sheet::OpenSheet;
 use ds_store::fault::StoreFault;
 use ds_store::store::Store;
@@ -21,20 +24,32 @@ pub(crate) struct ServedSheet<'a> {
     epoch: u64,
 }
 
-// The store goes over to a new sheet, the one of this epoch: that sheet, and the seats of its processes that may be joined.
-// Nobody edits meanwhile.
+// A sheet to which a store has gone over: the seats of its processes that may be joined, and its edits that count.
+#[derive(Drop)]
+struct NextSheet {
+    sheet: OpenSheet,
+    seats: Vec<NumberedSeat>,
+    edits: Vec<ListedEdit>,
+}
+
+// The store goes over to a new sheet, the one of this epoch. Nobody edits meanwhile.
 fn next_sheet<S: Alter + Drop>(
     alloc: Global,
     store: &mut Store<S>,
     epoch: u64,
-) -> Result<(OpenSheet, Vec<NumberedSeat>), StoreFault>
-    ensures { IfOk result (λ next. AreSeatsOf store.new.layout store.new.joins store.new.counts.counts.items store.new.sums epoch next.1.items) }
+) -> Result<NextSheet, StoreFault>
+    ensures { IfOk result (λ next. AreSeatsOf store.new.layout store.new.joins store.new.counts.counts.items store.new.sums epoch next.seats.items (map entry_view next.edits.items)) }
 {
     let held = store.lines(alloc)?;
     let next = store.go_over(alloc, &held)?;
     let (sheet, seats) = next.sheet.into_parts();
     let seats = seats_of(alloc, store, &next.lines, seats, epoch)?;
-    Ok((sheet, seats))
+    let edits = listed_in(alloc, &store.layout(), store.joins(), &next.lines)?;
+    Ok(NextSheet {
+        sheet,
+        seats,
+        edits,
+    })
 }
 
 impl<'a> ServedSheet<'a> {
@@ -63,8 +78,13 @@ impl<'a> ServedSheet<'a> {
             backlog.keep(&committed);
         }
         let epoch = self.epoch.saturating_add(1);
-        let (sheet, seats) = next_sheet(alloc, store, epoch)?;
+        let NextSheet {
+            sheet,
+            seats,
+            edits,
+        } = next_sheet(alloc, store, epoch)?;
         self.pool.go_over(rt, seats, epoch);
+        backlog.go_over(edits, store.joins());
         self.sheet = sheet;
         self.epoch = epoch;
         keeping.wake_all();

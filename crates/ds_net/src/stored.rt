@@ -1,6 +1,9 @@
 //! A server of an open store: sessions in threads beside the keeper, which keeps what they have done.
 
-ghost use Rattle.std.specs.Prelude.{◌≡◌, IfErr, IfOk, IfSome};
+ghost use Rattle.std.specs.Prelude.{◌≡◌, IfErr, IfOk, IfSome, map};
+ghost use Rattle.std.specs.String.{string_bytes};
+ghost use Rattle.ds_server.specs.Replies.{entry_view};
+ghost use Rattle.ds_net_desks.specs.Listings.{listed_in};
 ghost use Rattle.ds_net_connections.specs.Accepting.{IsLasting, IsServed, IsStoredLasting};
 
 use crate::going_over::ServedSheet;
@@ -8,6 +11,7 @@ use crate::keeper::{Attendant, keep};
 use ds_net_connections::counts::Taken;
 use ds_net_connections::entrance::Entrances;
 use ds_net_connections::serving::{ServeError, Service, serve_floor};
+use ds_net_desks::listing::listed_in;
 use ds_net_desks::numbered_seat::seats_of;
 use ds_net_desks::seat_pool::SeatPool;
 use ds_net_desks::stored_floor::StoredFloor;
@@ -15,6 +19,7 @@ use ds_net_floor::door::Door;
 use ds_net_floor::floor::Floor;
 use ds_net_floor::keeping::{Drained, Keeping};
 use ds_order::known::KnownReferences;
+use ds_server::desk::ListedEdit;
 use ds_shared_seats::sheet::OpenSheet;
 use ds_store::seated::SeatedSheet;
 use ds_store::store::{Opened, Store};
@@ -165,12 +170,13 @@ fn references(alloc: Global, sheet: &SeatedSheet, lines: &[String]) -> Option<Kn
     Some(references)
 }
 
-// The sheet of a store, the pool of its seats, and what is known of its references.
+// The sheet of a store, the pool of its seats, what is known of its references, and its edits that count.
 #[derive(Drop)]
 struct OpenedSheet {
     sheet: OpenSheet,
     pool: SeatPool,
     references: KnownReferences,
+    edits: Vec<ListedEdit>,
 }
 
 // So of the sheet that the store's edits have made. None where an allocation fails.
@@ -180,8 +186,13 @@ fn opened_with<S: Alter + Drop, R: Wait>(
     store: &Store<S>,
     sheet: SeatedSheet,
     lines: &[String],
-) -> Option<OpenedSheet> {
+) -> Option<OpenedSheet>
+    ensures { IfSome result (λ opened. map entry_view opened.edits.items ≡ listed_in store.now.layout store.now.joins (map string_bytes lines.now)) }
+{
     let references = references(alloc, &sheet, lines)?;
+    let Ok(edits) = listed_in(alloc, &store.layout(), store.joins(), lines) else {
+        return None;
+    };
     let (sheet, seats) = sheet.into_parts();
     let seats = seats_of(alloc, store, lines, seats, 0).ok()?;
     let pool = SeatPool::new(rt, alloc, seats).ok()?;
@@ -189,6 +200,7 @@ fn opened_with<S: Alter + Drop, R: Wait>(
         sheet,
         pool,
         references,
+        edits,
     })
 }
 
@@ -221,6 +233,7 @@ pub fn serve<S: Alter + Drop, T: Attendant, R: Threads + Wait + Clock + Log + Sy
             sheet,
             pool,
             references,
+            edits,
         },
     ) = opened_with(rt, alloc, &store, sheet, &lines)
     else {
@@ -228,7 +241,7 @@ pub fn serve<S: Alter + Drop, T: Attendant, R: Threads + Wait + Clock + Log + Sy
     };
     drop(lines);
     let mut served_sheet = ServedSheet::new(sheet, &pool);
-    let keeping = Keeping::new(alloc);
+    let keeping = Keeping::new(alloc, edits, store.joins());
     let floor = StoredFloor::new(&references, &pool, service.workers, token, &keeping);
     let ended = serve_beside(
         rt,

@@ -7,6 +7,7 @@ use crate::watching::Watching;
 use ds_batch::run::no_memory;
 use ds_batch::status::STREAM_FAILED;
 use ds_batch::token::{bytes_of, read_token};
+use ds_cli::addresses::Addresses;
 use ds_cli::serving::Serving;
 use ds_layout::layout::Layout;
 use ds_net::keeper::Attendant;
@@ -76,35 +77,21 @@ fn bound<R: Eprint + Net<Stream = TcpStream, Listener = TcpListener>>(
     }
 }
 
-// Where it listens for HTTP, if it does. An error is as above.
-fn bound_http<R: Eprint + Net<Stream = TcpStream, Listener = TcpListener>>(
-    rt: &R,
-    http: Option<SocketAddr>,
-    keys: RandomState,
-) -> Result<Option<Entrance>, u8> {
-    let Some(http) = http else {
-        return Ok(None);
-    };
-    match bound(rt, http, Protocol::Http(keys)) {
-        Ok(entrance) => Ok(Some(entrance)),
-        Err(status) => Err(status),
-    }
-}
-
 // Where it listens. An error is as above.
 fn entrances<R: Eprint + Net<Stream = TcpStream, Listener = TcpListener>>(
     rt: &R,
     serving: Serving<'_>,
     keys: RandomState,
 ) -> Result<Entrances, u8> {
-    let first = match bound(rt, serving.listen, Protocol::Lines) {
-        Ok(first) => first,
-        Err(status) => return Err(status),
+    let (first, beside) = match serving.addresses {
+        Addresses::Lines(lines) => (bound(rt, lines, Protocol::Lines)?, None),
+        Addresses::Http(http) => (bound(rt, http, Protocol::Http(keys))?, None),
+        Addresses::Both { lines, http } => {
+            let first = bound(rt, lines, Protocol::Lines)?;
+            (first, Some(bound(rt, http, Protocol::Http(keys))?))
+        }
     };
-    match bound_http(rt, serving.http, keys) {
-        Ok(beside) => Ok(Entrances { first, beside }),
-        Err(status) => Err(status),
-    }
+    Ok(Entrances { first, beside })
 }
 
 // What the server is to be beside its sheet.
@@ -212,7 +199,7 @@ pub fn serve<
         &mut listening,
     );
     let taken = served.map(|end| end.taken);
-    ended(rt, serving.listen, IN_MEMORY, &taken)
+    ended(rt, serving.addresses.first(), IN_MEMORY, &taken)
 }
 
 // How a server whose store lies in a file has ended, with its store.
@@ -310,7 +297,7 @@ pub fn serve_store<
         is_lost,
     } = serve_kept(rt, &entrances, opened, serving, bytes_of(&token), path);
     let taken = served.map(|end| end.taken);
-    match ended(rt, serving.listen, path, &taken) {
+    match ended(rt, serving.addresses.first(), path, &taken) {
         0 if is_lost => {
             let _reported = eprintln!(rt;
                 "dsheet: {path}: it was removed or replaced while it was served"

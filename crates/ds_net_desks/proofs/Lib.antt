@@ -1,2 +1,4 @@
 pub mod Crossing
+mod Listed
+mod Reading
 mod Sharing

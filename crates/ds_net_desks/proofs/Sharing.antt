@@ -31,7 +31,7 @@ use Rattle.ds_state.specs.declared.answer.EditEnd.{EditEnd}
 use Rattle.ds_net_desks.specs.declared.numbering.Numbering.{Numbering}
 use Rattle.ds_net_desks.specs.Counting.{seen_by}
 use Rattle.ds_net_desks.specs.StoredDesks.{Heard, StoredSet}
-use Rattle.ds_net_desks.specs.SharedDesks.{BreaksOff, FitsCause, HasReported, HasSet, HasWorked, STEPS_MOST, goes_on, last_said, report_said, rests, set_said, sheet_of}
+use Rattle.ds_net_desks.specs.SharedDesks.{BreaksOff, FitsCause, HasRecovered, HasReported, HasSet, HasWorked, STEPS_MOST, goes_on, last_said, report_said, rests, set_said, sheet_of}
 
 -- one work more, or none
 pub one_more : (s : SharedSheet) (first seat new : Seat) (cell : Cell) (r : Result (Ended WorkEnd) Fault) → HasWorked s first seat → IsSeatOf s seat
@@ -109,7 +109,7 @@ few : (n : ℕ) → n ≤ 1024 → n * (3 * n + 30) + 23 < STEPS_MOST
 few n low = let a : n * (3 * n + 30) ≤ 1024 * (3 * n + 30) = mul-le-mul_right (3 * n + 30) low in omega (arith, low, a)
 
 -- so it is answered
-pub recovery_is_answered : (s : SharedSheet) (old new : Pass) (how : Ended RecoveryEnd) (why : CallRefusal) → Recovers s STEPS_MOST old new how → last_said how ≡ Refused why → ⊥
+recovery_is_answered : (s : SharedSheet) (old new : Pass) (how : Ended RecoveryEnd) (why : CallRefusal) → Recovers s STEPS_MOST old new how → last_said how ≡ Refused why → ⊥
 recovery_is_answered s old new (Answered (recovery_ends.Last edit)) why h is = cc
 recovery_is_answered s old new (Answered recovery_ends.Nothing) why h is = cc
 recovery_is_answered s old new (ended.Refused cause) why h is = h.refused
@@ -117,6 +117,10 @@ recovery_is_answered s old new Stopped why h is =
     let n = cells_of s.board.layout in
     let low : n ≤ 1024 = s.board.layout.shape.within.cells_to_1024 in
     omega (arith, h.goes.steps, h.goes.all, h.short, few n low)
+
+-- so it tells what the last edit was
+pub recovered_tells : (seat new : Seat) (why : CallRefusal) → HasRecovered seat (Refused why) new → ⊥
+recovered_tells seat new why h = recovery_is_answered (sheet_of seat) seat.pass new.pass h.how why h.recovers (sym h.says)
 
 -- an edit leaves the process of a seat
 pub set_process : (seat new : Seat) (cell : Cell) (text : List ℕ) (what : Said) → HasSet seat cell text what new → new.pass.process ≡ seat.pass.process

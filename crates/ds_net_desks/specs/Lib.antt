@@ -1,5 +1,7 @@
+pub mod CellQuestions
 pub mod Counting
 pub mod DeskSeats
+pub mod Listings
 pub mod NumberedSeats
 pub mod Numberings
 pub mod PoolSizes

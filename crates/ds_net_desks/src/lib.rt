@@ -1,6 +1,8 @@
 //! Sheets that threads share, with a store of their edits: as the desk of one session, and as a floor.
 #![tactic(auto)]
 
+mod cell_question;
+pub mod listing;
 pub mod numbered_seat;
 pub mod numbering;
 pub mod seat_pool;

@@ -29,7 +29,7 @@ pub struct NumberedSeat {
 }
 
 // The number by which clients know this edit of the process.
-fn number_seen(numberings: &[Numbering], process: usize, number: usize) -> usize
+pub(crate) fn number_seen(numberings: &[Numbering], process: usize, number: usize) -> usize
     ensures { result ≡ number_seen numberings.now process number }
 {
     match numberings.get(process) {

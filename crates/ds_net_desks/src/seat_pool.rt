@@ -1,6 +1,6 @@
 //! The numbered seats of a server that nobody has.
 
-ghost use Rattle.std.specs.Prelude.{◌≡◌, IfSome};
+ghost use Rattle.std.specs.Prelude.{◌≡◌, ◌<◌, IfSome};
 ghost use Rattle.ds_net_desks.specs.PoolSizes.{count_of};
 ghost use Rattle.ds_net_desks.specs.NumberedSeats.{CatchesUp};
 
@@ -102,6 +102,22 @@ impl SeatPool {
         }
         self.catch_up(rt, &mut numbered);
         Some(numbered)
+    }
+
+    /// Takes a seat that nobody has, in the newest sheet: of the last process that has one, among the first processes, this
+    /// number of them. None where somebody has each.
+    pub fn take_any<R: Wait>(&self, rt: &R, joins: usize) -> Option<NumberedSeat>
+        ensures some { IfSome result (λ numbered. numbered.seat.pass.process < joins) }
+        ensures there { IfSome result (λ numbered. numbered.seat.pass.process < count_of self.now) }
+    {
+        let mut left = joins.min(self.len());
+        while left > 0 {
+            left -= 1;
+            if let Some(numbered) = self.take(rt, left) {
+                return Some(numbered);
+            }
+        }
+        None
     }
 
     /// The seat may be taken again.

@@ -1,24 +1,30 @@
 //! A desk that is a sheet which threads share, with no lock.
 
-ghost use Rattle.std.specs.Prelude.{◌≡◌};
+ghost use Rattle.std.specs.Prelude.{◌≡◌, ℕ};
+ghost use Rattle.ds_formula.specs.Cells.{IsInside, index_of};
 ghost use Rattle.ds_shared_seats.specs.Sheets.{IsSeatOf};
-ghost use Rattle.ds_server.specs.Replies.{last_view, set_view, report_view};
+ghost use Rattle.ds_server.specs.Replies.{got_view, last_view, set_view, report_view};
 ghost use Rattle.ds_net_desks.specs.SharedDesks.{HasSet, HasReported, HasRecovered, set_said, last_said, report_said, sheet_of};
-ghost use Rattle.ds_net_desks.specs.DeskSeats.{Uses};
+ghost use Rattle.ds_net_desks.specs.CellQuestions.{HasAsked};
+ghost use Rattle.ds_net_desks.specs.DeskSeats.{HasTaken, HasViewed, IsSeatedAt, Uses};
 
+use crate::cell_question::CellQuestion;
 use crate::numbered_seat::NumberedSeat;
 use crate::seat_pool::SeatPool;
 use crate::shared_settle::{STEPS_MOST, shared_settle};
 use ds_formula::cells::{Cell, Shape};
+use ds_net_floor::edit_list::EditList;
+use ds_net_floor::keeping::Keeping;
 use ds_net_floor::visit::Visit;
 use ds_order::course::Course;
 use ds_order::known::KnownReferences;
-use ds_server::desk::{CallRefusal, Desk, Reported};
+use ds_server::desk::{CallRefusal, Desk, Got, History, Reported};
 use ds_shared::ended::Ended;
 use ds_shared_seats::seat::Seat;
 use ds_state::answer::EditEnd;
 use ds_state::recovery::{LastEdit, RecoveryEnd};
 use ds_state::show::ShowEnd;
+use http_server::Log;
 use std::alloc::Global;
 use std::sync::Wait;
 use std::time::Clock;
@@ -79,6 +85,85 @@ impl<'a, R: Wait + Clock> SharedDesk<'a, R> {
             self.references.note(alloc, cell, text);
         }
         self.visit.counts_set(end);
+    }
+}
+
+impl<'a, R: Wait + Clock> SharedDesk<'a, R> {
+    // The session takes this seat. What the last edit of its process was, as its recovery reports it.
+    fn take_seat(
+        &mut self,
+        alloc: Global,
+        mut numbered: NumberedSeat,
+    ) -> Result<Option<LastEdit>, CallRefusal>
+        ensures taken { HasTaken numbered (last_view result) self.new.numbered }
+        ensures rest { (self.new.shape ≡ self.old.shape) × (self.new.pool ≡ self.old.pool) × (self.new.token ≡ self.old.token) }
+    {
+        match recovered(alloc, &mut numbered.seat) {
+            Ok(last) => {
+                let seen = numbered.last_seen(last);
+                self.visit.joins(numbered.process());
+                self.numbered = Some(numbered);
+                Ok(seen)
+            }
+            Err(why) => {
+                self.pool.put_back(self.rt, numbered);
+                Err(why)
+            }
+        }
+    }
+
+    // A report by the seat of the process that the session has joined, else by any that nobody has.
+    fn viewed(&mut self, alloc: Global) -> Result<Reported, CallRefusal>
+        ensures viewed { HasViewed self.old.numbered (report_view result) self.new.numbered }
+        ensures process { (process : ℕ) → IsSeatedAt self.old.numbered process → IsSeatedAt self.new.numbered process }
+        ensures rest { (self.new.shape ≡ self.old.shape) × (self.new.pool ≡ self.old.pool) × (self.new.token ≡ self.old.token) }
+    {
+        let (rt, pool, visit) = (self.rt, self.pool, self.visit);
+        if let Some(numbered) = &mut self.numbered {
+            return seat_report(rt, alloc, pool, numbered, &self.course, visit);
+        }
+        let Some(mut numbered) = pool.take_any(rt, self.open) else {
+            return Err(CallRefusal::ProcessTaken);
+        };
+        let end = seat_report(rt, alloc, pool, &mut numbered, &self.course, visit);
+        pool.put_back(rt, numbered);
+        end
+    }
+
+    /// What a cell is, and its last edit that counts, of a sheet whose edits are listed: by the seat of the process that the
+    /// session has joined, else by any that nobody has.
+    pub fn got(
+        &mut self,
+        alloc: Global,
+        keeping: &Keeping,
+        seen: &mut Log<usize, EditList>,
+        cell: Cell,
+    ) -> Result<Got, CallRefusal>
+        requires { IsInside self.old.shape cell }
+        ensures asked { HasAsked cell (index_of self.old.shape cell) self.old.numbered seen.old.items (got_view cell result) self.new.numbered seen.new.items }
+        ensures process { (process : ℕ) → IsSeatedAt self.old.numbered process → IsSeatedAt self.new.numbered process }
+        ensures rest { (self.new.shape ≡ self.old.shape) × (self.new.pool ≡ self.old.pool) × (self.new.token ≡ self.old.token) }
+    {
+        self.course.renew(alloc, self.references);
+        let (rt, pool, open) = (self.rt, self.pool, self.open);
+        let question = CellQuestion {
+            rt,
+            pool,
+            keeping,
+            course: &self.course,
+            visit: self.visit,
+            cell,
+            number: self.shape.index(cell),
+        };
+        if let Some(numbered) = &mut self.numbered {
+            return question.answer(alloc, seen, numbered);
+        }
+        let Some(mut numbered) = pool.take_any(rt, open) else {
+            return Err(CallRefusal::ProcessTaken);
+        };
+        let got = question.answer(alloc, seen, &mut numbered);
+        pool.put_back(rt, numbered);
+        got
     }
 }
 
@@ -176,8 +261,8 @@ fn seat_edit<R: Wait>(
     numbered.set_seen(end)
 }
 
-// A report by the seat, of the newest sheet.
-fn seat_report<R: Wait + Clock>(
+/// A report by the seat, of the newest sheet.
+pub fn seat_report<R: Wait + Clock>(
     rt: &R,
     alloc: Global,
     pool: &SeatPool,
@@ -211,7 +296,7 @@ fn seat_last<R: Wait>(
 
 /// A session over a shared sheet has the seat of the process that it has joined.
 impl<'a, R: Wait + Clock> Desk for SharedDesk<'a, R> {
-    ghost use Rattle.ds_net_desks.specs.DeskSeats.{IsSeatedAt, SeatDeals};
+    ghost use Rattle.ds_net_desks.specs.DeskSeats.{SeatDeals};
     ghost use Rattle.ds_net_desks.specs.PoolSizes.{count_of};
     ghost use Rattle.std.specs.Prelude.{option_map};
 
@@ -239,20 +324,23 @@ impl<'a, R: Wait + Clock> Desk for SharedDesk<'a, R> {
         if self.numbered.is_some() || process >= self.open {
             return Err(CallRefusal::ProcessTaken);
         }
-        let Some(mut numbered) = self.pool.take(self.rt, process) else {
+        match self.pool.take(self.rt, process) {
+            Some(numbered) => self.take_seat(alloc, numbered),
+            None => Err(CallRefusal::ProcessTaken),
+        }
+    }
+
+    fn join_any(&mut self, alloc: Global) -> Result<(usize, Option<LastEdit>), CallRefusal> {
+        if self.numbered.is_some() {
+            return Err(CallRefusal::ProcessTaken);
+        }
+        let Some(numbered) = self.pool.take_any(self.rt, self.open) else {
             return Err(CallRefusal::ProcessTaken);
         };
-        match recovered(alloc, &mut numbered.seat) {
-            Ok(last) => {
-                let seen = numbered.last_seen(last);
-                self.numbered = Some(numbered);
-                self.visit.joins(process);
-                Ok(seen)
-            }
-            Err(why) => {
-                self.pool.put_back(self.rt, numbered);
-                Err(why)
-            }
+        let process = numbered.process();
+        match self.take_seat(alloc, numbered) {
+            Ok(last) => Ok((process, last)),
+            Err(why) => Err(why),
         }
     }
 
@@ -272,6 +360,15 @@ impl<'a, R: Wait + Clock> Desk for SharedDesk<'a, R> {
         end
     }
 
+    fn undo(
+        &mut self,
+        _alloc: Global,
+        _process: usize,
+        _cell: Cell,
+    ) -> Result<EditEnd, CallRefusal> {
+        Err(CallRefusal::NoHistory)
+    }
+
     fn report(&mut self, alloc: Global, _process: usize) -> Result<Reported, CallRefusal> {
         let (rt, pool, visit) = (self.rt, self.pool, self.visit);
         let Some(numbered) = &mut self.numbered else {
@@ -281,6 +378,31 @@ impl<'a, R: Wait + Clock> Desk for SharedDesk<'a, R> {
         let end = seat_report(rt, alloc, pool, numbered, &self.course, visit);
         self.visit.counts_report(&end);
         end
+    }
+
+    fn view(&mut self, alloc: Global, _joined: Option<usize>) -> Result<Reported, CallRefusal> {
+        self.course.renew(alloc, self.references);
+        let end = self.viewed(alloc);
+        self.visit.counts_report(&end);
+        end
+    }
+
+    fn get(
+        &mut self,
+        _alloc: Global,
+        _joined: Option<usize>,
+        _cell: Cell,
+    ) -> Result<Got, CallRefusal> {
+        Err(CallRefusal::NoHistory)
+    }
+
+    fn history(
+        &mut self,
+        _alloc: Global,
+        _from: usize,
+        _most: usize,
+    ) -> Result<History, CallRefusal> {
+        Err(CallRefusal::NoHistory)
     }
 
     fn last(&mut self, alloc: Global, _process: usize) -> Result<Option<LastEdit>, CallRefusal> {

@@ -1,32 +1,39 @@
 //! A desk that is a shared sheet whose edits are kept in a store.
 
-ghost use Rattle.std.specs.Prelude.{◌≡◌};
-ghost use Rattle.ds_server.specs.Replies.{set_view};
+ghost use Rattle.std.specs.Prelude.{◌≡◌, ◌++◌, ◌∷◌, ◌⊎◌, [], IfOk};
+ghost use Rattle.ds_server.specs.Replies.{Done, set_view};
+ghost use Rattle.ds_net_floor.specs.Entries.{entries};
+ghost use Rattle.ds_net_floor.specs.declared.keeping.Phase.TheVariants as Phase;
 ghost use Rattle.ds_net_desks.specs.DeskSeats.{Uses};
-ghost use Rattle.ds_net_desks.specs.StoredDesks.{StoredSet};
+ghost use Rattle.ds_net_desks.specs.StoredDesks.{HasListed, HasUndone, SaysBefore, SaysPart, StoredSet, listed_of, notes};
+ghost use Rattle.ds_net_desks.specs.CellQuestions.{look};
+ghost use Rattle.ds_net_desks.specs.Counting.{number_seen};
 
-use crate::numbered_seat::NumberedSeat;
+use crate::numbered_seat::{NumberedSeat, number_seen};
+use crate::numbering::Numbering;
 use crate::seat_pool::SeatPool;
 use crate::shared_desk::{SharedDesk, edited};
 use ds_formula::cells::{Cell, Shape};
+use ds_net_floor::edit_list::EditList;
 use ds_net_floor::keeping::{Backlog, Keeping};
-use ds_server::desk::{CallRefusal, Desk, Reported};
+use ds_server::desk::{CallRefusal, Desk, Got, History, Reported};
 use ds_shared_seats::seat::Seat;
 use ds_state::answer::EditEnd;
 use ds_state::recovery::LastEdit;
 use ds_store_journal::edit::AnsweredEdit;
 use http_server::Log;
-use std::alloc::Global;
+use std::alloc::{AllocError, Global};
 use std::sync::Wait;
 use std::time::Clock;
 
 /// What one session sees of a shared sheet with a store: what it sees of the sheet, what is shared with the keeper of the
-/// store, and, for proofs alone, each edit of which the keeper has heard.
+/// store, and, for proofs alone, each edit of which the keeper has heard and each list of edits that the session was shown.
 #[derive(Drop)]
 pub struct StoredDesk<'a, R: Wait + Clock> {
     shared: SharedDesk<'a, R>,
     keeping: &'a Keeping,
     heard: Log<usize, AnsweredEdit>,
+    seen: Log<usize, EditList>,
 }
 
 impl<'a, R: Wait + Clock> StoredDesk<'a, R> {
@@ -36,19 +43,40 @@ impl<'a, R: Wait + Clock> StoredDesk<'a, R> {
             shared,
             keeping,
             heard: Log::new(),
+            seen: Log::new(),
         }
     }
 }
 
-// An edit by the seat, which nobody else's overlaps, with room for the keeper to hear of it.
+// The keeper hears of an edit that is done, and it is listed by the number by which clients know it, with a copy of its text.
+fn hear(
+    backlog: &mut Backlog,
+    heard: &mut Log<usize, AnsweredEdit>,
+    numberings: &[Numbering],
+    edit: AnsweredEdit,
+    copy: Vec<u8>,
+)
+    requires { copy.items ≡ edit.text }
+    ensures log { heard.new.items ≡ heard.old.items ++ (edit.process, edit) ∷ [] }
+    ensures listed { (entries backlog.new.list ≡ entries backlog.old.list ++ listed_of edit.process edit.cell edit.text (Done (number_seen numberings.now edit.process edit.number))) ⊎ (backlog.new.phase ≡ Phase.Failed) }
+{
+    let known = number_seen(numberings, edit.process, edit.number);
+    backlog.hear(heard, edit, known, copy);
+}
+
+// An edit by the seat, which nobody else's overlaps, with room for the keeper to hear of it and for the list, by this text and a
+// copy of it.
 fn edited_alone(
     alloc: Global,
     backlog: &mut Backlog,
     heard: &mut Log<usize, AnsweredEdit>,
+    numberings: &[Numbering],
     seat: &mut Seat,
     cell: Cell,
     text: Vec<u8>,
+    copy: Vec<u8>,
 ) -> Result<EditEnd, CallRefusal>
+    requires { copy.items ≡ text.items }
     ensures { StoredSet heard.old.items cell text.items heard.new.items seat.old (set_view result) seat.new }
 {
     if backlog.make_room().is_err() {
@@ -63,36 +91,69 @@ fn edited_alone(
                 cell,
                 text,
             };
-            backlog.hear(heard, edit);
+            hear(backlog, heard, numberings, edit, copy);
             Ok(EditEnd::Done(number))
         }
         other => other,
     }
 }
 
-// A whole edit by the seat, in the newest sheet, which nobody else's overlaps; the keeper of the store hears of it before the
-// next one begins, if it is done. Where memory is short for that, nothing is done.
-fn edited_in_turn<R: Wait>(
-    rt: &R,
+// The same, answered by the numbers that clients know.
+fn edited_seen(
     alloc: Global,
-    pool: &SeatPool,
-    keeping: &Keeping,
+    backlog: &mut Backlog,
     heard: &mut Log<usize, AnsweredEdit>,
     numbered: &mut NumberedSeat,
     cell: Cell,
     text: Vec<u8>,
+    copy: Vec<u8>,
 ) -> Result<EditEnd, CallRefusal>
+    requires { copy.items ≡ text.items }
     ensures uses { Uses (StoredSet heard.old.items cell text.items heard.new.items) numbered.old (set_view result) numbered.new }
     ensures process { numbered.new.seat.pass.process ≡ numbered.old.seat.pass.process }
 {
-    let mut backlog = keeping.take_turn(rt);
-    pool.catch_up(rt, numbered);
-    let end = edited_alone(alloc, &mut backlog, heard, &mut numbered.seat, cell, text);
-    keeping.wake();
+    let end = edited_alone(
+        alloc,
+        backlog,
+        heard,
+        &numbered.numberings,
+        &mut numbered.seat,
+        cell,
+        text,
+        copy,
+    );
     numbered.set_seen(end)
 }
 
-// The same of this text, where there is room for a copy of it.
+// Two copies of a text: that which is kept, and that which is listed.
+fn copies(alloc: Global, text: &[u8]) -> Result<(Vec<u8>, Vec<u8>), AllocError>
+    ensures { IfOk result (λ copies. (copies.0.items ≡ text.now) × (copies.1.items ≡ text.now)) }
+{
+    let kept = Vec::from_slice(alloc, text)?;
+    let listed = Vec::from_slice(alloc, text)?;
+    Ok((kept, listed))
+}
+
+// The same of this text, where there is room for copies of it.
+fn edited_as(
+    alloc: Global,
+    backlog: &mut Backlog,
+    heard: &mut Log<usize, AnsweredEdit>,
+    numbered: &mut NumberedSeat,
+    cell: Cell,
+    text: &[u8],
+) -> Result<EditEnd, CallRefusal>
+    ensures uses { Uses (StoredSet heard.old.items cell text.now heard.new.items) numbered.old (set_view result) numbered.new }
+    ensures process { numbered.new.seat.pass.process ≡ numbered.old.seat.pass.process }
+{
+    match copies(alloc, text) {
+        Ok((kept, listed)) => edited_seen(alloc, backlog, heard, numbered, cell, kept, listed),
+        Err(_) => Err(CallRefusal::NoMemory),
+    }
+}
+
+// A whole edit by the seat, in the newest sheet, which nobody else's overlaps; the keeper of the store hears of it before the
+// next one begins, if it is done. Where memory is short for that, nothing is done.
 fn seat_edit<R: Wait>(
     rt: &R,
     alloc: Global,
@@ -106,10 +167,87 @@ fn seat_edit<R: Wait>(
     ensures uses { Uses (StoredSet heard.old.items cell text.now heard.new.items) numbered.old (set_view result) numbered.new }
     ensures process { numbered.new.seat.pass.process ≡ numbered.old.seat.pass.process }
 {
-    match Vec::from_slice(alloc, text) {
-        Ok(copy) => edited_in_turn(rt, alloc, pool, keeping, heard, numbered, cell, copy),
+    let mut backlog = keeping.take_turn(rt);
+    pool.catch_up(rt, numbered);
+    let end = edited_as(alloc, &mut backlog, heard, numbered, cell, text);
+    keeping.wake();
+    end
+}
+
+// Looks for the text that the cell had before its last edit in the list.
+fn text_before(
+    alloc: Global,
+    list: &EditList,
+    seen: &mut Log<usize, EditList>,
+    cell: Cell,
+) -> Result<Vec<u8>, CallRefusal>
+    ensures seen { seen.new.items ≡ seen.old.items ++ look list.now }
+    ensures says { SaysBefore cell list.now result }
+{
+    *seen = seen.and(&0, list);
+    match list.text_before(alloc, cell) {
+        Ok(Some(text)) => Ok(text),
+        Ok(None) => Err(CallRefusal::NoEdit),
         Err(_) => Err(CallRefusal::NoMemory),
     }
+}
+
+// An edit to the text that the cell had before its last edit, and that text.
+fn seat_undo<R: Wait>(
+    rt: &R,
+    alloc: Global,
+    pool: &SeatPool,
+    keeping: &Keeping,
+    heard: &mut Log<usize, AnsweredEdit>,
+    seen: &mut Log<usize, EditList>,
+    numbered: &mut NumberedSeat,
+    cell: Cell,
+) -> (Result<EditEnd, CallRefusal>, Vec<u8>)
+    ensures undone { HasUndone cell numbered.old (notes heard.old.items seen.old.items) (set_view result.0) numbered.new (notes heard.new.items seen.new.items) }
+    ensures process { numbered.new.seat.pass.process ≡ numbered.old.seat.pass.process }
+{
+    let mut backlog = keeping.take_turn(rt);
+    let text = match text_before(alloc, &backlog.list, seen, cell) {
+        Ok(text) => text,
+        Err(why) => return (Err(why), Vec::new(alloc)),
+    };
+    pool.catch_up(rt, numbered);
+    let end = edited_as(alloc, &mut backlog, heard, numbered, cell, text.as_slice());
+    keeping.wake();
+    (end, text)
+}
+
+// A part of this list.
+fn part_of(
+    alloc: Global,
+    list: &EditList,
+    seen: &mut Log<usize, EditList>,
+    from: usize,
+    most: usize,
+) -> Result<History, CallRefusal>
+    ensures seen { seen.new.items ≡ seen.old.items ++ look list.now }
+    ensures says { SaysPart from most list.now result }
+{
+    *seen = seen.and(&0, list);
+    match list.part(alloc, from, most) {
+        Ok(history) => Ok(history),
+        Err(_) => Err(CallRefusal::NoMemory),
+    }
+}
+
+// A part of the list of the edits that count, while nobody edits.
+fn listed_part<R: Wait>(
+    rt: &R,
+    alloc: Global,
+    keeping: &Keeping,
+    seen: &mut Log<usize, EditList>,
+    from: usize,
+    most: usize,
+) -> Result<History, CallRefusal>
+    ensures { HasListed from most seen.old.items result seen.new.items }
+{
+    let backlog = keeping.take_turn(rt);
+    part_of(alloc, &backlog.list, seen, from, most)
 }
 
 /// As the shared sheet's desk; and the keeper of the store hears of each edit that is answered Done, of no other, and in
@@ -118,14 +256,14 @@ impl<'a, R: Wait + Clock> Desk for StoredDesk<'a, R> {
     ghost use Rattle.ds_net_desks.specs.DeskSeats.{IsSeatedAt};
     ghost use Rattle.ds_net_desks.specs.PoolSizes.{count_of};
     ghost use Rattle.std.specs.Prelude.{option_map};
-    ghost use Rattle.ds_net_desks.specs.StoredDesks.{StoredDeals};
+    ghost use Rattle.ds_net_desks.specs.StoredDesks.{StoredDeals, notes};
 
     ghost rules = { record {
       shape = λ d. d.shared.shape;
       processes = λ d. count_of d.shared.pool.now;
       token = λ d. option_map (λ t. t.now) d.shared.token;
       sits = λ d p. IsSeatedAt d.shared.numbered p;
-      does = λ old call said new. StoredDeals old.shared.numbered old.heard.items call said new.shared.numbered new.heard.items;
+      does = λ old call said new. StoredDeals old.shared.shape old.shared.numbered (notes old.heard.items old.seen.items) call said new.shared.numbered (notes new.heard.items new.seen.items);
     } };
 
     fn shape(&self) -> Shape {
@@ -142,6 +280,10 @@ impl<'a, R: Wait + Clock> Desk for StoredDesk<'a, R> {
 
     fn join(&mut self, alloc: Global, process: usize) -> Result<Option<LastEdit>, CallRefusal> {
         self.shared.join(alloc, process)
+    }
+
+    fn join_any(&mut self, alloc: Global) -> Result<(usize, Option<LastEdit>), CallRefusal> {
+        self.shared.join_any(alloc)
     }
 
     fn set(
@@ -169,8 +311,51 @@ impl<'a, R: Wait + Clock> Desk for StoredDesk<'a, R> {
         end
     }
 
+    fn undo(&mut self, alloc: Global, _process: usize, cell: Cell) -> Result<EditEnd, CallRefusal> {
+        let (rt, pool, keeping) = (self.shared.rt, self.shared.pool, self.keeping);
+        let Some(numbered) = &mut self.shared.numbered else {
+            return Err(CallRefusal::ProcessTaken);
+        };
+        let (end, text) = seat_undo(
+            rt,
+            alloc,
+            pool,
+            keeping,
+            &mut self.heard,
+            &mut self.seen,
+            numbered,
+            cell,
+        );
+        self.shared.noted(alloc, cell, text.as_slice(), &end);
+        end
+    }
+
     fn report(&mut self, alloc: Global, process: usize) -> Result<Reported, CallRefusal> {
         self.shared.report(alloc, process)
+    }
+
+    fn view(&mut self, alloc: Global, joined: Option<usize>) -> Result<Reported, CallRefusal> {
+        self.shared.view(alloc, joined)
+    }
+
+    fn get(
+        &mut self,
+        alloc: Global,
+        _joined: Option<usize>,
+        cell: Cell,
+    ) -> Result<Got, CallRefusal> {
+        self.shared.got(alloc, self.keeping, &mut self.seen, cell)
+    }
+
+    fn history(&mut self, alloc: Global, from: usize, most: usize) -> Result<History, CallRefusal> {
+        listed_part(
+            self.shared.rt,
+            alloc,
+            self.keeping,
+            &mut self.seen,
+            from,
+            most,
+        )
     }
 
     fn last(&mut self, alloc: Global, process: usize) -> Result<Option<LastEdit>, CallRefusal> {

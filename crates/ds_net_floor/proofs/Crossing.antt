@@ -1,12 +1,17 @@
 -- That a locked word, a door and what a keeper hears may be shared by threads.
 use Rattle.std.proofs.Crossing.{crosses}
 use denote.Param.Send.{IsSend, IsSync, sendable}
+use denote.Param.SendFields.{declared_send}
+use denote.Struct.Record.{declared}
 use denote.Builtin.{bool}
 use Rattle.std.specs.contracts.sync.Mutex as Mutex
 use Rattle.ds_net_floor.specs.contracts.door.Door as Door
 use Rattle.ds_net_floor.specs.contracts.keeping.Keeping as Keeping
 use Rattle.ds_net_floor.specs.contracts.keeping.Backlog as Backlog
+use Rattle.ds_net_floor.specs.contracts.edit_list.EditList as EditList
+use Rattle.ds_server.specs.contracts.desk.ListedEdit as ListedEdit
 use Rattle.ds_store_journal.specs.contracts.edit.AnsweredEdit as AnsweredEdit
+use Rattle.http_server.proofs.log.Log.TheSendSync.{the_send as log_send}
 
 -- a locked truth value may be shared by threads
 pub flag_sync : IsSync (Mutex.the_row bool)
@@ -15,8 +20,29 @@ flag_sync = search (sendable, crosses) depth 40
 edit_send : IsSend AnsweredEdit.the_row
 edit_send = search (sendable, crosses) depth 40
 
+listed_send : IsSend ListedEdit.the_row
+listed_send = search (sendable, crosses) depth 40
+
+list_send : IsSend EditList.the_row
+list_send = search (sendable, crosses, listed_send, edit_send, log_send) depth 60 fits 100000
+
 backlog_send : IsSend Backlog.the_row
-backlog_send = search (sendable, crosses, edit_send) depth 40
+backlog_send = declared_send (declared Backlog.struct _) (
+  list_send,
+  (
+    search (sendable, crosses, edit_send) depth 40,
+    (
+      search (sendable, crosses) depth 20,
+      (
+        search (sendable, crosses) depth 20,
+        (
+          search (sendable, crosses) depth 20,
+          (search (sendable, crosses) depth 20, tt),
+        ),
+      ),
+    ),
+  ),
+)
 
 backlog_lock : IsSync (Mutex.the_row Backlog.the_row)
 backlog_lock = search (sendable, crosses, backlog_send) depth 40

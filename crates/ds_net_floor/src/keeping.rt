@@ -1,7 +1,11 @@
 //! What the sessions of a server tell the keeper of its store, and wait for.
 
 ghost use Rattle.std.specs.Prelude.{◌≡◌, ◌+◌, ◌++◌, ◌∷◌, ◌≤◌, ◌⊎◌, [], length, IfSome};
+ghost use Rattle.ds_net_floor.specs.EditLists.{told_as};
+ghost use Rattle.ds_net_floor.specs.Entries.{entries};
 
+use crate::edit_list::EditList;
+use ds_server::desk::ListedEdit;
 use ds_store::committed::Committed;
 use ds_store_journal::edit::AnsweredEdit;
 use http_server::Log;
@@ -82,9 +86,11 @@ impl KeptCount {
     }
 }
 
-/// What the keeper has heard of, and what of it is kept.
+/// What the keeper has heard of, what of it is kept, and the edits that count in the newest sheet.
 #[derive(Drop)]
 pub struct Backlog {
+    /// The edits that count.
+    pub list: EditList,
     // The edits that the keeper has not taken yet, in the order in which they were made.
     edits: Vec<AnsweredEdit>,
     // How many edits the keeper has taken, and has not kept yet.
@@ -97,9 +103,10 @@ pub struct Backlog {
 }
 
 impl Backlog {
-    // Of a server that has not begun.
-    fn new(alloc: Global) -> Backlog {
+    // Of a server that has not begun, with this list.
+    fn new(alloc: Global, list: EditList) -> Backlog {
         Backlog {
+            list,
             edits: Vec::new(alloc),
             taken: 0,
             heard: 0,
@@ -110,29 +117,54 @@ impl Backlog {
 
     /// Room for one edit more, before it is made. An error is that an allocation failed, or that no more can be counted.
     pub fn make_room(&mut self) -> Result<(), AllocError>
-        ensures { self.new.edits.items ≡ self.old.edits.items }
+        ensures edits { self.new.edits.items ≡ self.old.edits.items }
+        ensures list { entries self.new.list ≡ entries self.old.list }
     {
         if self.heard == u64::MAX {
             return Err(AllocError);
         }
+        self.list.reserve()?;
         self.edits.reserve(1)
     }
 
-    /// The keeper hears of an edit that was answered Done, which stands then in this history of what it has heard, too.
-    /// Where there is no room for it nothing is kept any more.
-    pub fn hear(&mut self, heard: &mut Log<usize, AnsweredEdit>, edit: AnsweredEdit)
+    /// The keeper hears of an edit that was answered Done, which stands then in this history of what it has heard, too, and
+    /// in the list, by the number by which clients know it; with a copy of its text. Where there is no room for it nothing is
+    /// kept any more.
+    pub fn hear(
+        &mut self,
+        heard: &mut Log<usize, AnsweredEdit>,
+        edit: AnsweredEdit,
+        number: usize,
+        text: Vec<u8>,
+    )
+        requires { text.items ≡ edit.text }
         ensures log { heard.new.items ≡ heard.old.items ++ (edit.process, edit) ∷ [] }
         ensures heard { (self.new.edits.items ≡ self.old.edits.items ++ edit ∷ []) ⊎ (self.new.phase ≡ Phase.Failed) }
+        ensures listed { (entries self.new.list ≡ entries self.old.list ++ told_as (number, edit) ∷ []) ⊎ (self.new.phase ≡ Phase.Failed) }
     {
         *heard = heard.and(&edit.process, &edit);
         let Some(count) = self.heard.checked_add(1) else {
             self.phase = Phase::Failed;
             return;
         };
+        if self.list.hear(number, &edit, text).is_err() {
+            self.phase = Phase::Failed;
+            return;
+        }
         match self.edits.push(edit) {
             Ok(()) => self.heard = count,
             Err(_) => self.phase = Phase::Failed,
         }
+    }
+
+    /// The server goes over to a new sheet, of which these are the edits that count; texts that it began with are as of this
+    /// process, which is none of it.
+    pub fn go_over(&mut self, edits: Vec<ListedEdit>, nobody: usize)
+        ensures list { (self.new.list.edits ≡ edits) × (self.new.list.nobody ≡ nobody) }
+        ensures begun { (self.new.list.begun ≡ length edits.items) × (self.new.list.since.items ≡ []) }
+        ensures rest { (self.new.edits ≡ self.old.edits) × (self.new.heard ≡ self.old.heard) × (self.new.kept ≡ self.old.kept) }
+    {
+        self.list = EditList::of(edits, nobody);
     }
 
     /// All edits that have come, which the keeper has in hand then.
@@ -177,8 +209,8 @@ impl Backlog {
 }
 
 /// What the sessions of a server share with the keeper of its store. Whoever edits holds its lock from before the edit
-/// until the keeper has heard of it: so the store has the edits in the order in which they count, and what a session is to
-/// say waits until all edits are kept that any session could have seen. Many wait for one commit.
+/// until the keeper has heard of it: so the store and the list have the edits in the order in which they count, and what a
+/// session is to say waits until all edits are kept that any session could have seen. Many wait for one commit.
 #[derive(Drop)]
 pub struct Keeping {
     backlog: Mutex<Backlog>,
@@ -187,10 +219,12 @@ pub struct Keeping {
 }
 
 impl Keeping {
-    /// Of a server that has not begun.
-    pub fn new(alloc: Global) -> Keeping {
+    /// Of a server that has not begun, of whose sheet these edits count; texts that it began with are as of this process,
+    /// which is none of it.
+    pub fn new(alloc: Global, edits: Vec<ListedEdit>, nobody: usize) -> Keeping {
+        let list = EditList::of(edits, nobody);
         Keeping {
-            backlog: Mutex::new(Backlog::new(alloc)),
+            backlog: Mutex::new(Backlog::new(alloc, list)),
             news: Condvar::new(),
             done: Condvar::new(),
         }

@@ -3,6 +3,7 @@
 #![tactic(auto)]
 
 pub mod door;
+pub mod edit_list;
 pub mod floor;
 pub mod keeping;
 pub mod visit;

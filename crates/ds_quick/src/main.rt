@@ -5,6 +5,7 @@
 mod words;
 
 use crate::words::{Options, options_of};
+use ds_batch::refusals::AnswerForm;
 use ds_batch::report::{TableForm, report};
 use ds_batch::run::{RunForm, no_memory, run, run_stops, stops_between};
 use ds_batch::source::Source;
@@ -18,7 +19,7 @@ use std::rt::Env;
 // The status of words that this program does not read.
 const WRONG_WORDS: u8 = 2;
 
-// Carries out a command with these options; none where this program does not know it.
+// Carries out a command with these options; none where this program does not know it, or its options mean nothing together.
 fn carry_out<R: AllocGlobal + Input + Print + Eprint + Files<File = File>>(
     rt: &R,
     command: &str,
@@ -36,14 +37,26 @@ fn carry_out<R: AllocGlobal + Input + Print + Eprint + Files<File = File>>(
         to,
         ..
     } = options;
+    if stops && json {
+        return None;
+    }
     let source = Source::of(file);
-    let form = RunForm { notation, strict };
+    let answers = if json {
+        AnswerForm::Json
+    } else {
+        AnswerForm::Words
+    };
+    let form = RunForm {
+        notation,
+        strict,
+        answers,
+    };
     match command {
         "run" if stops => {
-            let range = stops_between(from as u64, to as u64);
+            let range = stops_between(from.unwrap_or(1) as u64, to.unwrap_or(0) as u64);
             Some(run_stops(rt, source, range, form, shows))
         }
-        "run" => Some(run(rt, source, form)),
+        "run" if from.is_none() && to.is_none() => Some(run(rt, source, form)),
         "report" => {
             let form = GridForm {
                 notation,

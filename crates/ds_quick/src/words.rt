@@ -19,10 +19,10 @@ pub struct Options<'a> {
     pub strict: bool,
     /// `--stops`.
     pub stops: bool,
-    /// The step that `--from` names, or the first one.
-    pub from: u16,
-    /// The step that `--to` names, or 0.
-    pub to: u16,
+    /// The step that `--from` names, if it is there.
+    pub from: Option<u16>,
+    /// The step that `--to` names, if it is there.
+    pub to: Option<u16>,
 }
 
 impl<'a> Options<'a> {
@@ -36,8 +36,8 @@ impl<'a> Options<'a> {
             json: false,
             strict: false,
             stops: false,
-            from: 1,
-            to: 0,
+            from: None,
+            to: None,
         }
     }
 
@@ -62,11 +62,11 @@ impl<'a> Options<'a> {
             "--strict" => options.strict = true,
             "--stops" => options.stops = true,
             "--from" => {
-                options.from = after.first()?.parse().ok()?;
+                options.from = Some(after.first()?.parse().ok()?);
                 return Some((options, after.get(1..)?));
             }
             "--to" => {
-                options.to = after.first()?.parse().ok()?;
+                options.to = Some(after.first()?.parse().ok()?);
                 return Some((options, after.get(1..)?));
             }
             _ => {

@@ -5,4 +5,5 @@ pub mod RowLemmas
 pub mod Sessions
 pub mod Runs
 pub mod Worlds
+pub mod Edits
 mod Tokens

@@ -1,5 +1,6 @@
 -- Sessions over a world as runs.
 use Rattle.std.proofs.Common.{ℕ, List, Option, Some, None, inl, inr, refl}
+use Rattle.std.specs.Prelude.{Result}
 use Rattle.serde_json.specs.Data.{Data}
 use Rattle.ds_state.specs.Value.{WorldValue, world_of, IsGood}
 use Rattle.ds_state.specs.Fresh.{IsNew}
@@ -12,23 +13,43 @@ use Rattle.ds_calls.specs.Traces.{Trace, no_trace, both, Leads, call_trace, sett
 use Rattle.ds_calls.proofs.Runs.{both_lead, call_leads, settle_leads}
 use Rattle.ds_server.specs.declared.session.SessionEnd.{SessionEnd}
 use Rattle.ds_server.specs.declared.session.SessionEnd.TheVariants as ends
-use Rattle.ds_server.specs.DeskCalls.{Call, Leave}
-use Rattle.ds_server.specs.Replies.{Said, Left}
+use Rattle.ds_server.specs.declared.desk.CallRefusal.{CallRefusal}
+use Rattle.ds_server.specs.declared.desk.Reported.{Reported}
+use Rattle.ds_server.specs.DeskCalls.{Call, Join, JoinAny, Set, View, Leave}
+use Rattle.ds_server.specs.Replies.{Said, Joined, Refused, Left, report_view}
 use Rattle.ds_server.specs.Desks.{Leaves}
-use Rattle.ds_server.specs.WorldDesks.{Does, joins, sets, reports, is_refused, lacks, tells, leaves, world_rules}
+use Rattle.ds_server.specs.WorldDesks.{TakesSnapshot, reports, is_refused, lacks, Does, joins, sets, snapshots, tells, leaves, joins_any, has_none, undoes, has_no_edit, views, views_by_any, has_no_view, gets, lists, world_rules}
 use Rattle.ds_server.specs.Session.{Obeys, refuses, calls, Answers, no_json, no_memory, reads, Turns, short, long, Session, begins, turns, Broken, Ran, Outcome}
-use Rattle.ds_server.specs.SessionTraces.{does_trace, obeys_trace, answers_trace, turns_trace, session_trace, broken_trace, ran_trace, leaves_trace, outcome_trace}
+use Rattle.ds_server.specs.SessionTraces.{snapshot_trace, does_trace, obeys_trace, answers_trace, turns_trace, session_trace, broken_trace, ran_trace, leaves_trace, outcome_trace}
+
+-- what a settle and a report do to a world is a run of their trace
+pub snapshot_leads : (p : ℕ) (old new : WorldValue) (end : Result Reported CallRefusal) (h : TakesSnapshot p old end new) → Leads old (snapshot_trace p old new end h) new
+snapshot_leads p old new end (reports left mid n answer e settles whole is) =
+    both_lead (settle_trace p old _ mid settles) (call_trace Show p (BeginShow p) mid answer new whole) old mid new (settle_leads p old _ mid settles) (call_leads Show p (BeginShow p) mid answer new whole)
+snapshot_leads p old new end (is_refused why n settles) = settle_leads p old _ new settles
+snapshot_leads p old new end (lacks n settles) = settle_leads p old _ new settles
 
 -- what a call of a session does to a world is a run of its trace
 pub does_leads : (old new : WorldValue) (call : Call) (said : Said) (h : Does old call said new) → Leads old (does_trace old new call said h) new
 does_leads old new call said (joins p answer told n whole is) = call_leads Recovery p (BeginRecover p) old answer new whole
 does_leads old new call said (sets p cell text answer end n whole is) = call_leads Edit p (BeginEdit (request p cell text)) old answer new whole
-does_leads old new call said (reports p left mid n answer end settles whole is) =
-    both_lead (settle_trace p old _ mid settles) (call_trace Show p (BeginShow p) mid answer new whole) old mid new (settle_leads p old _ mid settles) (call_leads Show p (BeginShow p) mid answer new whole)
-does_leads old new call said (is_refused p why n settles) = settle_leads p old _ new settles
-does_leads old new call said (lacks p n settles) = settle_leads p old _ new settles
+does_leads old new call said (snapshots p end n takes) = snapshot_leads p old new end takes
 does_leads old new call said (tells p answer told n whole is) = call_leads Recovery p (BeginRecover p) old answer new whole
 does_leads old new call said (leaves p free) = refl
+does_leads old new call said (joins_any p s n is does) = does_leads old new (Join p) said does
+does_leads old new call said (has_none none) = refl
+does_leads old new call said (undoes p cell text s n is does) = does_leads old new (Set p cell text) said does
+does_leads old new call said (has_no_edit p cell none) = refl
+does_leads old new call said (views p end n takes) = snapshot_leads p old new end takes
+does_leads old new call said (views_by_any p last end mid n taken takes) =
+    both_lead (does_trace old mid JoinAny (Joined p last) taken) (snapshot_trace p mid new end takes) old mid new (does_leads old mid JoinAny (Joined p last) taken) (snapshot_leads p mid new end takes)
+does_leads old new call said (has_no_view why n does) = does_leads old new JoinAny (Refused why) does
+does_leads old new call said (gets joined cell seen found n does is) = does_leads old new (View joined) (report_view seen) does
+does_leads old new call said (lists from most found is) = refl
+
+-- what a settle and a report do to a world is a run
+pub snapshot_runs : (p : ℕ) (old new : WorldValue) (end : Result Reported CallRefusal) → TakesSnapshot p old end new → IsRun old new
+snapshot_runs p old new end h = record { events = (snapshot_trace p old new end h).events; replies = (snapshot_trace p old new end h).replies; run = snapshot_leads p old new end h }
 
 -- what a call of a session does to a world is a run
 pub does_runs : (old new : WorldValue) (call : Call) (said : Said) → Does old call said new → IsRun old new

@@ -1,5 +1,5 @@
 -- What a desk says of itself.
-use Rattle.std.specs.Prelude.{ℕ, ◌≡◌, List, Option, Some, None, Result, Ok, Err}
+use Rattle.std.specs.Prelude.{ℕ, ◌≡◌, ◌<◌, List, Option, Some, None, Result, Ok, Err}
 use Rattle.ds_formula.specs.declared.cells.Shape.{Shape}
 use Rattle.ds_state.specs.declared.recovery.LastEdit.{LastEdit}
 use Rattle.ds_server.specs.declared.desk.CallRefusal.{CallRefusal}
@@ -19,6 +19,15 @@ pub record Rules (B : Type 0) : Type 1 where
 abbrev pub SitsAfter : {B : Type 0} → Rules B → ℕ → Result (Option LastEdit) CallRefusal → B → Type 0
 SitsAfter rules process (Ok last) desk = rules.sits desk process
 SitsAfter rules process (Err why) desk = Unit {0}
+
+-- after a join of any process that is not refused the session has that process, one of the desk's
+abbrev pub SitsAfterAny : {B : Type 0} → Rules B → Result (ℕ × Option LastEdit) CallRefusal → B → Type 0
+SitsAfterAny rules (Ok found) desk = (found.0 < rules.processes desk) × rules.sits desk found.0
+SitsAfterAny rules (Err why) desk = Unit {0}
+
+-- whichever process the session has, it has it still
+abbrev pub KeepsSeats : {B : Type 0} → Rules B → B → B → Type 0
+KeepsSeats rules old new = (process : ℕ) → rules.sits old process → rules.sits new process
 
 -- the session has the process that it has joined, if any
 abbrev pub Seated : {B : Type 0} → Rules B → Option ℕ → B → Type 0

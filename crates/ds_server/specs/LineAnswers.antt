@@ -1,5 +1,5 @@
 -- What answering one line leaves.
-use Rattle.std.specs.Prelude.{◌≡◌, ℕ, Bool, true, false, List, Option, Result, Ok, Err}
+use Rattle.std.specs.Prelude.{◌≡◌, ℕ, Bool, true, false, List, map, Option, option_map, Result, Ok, Err}
 use Rattle.std.specs.Io.KnownBytes.{Appends}
 use Rattle.ds_formula.specs.declared.cells.Shape.{Shape}
 use Rattle.ds_server.specs.declared.request.LineFault.TheVariants.{LineTooLong}
@@ -9,7 +9,7 @@ use Rattle.ds_server.specs.declared.session.Hindrance.{Hindrance}
 use Rattle.ds_server.specs.declared.session.Hindrance.TheVariants as hindrances
 use Rattle.ds_server.specs.declared.session.SessionEnd.{SessionEnd}
 use Rattle.ds_server.specs.declared.session.SessionEnd.TheVariants as ends
-use Rattle.ds_server.specs.Replies.{Said, Joined, JoinedLost, Done, Overtaken, Settled, Unsettled, Tells, Refused, Faulted}
+use Rattle.ds_server.specs.Replies.{Said, Joined, JoinedLost, Done, Overtaken, Settled, Unsettled, Tells, GotCell, Listed, Refused, Faulted, entry_view}
 use Rattle.ds_server.specs.Desks.{Rules, Seated, joined_after}
 use Rattle.ds_server.specs.SessionTexts.{said_text}
 use Rattle.ds_server.specs.Session.{Answers}
@@ -23,6 +23,8 @@ response_view (response.Overtaken number by) = Overtaken number by
 response_view (response.Settled values) = Settled values.items
 response_view (response.Unsettled place word) = Unsettled place word
 response_view (response.Tells last) = Tells last
+response_view (response.GotCell cell value edit) = GotCell cell value (option_map entry_view edit)
+response_view (response.Listed from history) = Listed from (map entry_view history.edits.items) history.of
 response_view (response.Refused why) = Refused why
 response_view (response.Faulted fault) = Faulted fault
 

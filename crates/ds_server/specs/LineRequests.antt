@@ -12,7 +12,8 @@ use Rattle.ds_server.specs.declared.request.Operation.{Operation}
 use Rattle.ds_server.specs.declared.request.Operation.TheVariants as verb
 use Rattle.ds_server.specs.declared.request.LineFault.{LineFault}
 use Rattle.ds_server.specs.declared.request.LineFault.TheVariants as fault
-use Rattle.ds_server.specs.DeskCalls.{Call, Join, Set, Report, Last, Leave}
+use Rattle.ds_server.specs.SessionLimits.{HISTORY_MOST}
+use Rattle.ds_server.specs.DeskCalls.{Call, Join, JoinAny, Set, Undo, Report, View, Get, Listing, Last, Leave}
 
 -- ---- JSON
 
@@ -39,9 +40,13 @@ abbrev pub verb_named : List ℕ → Option Operation
 verb_named word =
     if bytes_eq word (codes "join") then Some verb.Join
     else (if bytes_eq word (codes "set") then Some verb.Set
+    else (if bytes_eq word (codes "undo") then Some verb.Undo
     else (if bytes_eq word (codes "report") then Some verb.Report
+    else (if bytes_eq word (codes "view") then Some verb.View
+    else (if bytes_eq word (codes "get") then Some verb.Get
+    else (if bytes_eq word (codes "history") then Some verb.History
     else (if bytes_eq word (codes "last") then Some verb.Last
-    else None)))
+    else None)))))))
 
 -- ---- calls
 
@@ -54,9 +59,18 @@ abbrev pub is_number : Option Data → Bool
 is_number None = true
 is_number (Some field) = is_some (as_number field >>= as_u64)
 
+-- whether a word, if there is one, stands for any process
+abbrev pub is_any : Option (List ℕ) → Bool
+is_any None = false
+is_any (Some word) = bytes_eq word (codes "any")
+
+-- the join of any process, or of the one that the field names
+abbrev pub join_named : ℕ → Data → Option Call
+join_named processes value = if is_any (text_field (codes "process") value) then Some JoinAny else number_field (codes "process") value >>= join_by processes
+
 -- the join that the fields ask for; the number of the last edit of which the client was answered that it is done may be left out
 abbrev pub join_in : ℕ → Data → Option Call
-join_in processes value = if is_number (get (codes "told") value) then number_field (codes "process") value >>= join_by processes else None
+join_in processes value = if is_number (get (codes "told") value) then join_named processes value else None
 
 -- whether a word, if there is one, is the token
 abbrev pub is_token : List ℕ → Option (List ℕ) → Bool
@@ -72,6 +86,18 @@ admits (Some token) value = is_token token (text_field (codes "token") value)
 abbrev pub set_in : Shape → ℕ → Data → Option Call
 set_in shape process value = (text_field (codes "cell") value >>= cell_named shape) >>= λ cell. text_field (codes "text") value >>= λ text. Some (Set process cell text)
 
+-- the undo by the process that the fields ask for: of a cell of the sheet
+abbrev pub undo_in : Shape → ℕ → Data → Option Call
+undo_in shape process value = (text_field (codes "cell") value >>= cell_named shape) >>= λ cell. Some (Undo process cell)
+
+-- the question that the fields ask: for a cell of the sheet
+abbrev pub get_in : Shape → Option ℕ → Data → Option Call
+get_in shape joined value = (text_field (codes "cell") value >>= cell_named shape) >>= λ cell. Some (Get joined cell)
+
+-- the question that the fields ask: for the edits from a place on
+abbrev pub history_in : Data → Option Call
+history_in value = number_field (codes "from") value >>= λ from. Some (Listing from HISTORY_MOST)
+
 -- the call, where the fields have one
 abbrev pub or_bad_field : Option Call → Result Call LineFault
 or_bad_field None = Err fault.BadField
@@ -81,13 +107,26 @@ or_bad_field (Some call) = Ok call
 abbrev pub join_with : ℕ → Option (List ℕ) → Data → Result Call LineFault
 join_with processes token value = if admits token value then or_bad_field (join_in processes value) else Err fault.Denied
 
+-- a session may read that has joined a process, or has the token that a join has to have, if any
+abbrev pub may_read : Option (List ℕ) → Option ℕ → Data → Bool
+may_read token None value = admits token value
+may_read token (Some process) value = true
+
+-- the call that only reads, where the fields have one, and the session may read
+abbrev pub read_with : Option (List ℕ) → Option ℕ → Data → Option Call → Result Call LineFault
+read_with token joined value call = if may_read token joined value then or_bad_field call else Err fault.Denied
+
 -- the call of the verb and the fields, by the process that the session has joined, if any: a join where it has none,
--- else one of that process
+-- else one of that process; those that only read need none
 abbrev pub call_by : Shape → ℕ → Option (List ℕ) → Option ℕ → Operation → Data → Result Call LineFault
+call_by shape processes token joined verb.View value = read_with token joined value (Some (View joined))
+call_by shape processes token joined verb.Get value = read_with token joined value (get_in shape joined value)
+call_by shape processes token joined verb.History value = read_with token joined value (history_in value)
 call_by shape processes token None verb.Join value = join_with processes token value
 call_by shape processes token (Some process) verb.Join value = Err fault.AlreadyJoined
 call_by shape processes token None verb value = Err fault.NotJoined
 call_by shape processes token (Some process) verb.Set value = or_bad_field (set_in shape process value)
+call_by shape processes token (Some process) verb.Undo value = or_bad_field (undo_in shape process value)
 call_by shape processes token (Some process) verb.Report value = Ok (Report process)
 call_by shape processes token (Some process) verb.Last value = Ok (Last process)
 
@@ -102,15 +141,20 @@ call_op shape processes token joined value None = Err fault.BadField
 call_op shape processes token joined value (Some op) = call_with shape processes token joined value (verb_named op)
 
 -- the call that a value asks for, or the first fault: no text after `op`, an unknown one, not joined or already
--- joined, a join without the token, a bad field
+-- joined, a join or a question without the token, a bad field
 abbrev pub call_of : Shape → ℕ → Option (List ℕ) → Option ℕ → Data → Result Call LineFault
 call_of shape processes token joined value = call_op shape processes token joined value (text_field (codes "op") value)
 
 -- the call is one that a session may make which has joined this process, if any: a join of a process of the desk, or
--- a call of its own process, of a cell of the sheet
+-- a call of its own process, of a cell of the sheet; or one that needs no process
 abbrev pub IsCallOf : Shape → ℕ → Option ℕ → Call → Type 0
 IsCallOf shape processes joined (Join process) = (joined ≡ None) × (process < processes)
 IsCallOf shape processes joined (Set process cell text) = (joined ≡ Some process) × IsInside shape cell
+IsCallOf shape processes joined JoinAny = joined ≡ None
+IsCallOf shape processes joined (Undo process cell) = (joined ≡ Some process) × IsInside shape cell
+IsCallOf shape processes joined (View by) = joined ≡ by
+IsCallOf shape processes joined (Get by cell) = (joined ≡ by) × IsInside shape cell
+IsCallOf shape processes joined (Listing from most) = most ≡ HISTORY_MOST
 IsCallOf shape processes joined (Report process) = joined ≡ Some process
 IsCallOf shape processes joined (Last process) = joined ≡ Some process
 IsCallOf shape processes joined (Leave process) = ⊥

@@ -8,3 +8,7 @@ SESSION_LINE_MOST = 4096
 -- how many bytes a session may have
 abbrev pub SESSION_MOST : ℕ
 SESSION_MOST = 1048576
+
+-- how many edits an answer lists at most
+abbrev pub HISTORY_MOST : ℕ
+HISTORY_MOST = 100

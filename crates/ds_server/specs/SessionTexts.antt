@@ -4,6 +4,7 @@ use Rattle.serde_json.specs.Data.{Data, null, boolean, number, unsigned, string,
 use Rattle.serde_json.specs.View.{items_of}
 use Rattle.serde_json.specs.Written.{compact_text}
 use Rattle.std.specs.Fmt.{decimal}
+use Rattle.ds_formula.specs.declared.cells.Cell.{Cell}
 use Rattle.ds_formula.specs.declared.cells.Shape.{Shape}
 use Rattle.ds_formula.specs.declared.fault.TextFault.{TextFault}
 use Rattle.ds_formula.specs.Cells.{cell_at}
@@ -18,7 +19,7 @@ use Rattle.ds_server.specs.declared.desk.CallRefusal.{CallRefusal}
 use Rattle.ds_server.specs.declared.desk.CallRefusal.TheVariants as refusal
 use Rattle.ds_server.specs.declared.request.LineFault.{LineFault}
 use Rattle.ds_server.specs.declared.request.LineFault.TheVariants as fault
-use Rattle.ds_server.specs.Replies.{Said, Joined, JoinedLost, Done, Overtaken, Settled, Unsettled, Tells, Left, Refused, Faulted}
+use Rattle.ds_server.specs.Replies.{Said, Joined, JoinedLost, Done, Overtaken, Settled, Unsettled, Tells, GotCell, Listed, Left, Refused, Faulted, EditEntry}
 
 -- ---- codes and names
 
@@ -125,6 +126,36 @@ unsettled_data shape at word = object (member (codes "ok") (text_data (codes "un
 abbrev pub tells_data : Shape → Option LastEdit → Data
 tells_data shape last = object (member (codes "last") (last_data shape last) (member (codes "ok") (text_data (codes "last")) no_members))
 
+-- which edit it is: {"number":0,"process":0}
+abbrev pub edit_name_data : EditEntry → Data
+edit_name_data e = object (member (codes "number") (number_data e.number) (member (codes "process") (number_data e.process) no_members))
+
+-- which edit a cell is of, null without one
+abbrev pub edit_of_data : Option EditEntry → Data
+edit_of_data None = null
+edit_of_data (Some e) = edit_name_data e
+
+-- the text that an edit gave its cell, empty without one
+abbrev pub text_by : Option EditEntry → List ℕ
+text_by None = []
+text_by (Some e) = e.text
+
+-- what a cell is: {"cell":"A1","edit":{"number":0,"process":0},"ok":"got","text":"=1+2","value":"3"}
+abbrev pub got_data : Cell → Value → Option EditEntry → Data
+got_data cell value edit = object (member (codes "cell") (text_data (cell_text cell)) (member (codes "edit") (edit_of_data edit) (member (codes "ok") (text_data (codes "got")) (member (codes "text") (text_data (text_by edit)) (member (codes "value") (value_data value) no_members)))))
+
+-- an edit of a list: {"cell":"A1","number":0,"process":0,"text":"=1+2"}
+abbrev pub entry_data : EditEntry → Data
+entry_data e = object (member (codes "cell") (text_data (cell_text e.cell)) (member (codes "number") (number_data e.number) (member (codes "process") (number_data e.process) (member (codes "text") (text_data e.text) no_members))))
+
+-- the edits of a list
+abbrev pub entries_data : List EditEntry → Data
+entries_data edits = array (items_of (map entry_data edits))
+
+-- a part of the edits that count, from a place on, and how many count: {"edits":[..],"from":0,"ok":"history","of":1}
+abbrev pub listed_data : ℕ → List EditEntry → ℕ → Data
+listed_data from edits of = object (member (codes "edits") (entries_data edits) (member (codes "from") (number_data from) (member (codes "of") (number_data of) (member (codes "ok") (text_data (codes "history")) no_members))))
+
 -- an error by its code and name: {"code":1,"error":"not-json"}
 abbrev pub error_data : ℕ → List ℕ → Data
 error_data code name = object (member (codes "code") (number_data code) (member (codes "error") (text_data name) no_members))
@@ -140,6 +171,8 @@ refusal_data (refusal.Text at) = text_fault_data at
 refusal_data refusal.Stopped = error_data 13 (codes "stopped")
 refusal_data refusal.RecordsFull = error_data 14 (codes "records-full")
 refusal_data refusal.NoMemory = error_data 15 (codes "no-memory")
+refusal_data refusal.NoEdit = error_data 22 (codes "no-edit")
+refusal_data refusal.NoHistory = error_data 23 (codes "no-history")
 
 -- what is said, as JSON; that a process is given back is said to nobody
 abbrev pub said_data : Shape → Said → Data
@@ -150,6 +183,8 @@ said_data shape (Overtaken n by) = overtaken_data n by
 said_data shape (Settled values) = settled_data shape values
 said_data shape (Unsettled at word) = unsettled_data shape at word
 said_data shape (Tells last) = tells_data shape last
+said_data shape (GotCell cell value edit) = got_data cell value edit
+said_data shape (Listed from edits of) = listed_data from edits of
 said_data shape Left = null
 said_data shape (Refused why) = refusal_data why
 said_data shape (Faulted fault) = error_data (code_of_fault fault) (name_of_fault fault)

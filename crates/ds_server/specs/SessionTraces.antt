@@ -1,6 +1,6 @@
 -- The events of a session on a world, in order, each with its reply: those of the calls that its lines ask for, and of the
 -- call by which it gives its process back.
-use Rattle.std.specs.Prelude.{ℕ, List, Option, Some, None}
+use Rattle.std.specs.Prelude.{ℕ, List, Option, Some, None, Result}
 use Rattle.std.proofs.Common.{inl, inr}
 use Rattle.serde_json.specs.Data.{Data}
 use Rattle.ds_state.specs.Value.{WorldValue}
@@ -10,21 +10,36 @@ use Rattle.ds_calls.specs.Whole.{request}
 use Rattle.ds_calls.specs.Traces.{Trace, no_trace, both, call_trace, settle_trace}
 use Rattle.ds_server.specs.declared.session.SessionEnd.{SessionEnd}
 use Rattle.ds_server.specs.declared.session.SessionEnd.TheVariants as ends
-use Rattle.ds_server.specs.DeskCalls.{Call, Leave}
-use Rattle.ds_server.specs.Replies.{Said, Left}
+use Rattle.ds_server.specs.declared.desk.CallRefusal.{CallRefusal}
+use Rattle.ds_server.specs.declared.desk.Reported.{Reported}
+use Rattle.ds_server.specs.DeskCalls.{Call, Join, JoinAny, Set, View, Leave}
+use Rattle.ds_server.specs.Replies.{Said, Joined, Refused, Left, report_view}
 use Rattle.ds_server.specs.Desks.{Leaves}
-use Rattle.ds_server.specs.WorldDesks.{Does, joins, sets, reports, is_refused, lacks, tells, leaves, world_rules}
+use Rattle.ds_server.specs.WorldDesks.{TakesSnapshot, reports, is_refused, lacks, Does, joins, sets, snapshots, tells, leaves, joins_any, has_none, undoes, has_no_edit, views, views_by_any, has_no_view, gets, lists, world_rules}
 use Rattle.ds_server.specs.Session.{Obeys, refuses, calls, Answers, no_json, no_memory, reads, Turns, short, long, Session, begins, turns, Served, Broken, Ran, Outcome}
+
+-- of a settle and a report
+abbrev pub snapshot_trace : (p : ℕ) (old new : WorldValue) (end : Result Reported CallRefusal) → TakesSnapshot p old end new → Trace
+snapshot_trace p old new end (reports left mid n answer e settles whole is) = both (settle_trace p old _ mid settles) (call_trace Show p (BeginShow p) mid answer new whole)
+snapshot_trace p old new end (is_refused why n settles) = settle_trace p old _ new settles
+snapshot_trace p old new end (lacks n settles) = settle_trace p old _ new settles
 
 -- of a call
 abbrev pub does_trace : (old new : WorldValue) (call : Call) (said : Said) → Does old call said new → Trace
 does_trace old new call said (joins p answer told n whole is) = call_trace Recovery p (BeginRecover p) old answer new whole
 does_trace old new call said (sets p cell text answer end n whole is) = call_trace Edit p (BeginEdit (request p cell text)) old answer new whole
-does_trace old new call said (reports p left mid n answer end settles whole is) = both (settle_trace p old _ mid settles) (call_trace Show p (BeginShow p) mid answer new whole)
-does_trace old new call said (is_refused p why n settles) = settle_trace p old _ new settles
-does_trace old new call said (lacks p n settles) = settle_trace p old _ new settles
+does_trace old new call said (snapshots p end n takes) = snapshot_trace p old new end takes
 does_trace old new call said (tells p answer told n whole is) = call_trace Recovery p (BeginRecover p) old answer new whole
 does_trace old new call said (leaves p free) = no_trace
+does_trace old new call said (joins_any p s n is does) = does_trace old new (Join p) said does
+does_trace old new call said (has_none none) = no_trace
+does_trace old new call said (undoes p cell text s n is does) = does_trace old new (Set p cell text) said does
+does_trace old new call said (has_no_edit p cell none) = no_trace
+does_trace old new call said (views p end n takes) = snapshot_trace p old new end takes
+does_trace old new call said (views_by_any p last end mid n taken takes) = both (does_trace old mid JoinAny (Joined p last) taken) (snapshot_trace p mid new end takes)
+does_trace old new call said (has_no_view why n does) = does_trace old new JoinAny (Refused why) does
+does_trace old new call said (gets joined cell seen found n does is) = does_trace old new (View joined) (report_view seen) does
+does_trace old new call said (lists from most found is) = no_trace
 
 -- of the value of a line
 abbrev pub obeys_trace : (old new : WorldValue) (joined : Option ℕ) (value : Data) (said : Said) → Obeys world_rules old joined value said new → Trace

@@ -1,17 +1,18 @@
 //! The line of each answer.
 
-ghost use Rattle.std.specs.Prelude.{◌≡◌, IfOk, string_bytes};
+ghost use Rattle.std.specs.Prelude.{◌≡◌, IfOk, map, option_map, string_bytes};
 ghost use Rattle.serde_json.specs.View.{view};
 ghost use Rattle.serde_json.specs.Written.{compact_text};
 ghost use Rattle.ds_formula.specs.Cells.{cell_at};
 ghost use Rattle.ds_formula.specs.Names.{cell_text};
-ghost use Rattle.ds_server.specs.SessionTexts.{code_of_fault, name_of_fault, outcome_text, edit_data, last_data, other_data, row_data, rows_data, place_text, joined_data, joined_lost_data, done_data, overtaken_data, settled_data, unsettled_data, tells_data, error_data, text_fault_data, refusal_data, said_data, said_text};
+ghost use Rattle.ds_server.specs.SessionTexts.{code_of_fault, name_of_fault, outcome_text, edit_data, last_data, other_data, row_data, rows_data, place_text, joined_data, joined_lost_data, done_data, overtaken_data, settled_data, unsettled_data, tells_data, edit_name_data, edit_of_data, text_by, got_data, entry_data, entries_data, listed_data, error_data, text_fault_data, refusal_data, said_data, said_text};
+ghost use Rattle.ds_server.specs.Replies.{entry_view};
 ghost use Rattle.ds_server.specs.LineAnswers.{response_view};
 
-use crate::desk::CallRefusal;
+use crate::desk::{CallRefusal, History, ListedEdit};
 use crate::request::LineFault;
 use ds_eval::value::Value;
-use ds_formula::cells::Shape;
+use ds_formula::cells::{Cell, Shape};
 use ds_formula::fault::TextFault;
 use ds_layout::place::Place;
 use ds_script_io::answer::cell_at;
@@ -37,6 +38,10 @@ pub enum Response {
     Unsettled(Place, u64),
     /// The last edit of the process that was announced, if any.
     Tells(Option<LastEdit>),
+    /// The value of the cell, and its last edit that counts, if any.
+    GotCell(Cell, Value, Option<ListedEdit>),
+    /// The edits that count, from this place on.
+    Listed(usize, History),
     /// The desk refuses the call.
     Refused(CallRefusal),
     /// The line is no call.
@@ -211,6 +216,83 @@ fn tells_value(alloc: Global, shape: &Shape, last: Option<LastEdit>) -> Result<J
     json!(in alloc; {"last": last, "ok": "last"})
 }
 
+// A text as a string. Each text that a cell holds is ASCII: there is no answer where one is not UTF-8.
+fn text_string(alloc: Global, text: &[u8]) -> Result<String, AllocError>
+    ensures { IfOk result (λ s. string_bytes s ≡ text.now) }
+{
+    match str::from_utf8(text) {
+        Ok(text) => String::from_str(alloc, text),
+        Err(_) => Err(AllocError),
+    }
+}
+
+// Which edit it is.
+fn edit_name_value(alloc: Global, edit: &ListedEdit) -> Result<Json, AllocError>
+    ensures { IfOk result (λ v. view v ≡ edit_name_data (entry_view edit.now)) }
+{
+    json!(in alloc; {"number": (edit.number as u64), "process": (edit.process as u64)})
+}
+
+// Which edit a cell is of.
+fn edit_of_value(alloc: Global, edit: &Option<ListedEdit>) -> Result<Json, AllocError>
+    ensures { IfOk result (λ v. view v ≡ edit_of_data (option_map entry_view edit.now)) }
+{
+    match edit {
+        Some(edit) => edit_name_value(alloc, edit),
+        None => Ok(Json::Null),
+    }
+}
+
+// The text that an edit gave its cell.
+fn text_by(alloc: Global, edit: &Option<ListedEdit>) -> Result<String, AllocError>
+    ensures { IfOk result (λ s. string_bytes s ≡ text_by (option_map entry_view edit.now)) }
+{
+    match edit {
+        Some(edit) => text_string(alloc, &edit.text),
+        None => Ok(String::new(alloc)),
+    }
+}
+
+fn got_value(
+    alloc: Global,
+    cell: Cell,
+    value: Value,
+    edit: &Option<ListedEdit>,
+) -> Result<Json, AllocError>
+    ensures { IfOk result (λ v. view v ≡ got_data cell value (option_map entry_view edit.now)) }
+{
+    let name = Json::String(cell.to_string(alloc)?);
+    let text = Json::String(text_by(alloc, edit)?);
+    let value = Json::String(value.to_string(alloc)?);
+    let edit = edit_of_value(alloc, edit)?;
+    json!(in alloc; {"cell": name, "edit": edit, "ok": "got", "text": text, "value": value})
+}
+
+fn entry_value(alloc: Global, edit: &ListedEdit) -> Result<Json, AllocError>
+    ensures { IfOk result (λ v. view v ≡ entry_data (entry_view edit.now)) }
+{
+    let name = Json::String(edit.cell.to_string(alloc)?);
+    let text = Json::String(text_string(alloc, &edit.text)?);
+    json!(in alloc; {"cell": name, "number": (edit.number as u64), "process": (edit.process as u64), "text": text})
+}
+
+fn entries_value(alloc: Global, edits: &[ListedEdit]) -> Result<Json, AllocError>
+    ensures { IfOk result (λ v. view v ≡ entries_data (map entry_view edits.now)) }
+{
+    let mut items = Vec::with_capacity(alloc, edits.len())?;
+    for edit in edits {
+        items.push(entry_value(alloc, edit)?)?;
+    }
+    Ok(Json::Array(items))
+}
+
+fn listed_value(alloc: Global, from: usize, history: &History) -> Result<Json, AllocError>
+    ensures { IfOk result (λ v. view v ≡ listed_data from (map entry_view history.now.edits.items) history.now.of) }
+{
+    let edits = entries_value(alloc, &history.edits)?;
+    json!(in alloc; {"edits": edits, "from": (from as u64), "of": (history.of as u64), "ok": "history"})
+}
+
 fn error_value(alloc: Global, code: u64, name: &str) -> Result<Json, AllocError>
     ensures { IfOk result (λ v. view v ≡ error_data code name.now) }
 {
@@ -232,6 +314,8 @@ fn refusal_value(alloc: Global, refusal: CallRefusal) -> Result<Json, AllocError
         CallRefusal::Stopped => error_value(alloc, 13, "stopped"),
         CallRefusal::RecordsFull => error_value(alloc, 14, "records-full"),
         CallRefusal::NoMemory => error_value(alloc, 15, "no-memory"),
+        CallRefusal::NoEdit => error_value(alloc, 22, "no-edit"),
+        CallRefusal::NoHistory => error_value(alloc, 23, "no-history"),
     }
 }
 
@@ -246,6 +330,8 @@ fn response_value(alloc: Global, shape: &Shape, response: &Response) -> Result<J
         Response::Settled(values) => settled_value(alloc, shape, values),
         Response::Unsettled(place, word) => unsettled_value(alloc, shape, *place, *word),
         Response::Tells(last) => tells_value(alloc, shape, *last),
+        Response::GotCell(cell, value, edit) => got_value(alloc, *cell, *value, edit),
+        Response::Listed(from, history) => listed_value(alloc, *from, history),
         Response::Refused(refusal) => refusal_value(alloc, *refusal),
         Response::Faulted(fault) => error_value(alloc, fault.code(), fault.name()),
     }

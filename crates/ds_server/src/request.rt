@@ -4,7 +4,7 @@ ghost use Rattle.std.specs.Prelude.{◌≡◌, option_map, IfOk, IfSome, codes};
 ghost use Rattle.std.specs.Str.{bytes_eq};
 ghost use Rattle.serde_json.specs.Find.{get};
 ghost use Rattle.serde_json.specs.View.{view};
-ghost use Rattle.ds_server.specs.LineRequests.{verb_named, text_field, number_field, is_number, admits, join_in, join_with, set_in, call_of, IsCallOf};
+ghost use Rattle.ds_server.specs.LineRequests.{verb_named, text_field, number_field, is_number, is_any, admits, join_named, join_in, join_with, may_read, read_with, set_in, undo_in, get_in, history_in, call_of, IsCallOf};
 ghost use Rattle.ds_server.specs.Asked.{ReadsJson, request_view, option_view, result_view};
 ghost use Rattle.std.specs.Prelude.{None, Some};
 
@@ -29,7 +29,7 @@ pub enum LineFault {
     AlreadyJoined,
     /// An allocation failed while the line was read. Code 15.
     NoMemory,
-    /// A join without the desk's token. Code 20.
+    /// A join without the desk's token, or a question so by a session that has not joined. Code 20.
     Denied,
 }
 
@@ -40,8 +40,16 @@ pub enum Operation {
     Join,
     /// To edit a cell.
     Set,
+    /// To take back the last edit of a cell.
+    Undo,
     /// To settle and report.
     Report,
+    /// The same, without a process.
+    View,
+    /// What a cell is.
+    Get,
+    /// The edits that count.
+    History,
     /// To report the last edit.
     Last,
 }
@@ -51,10 +59,20 @@ pub enum Operation {
 pub enum Request<'a> {
     /// To take this process.
     Join(usize),
+    /// To take any process that nobody has.
+    JoinAny,
     /// An edit by the process of the cell to the text.
     Set(usize, Cell, &'a [u8]),
+    /// An edit by the process of the cell to the text that it had before its last edit.
+    Undo(usize, Cell),
     /// A settle and a report by the process.
     Report(usize),
+    /// A settle and a report by the process, or by any without one.
+    View(Option<usize>),
+    /// What the cell is, by the process, or by any without one.
+    Get(Option<usize>, Cell),
+    /// The edits that count, from this place on.
+    History(usize),
     /// A recovery of the process.
     Last(usize),
 }
@@ -76,7 +94,11 @@ fn verb_named(word: &str) -> Option<Operation>
     match word {
         "join" => Some(Operation::Join),
         "set" => Some(Operation::Set),
+        "undo" => Some(Operation::Undo),
         "report" => Some(Operation::Report),
+        "view" => Some(Operation::View),
+        "get" => Some(Operation::Get),
+        "history" => Some(Operation::History),
         "last" => Some(Operation::Last),
         _ => None,
     }
@@ -138,17 +160,36 @@ pub fn done_of(value: &Value) -> Option<u64>
     number_of(value, "told")
 }
 
-// The join of a process, where the desk has it.
-fn join_request<'a>(value: &Value, shape: &Shape, processes: usize) -> Option<Request<'a>>
-    ensures value { option_view result ≡ join_in processes (view value.now) }
+// Whether the field `process` stands for any process.
+fn is_any(value: &Value) -> bool
+    ensures { result ≡ is_any (text_field (codes "process") (view value.now)) }
+{
+    matches!(text_of(value, "process"), Some("any"))
+}
+
+// The join of any process, or of the one that the field names, where the desk has it.
+fn join_named<'a>(value: &Value, shape: &Shape, processes: usize) -> Option<Request<'a>>
+    ensures value { option_view result ≡ join_named processes (view value.now) }
     ensures fits { IfSome result (λ r. IsCallOf shape.now processes None (request_view r)) }
 {
-    if !is_number(value, "told") {
-        return None;
+    if is_any(value) {
+        return Some(Request::JoinAny);
     }
     let process = number_of(value, "process")?;
     if process < processes as u64 {
         Some(Request::Join(process as usize))
+    } else {
+        None
+    }
+}
+
+// The join that the value asks for, where the desk has it.
+fn join_request<'a>(value: &Value, shape: &Shape, processes: usize) -> Option<Request<'a>>
+    ensures value { option_view result ≡ join_in processes (view value.now) }
+    ensures fits { IfSome result (λ r. IsCallOf shape.now processes None (request_view r)) }
+{
+    if is_number(value, "told") {
+        join_named(value, shape, processes)
     } else {
         None
     }
@@ -169,6 +210,50 @@ fn set_request<'a>(
     Some(Request::Set(process, cell, text.as_bytes()))
 }
 
+// The undo by a process of a cell of the sheet.
+fn undo_request<'a>(
+    value: &Value,
+    shape: &Shape,
+    processes: usize,
+    process: usize,
+) -> Option<Request<'a>>
+    ensures value { option_view result ≡ undo_in shape.now process (view value.now) }
+    ensures fits { IfSome result (λ r. IsCallOf shape.now processes (Some process) (request_view r)) }
+{
+    let cell = shape.named(text_of(value, "cell")?.as_bytes())?;
+    Some(Request::Undo(process, cell))
+}
+
+// The question for a cell of the sheet.
+fn get_request<'a>(
+    value: &Value,
+    shape: &Shape,
+    processes: usize,
+    joined: Option<usize>,
+) -> Option<Request<'a>>
+    ensures value { option_view result ≡ get_in shape.now joined (view value.now) }
+    ensures fits { IfSome result (λ r. IsCallOf shape.now processes joined (request_view r)) }
+{
+    let cell = shape.named(text_of(value, "cell")?.as_bytes())?;
+    Some(Request::Get(joined, cell))
+}
+
+// The question for the edits from a place on.
+fn history_request<'a>(
+    value: &Value,
+    shape: &Shape,
+    processes: usize,
+    joined: Option<usize>,
+) -> Option<Request<'a>>
+    ensures value { option_view result ≡ history_in (view value.now) }
+    ensures fits { IfSome result (λ r. IsCallOf shape.now processes joined (request_view r)) }
+{
+    // The body does not use them: a clause names them.
+    let (_shape, _processes, _joined) = (*shape, processes, joined);
+    let from = number_of(value, "from")?;
+    Some(Request::History(from as usize))
+}
+
 // A join: the process, where the value has the token that it has to have, if any.
 fn join_with<'a>(
     value: &Value,
@@ -186,8 +271,40 @@ fn join_with<'a>(
     }
 }
 
+// Whether a session may read: one that has joined a process, or has the token that a join has to have, if any.
+fn may_read(token: Option<&[u8]>, joined: Option<usize>, value: &Value) -> bool
+    ensures { result ≡ may_read (option_map (λ t. t.now) token.entry) joined (view value.now) }
+{
+    match joined {
+        Some(_) => true,
+        None => admits(token, value),
+    }
+}
+
+// The call that only reads, if there is one, where the session may read.
+fn read_with<'a>(
+    value: &Value,
+    shape: &Shape,
+    processes: usize,
+    token: Option<&[u8]>,
+    joined: Option<usize>,
+    request: Option<Request<'a>>,
+) -> Result<Request<'a>, LineFault>
+    requires { IfSome request (λ r. IsCallOf shape.now processes joined (request_view r)) }
+    ensures value { result_view result ≡ read_with (option_map (λ t. t.now) token.entry) joined (view value.now) (option_view request.entry) }
+    ensures fits { IfOk result (λ r. IsCallOf shape.now processes joined (request_view r)) }
+{
+    // The body does not use them: a clause names them.
+    let (_shape, _processes) = (*shape, processes);
+    if may_read(token, joined, value) {
+        request.ok_or(LineFault::BadField)
+    } else {
+        Err(LineFault::Denied)
+    }
+}
+
 /// What the value asks for, by the process that the session has joined, if any; or its first fault. A join has to have
-/// this token, if there is one.
+/// this token, if there is one, and so does a question of a session that has joined no process.
 pub fn read_request<'a>(
     value: &'a Value,
     shape: &Shape,
@@ -203,11 +320,26 @@ pub fn read_request<'a>(
     };
     match (verb_named(op), joined) {
         (None, _) => Err(LineFault::UnknownOp),
+        (Some(Operation::View), _) => {
+            let view = Some(Request::View(joined));
+            read_with(value, shape, processes, token, joined, view)
+        }
+        (Some(Operation::Get), _) => {
+            let get = get_request(value, shape, processes, joined);
+            read_with(value, shape, processes, token, joined, get)
+        }
+        (Some(Operation::History), _) => {
+            let history = history_request(value, shape, processes, joined);
+            read_with(value, shape, processes, token, joined, history)
+        }
         (Some(Operation::Join), None) => join_with(value, shape, processes, token),
         (Some(Operation::Join), Some(_)) => Err(LineFault::AlreadyJoined),
         (Some(_), None) => Err(LineFault::NotJoined),
         (Some(Operation::Set), Some(process)) => {
             set_request(value, shape, processes, process).ok_or(LineFault::BadField)
+        }
+        (Some(Operation::Undo), Some(process)) => {
+            undo_request(value, shape, processes, process).ok_or(LineFault::BadField)
         }
         (Some(Operation::Report), Some(process)) => Ok(Request::Report(process)),
         (Some(Operation::Last), Some(process)) => Ok(Request::Last(process)),

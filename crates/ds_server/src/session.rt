@@ -1,13 +1,13 @@
 //! A session.
 
-ghost use Rattle.std.specs.Prelude.{◌≡◌, ◌≢◌, ◌≤◌, ◌<◌, ◌+◌, ◌^◌, List, ℕ, true, Some, None, OnOk, IfErr, length};
+ghost use Rattle.std.specs.Prelude.{◌≡◌, ◌≢◌, ◌≤◌, ◌<◌, ◌+◌, ◌^◌, List, ℕ, Option, true, Some, None, OnOk, IfErr, length};
 ghost use Rattle.std.specs.Io.KnownBytes.{Consumes, Appends, IsAtEnd};
 ghost use Rattle.serde_json.specs.View.{view};
 ghost use Rattle.ds_formula.specs.Cells.{IsInside};
 ghost use Rattle.ds_script_io.specs.Streams.{reader_of, writer_of, is_flushed, bytes_given, has_ended, read_failed, write_failed};
-ghost use Rattle.ds_server.specs.SessionLimits.{SESSION_LINE_MOST, SESSION_MOST};
-ghost use Rattle.ds_server.specs.DeskCalls.{Join, Set, Report, Last};
-ghost use Rattle.ds_server.specs.Replies.{has_lost, said_to};
+ghost use Rattle.ds_server.specs.SessionLimits.{SESSION_LINE_MOST, SESSION_MOST, HISTORY_MOST};
+ghost use Rattle.ds_server.specs.DeskCalls.{Join, JoinAny, Set, Undo, Report, View, Get, Listing, Last};
+ghost use Rattle.ds_server.specs.Replies.{has_lost, said_to, set_view, report_view};
 ghost use Rattle.ds_server.specs.Desks.{Seated, Leaves, joined_after};
 ghost use Rattle.ds_server.specs.LineRequests.{IsCallOf};
 ghost use Rattle.ds_server.specs.Asked.{request_view};
@@ -16,7 +16,7 @@ ghost use Rattle.ds_server.specs.LineAnswers.{response_view, Writes, Says, Turne
 ghost use Rattle.ds_server.specs.declared.session.TheConstants as constants;
 
 use crate::answer::{Response, response_line};
-use crate::desk::{Desk, Reported};
+use crate::desk::{CallRefusal, Desk, Got, Reported};
 use crate::line::{LineEnd, read_line};
 use crate::request::{LineFault, Request, done_of, read_json, read_request};
 use ds_formula::cells::{Cell, Shape};
@@ -33,6 +33,9 @@ pub const LINE_LIMIT: usize = 4096;
 
 /// The most bytes of a session.
 pub const SESSION_LIMIT: usize = 1_048_576;
+
+/// The most edits that an answer lists.
+pub const HISTORY_LIMIT: usize = 100;
 
 /// How a session ended. What was written before stays written, and what was done before stays done.
 #[derive(Clone, Copy, Debug, PartialEq, Eq)]
@@ -79,6 +82,41 @@ fn join<B: Desk>(alloc: Global, desk: &mut B, process: usize) -> Response
     }
 }
 
+// Any process that nobody has is taken.
+fn join_any<B: Desk>(alloc: Global, desk: &mut B) -> Response
+    ensures does { B.rules.does desk.old JoinAny (response_view result) desk.new }
+    ensures seated { Seated B.rules (joined_after None (response_view result)) desk.new }
+{
+    match desk.join_any(alloc) {
+        Ok((process, last)) => Response::Joined(process, last),
+        Err(refusal) => Response::Refused(refusal),
+    }
+}
+
+// What is said to an edit that ended so.
+fn edit_response(end: Result<EditEnd, CallRefusal>) -> Response
+    ensures said { response_view result ≡ set_view end }
+    ensures same { (joined : Option ℕ) → joined_after joined (response_view result) ≡ joined }
+{
+    match end {
+        Ok(EditEnd::Done(number)) => Response::Done(number),
+        Ok(EditEnd::Overtaken(number, by)) => Response::Overtaken(number, by),
+        Err(refusal) => Response::Refused(refusal),
+    }
+}
+
+// What is said to a report that ended so.
+fn report_response(end: Result<Reported, CallRefusal>) -> Response
+    ensures said { response_view result ≡ report_view end }
+    ensures same { (joined : Option ℕ) → joined_after joined (response_view result) ≡ joined }
+{
+    match end {
+        Ok(Reported::Settled(values)) => Response::Settled(values),
+        Ok(Reported::Unsettled(place, word)) => Response::Unsettled(place, word),
+        Err(refusal) => Response::Refused(refusal),
+    }
+}
+
 // A whole edit.
 fn set<B: Desk>(alloc: Global, desk: &mut B, process: usize, cell: Cell, text: &[u8]) -> Response
     requires sits { B.rules.sits desk.old process }
@@ -86,11 +124,17 @@ fn set<B: Desk>(alloc: Global, desk: &mut B, process: usize, cell: Cell, text: &
     ensures does { B.rules.does desk.old (Set process cell text.now) (response_view result) desk.new }
     ensures seated { Seated B.rules (joined_after (Some process) (response_view result)) desk.new }
 {
-    match desk.set(alloc, process, cell, text) {
-        Ok(EditEnd::Done(number)) => Response::Done(number),
-        Ok(EditEnd::Overtaken(number, by)) => Response::Overtaken(number, by),
-        Err(refusal) => Response::Refused(refusal),
-    }
+    edit_response(desk.set(alloc, process, cell, text))
+}
+
+// A whole edit to the text before.
+fn undo<B: Desk>(alloc: Global, desk: &mut B, process: usize, cell: Cell) -> Response
+    requires sits { B.rules.sits desk.old process }
+    requires inside { IsInside (B.rules.shape desk.old) cell }
+    ensures does { B.rules.does desk.old (Undo process cell) (response_view result) desk.new }
+    ensures seated { Seated B.rules (joined_after (Some process) (response_view result)) desk.new }
+{
+    edit_response(desk.undo(alloc, process, cell))
 }
 
 // A settle and a whole report.
@@ -99,9 +143,42 @@ fn report<B: Desk>(alloc: Global, desk: &mut B, process: usize) -> Response
     ensures does { B.rules.does desk.old (Report process) (response_view result) desk.new }
     ensures seated { Seated B.rules (joined_after (Some process) (response_view result)) desk.new }
 {
-    match desk.report(alloc, process) {
-        Ok(Reported::Settled(values)) => Response::Settled(values),
-        Ok(Reported::Unsettled(place, word)) => Response::Unsettled(place, word),
+    report_response(desk.report(alloc, process))
+}
+
+// The same, by any process without one.
+fn view<B: Desk>(alloc: Global, desk: &mut B, joined: Option<usize>) -> Response
+    requires { Seated B.rules joined desk.old }
+    ensures does { B.rules.does desk.old (View joined) (response_view result) desk.new }
+    ensures seated { Seated B.rules (joined_after joined (response_view result)) desk.new }
+{
+    report_response(desk.view(alloc, joined))
+}
+
+// What the cell is.
+fn get<B: Desk>(alloc: Global, desk: &mut B, joined: Option<usize>, cell: Cell) -> Response
+    requires seated { Seated B.rules joined desk.old }
+    requires inside { IsInside (B.rules.shape desk.old) cell }
+    ensures does { B.rules.does desk.old (Get joined cell) (response_view result) desk.new }
+    ensures seated { Seated B.rules (joined_after joined (response_view result)) desk.new }
+{
+    match desk.get(alloc, joined, cell) {
+        Ok(Got::Settled { value, edit }) => Response::GotCell(cell, value, edit),
+        Ok(Got::Unsettled(place, word)) => Response::Unsettled(place, word),
+        Err(refusal) => Response::Refused(refusal),
+    }
+}
+
+// The edits that count, from this place on.
+fn history<B: Desk>(alloc: Global, desk: &mut B, joined: Option<usize>, from: usize) -> Response
+    requires { Seated B.rules joined desk.old }
+    ensures does { B.rules.does desk.old (Listing from HISTORY_MOST) (response_view result) desk.new }
+    ensures seated { Seated B.rules (joined_after joined (response_view result)) desk.new }
+{
+    // The body does not use it: a clause names it.
+    let _joined = joined;
+    match desk.history(alloc, from, HISTORY_LIMIT) {
+        Ok(history) => Response::Listed(from, history),
         Err(refusal) => Response::Refused(refusal),
     }
 }
@@ -132,8 +209,13 @@ fn carry_out<B: Desk>(
 {
     match request {
         Request::Join(process) => join(alloc, desk, process),
+        Request::JoinAny => join_any(alloc, desk),
         Request::Set(process, cell, text) => set(alloc, desk, process, cell, text),
+        Request::Undo(process, cell) => undo(alloc, desk, process, cell),
         Request::Report(process) => report(alloc, desk, process),
+        Request::View(joined) => view(alloc, desk, joined),
+        Request::Get(joined, cell) => get(alloc, desk, joined, cell),
+        Request::History(from) => history(alloc, desk, joined, from),
         Request::Last(process) => last(alloc, desk, process),
     }
 }
@@ -208,6 +290,7 @@ fn joined_with(joined: Option<usize>, response: &Response) -> Option<usize>
         Response::Joined(process, _) | Response::JoinedLost(process, _) => Some(*process),
         Response::Done(_) | Response::Overtaken(_, _) => joined,
         Response::Settled(_) | Response::Unsettled(_, _) | Response::Tells(_) => joined,
+        Response::GotCell(_, _, _) | Response::Listed(_, _) => joined,
         Response::Refused(_) | Response::Faulted(_) => joined,
     }
 }
@@ -387,4 +470,5 @@ pub fn session<R: Read, W: Write, B: Desk>(
 pub fn constants_are_limits()
     ensures line { constants.LINE_LIMIT ≡ SESSION_LINE_MOST }
     ensures session { constants.SESSION_LIMIT ≡ SESSION_MOST }
+    ensures history { constants.HISTORY_LIMIT ≡ HISTORY_MOST }
 {}

@@ -4,6 +4,8 @@ use crate::reading::read_sound;
 use crate::status::store_status;
 use crate::stores::{tell_fault, written};
 use crate::tables::{Cells, table_of};
+use ds_batch::json::{TableFault, table_line};
+use ds_batch::status::REFUSED;
 use ds_cli::exporting::{ExportForm, Exporting};
 use ds_store::fault::StoreFault;
 use ds_store::sound::SoundLines;
@@ -40,14 +42,28 @@ pub(crate) fn write_table<R: Print + Eprint>(rt: &R, table: &[u8]) -> u8 {
     written(rt, out.write_all(table).and_then(|_| out.flush()))
 }
 
+// Writes a table of the store at this path to standard output as JSON, and gives the status.
+fn write_json<R: AllocGlobal + Print + Eprint>(rt: &R, path: &str, table: &[u8]) -> u8 {
+    match table_line(rt.alloc(), table) {
+        Ok(line) => write_table(rt, &line),
+        Err(TableFault::NoMemory) => tell_fault(rt, path, &StoreFault::NoMemory),
+        Err(TableFault::NotUtf8) => {
+            let _reported = eprintln!(rt;
+                "dsheet: {path}: a text is not UTF-8, as a text of JSON has to be"
+            );
+            REFUSED
+        }
+    }
+}
+
 // Writes what is asked for of a store with these lines, and gives the status.
 fn write_form<R: AllocGlobal + Print + Eprint>(
     rt: &R,
-    path: &str,
-    form: ExportForm,
+    exporting: Exporting<'_>,
     lines: &[String],
 ) -> u8 {
-    let cells = match form {
+    let path = exporting.path;
+    let cells = match exporting.form {
         ExportForm::Lines => {
             let Ok(mut out) = BufWriter::new(rt.alloc(), io::writer(rt)) else {
                 return tell_fault(rt, path, &StoreFault::NoMemory);
@@ -58,6 +74,7 @@ fn write_form<R: AllocGlobal + Print + Eprint>(
         ExportForm::Values => Cells::Values,
     };
     match table_of(rt.alloc(), cells, lines) {
+        Ok(table) if exporting.json => write_json(rt, path, &table),
         Ok(table) => write_table(rt, &table),
         Err(fault) => tell_fault(rt, path, &fault),
     }
@@ -80,23 +97,21 @@ fn tell_left_out<R: Eprint>(rt: &R, path: &str, sound: &SoundLines) -> u8 {
 // Writes what is asked for of sound lines, and reports on standard error which were left out. Gives the status.
 fn write_sound<R: AllocGlobal + Print + Eprint>(
     rt: &R,
-    path: &str,
-    form: ExportForm,
+    exporting: Exporting<'_>,
     sound: &SoundLines,
 ) -> u8 {
-    match write_form(rt, path, form, &sound.lines) {
-        0 => tell_left_out(rt, path, sound),
+    match write_form(rt, exporting, &sound.lines) {
+        0 => tell_left_out(rt, exporting.path, sound),
         status => status,
     }
 }
 
-/// `dsheet export`: to standard output the lines of a store, which are a script, or its texts or values as CSV. With
-/// `until` it may be damaged: it is that of the lines before the first one that is not sound, `until` at most; standard
-/// error says which are left out, and the status is that of the store, as of `check`.
+/// `dsheet export`: to standard output the lines of a store, which are a script, or its texts or values, as CSV or as one line of
+/// JSON. With `until` it may be damaged: it is that of the lines before the first one that is not sound, `until` at most;
+/// standard error says which are left out, and the status is that of the store, as of `check`.
 pub fn export<R: AllocGlobal + Print + Eprint + Files>(rt: &R, exporting: Exporting<'_>) -> u8 {
-    let Exporting { path, until, form } = exporting;
-    match read_sound(rt, path, until) {
-        Ok(sound) => write_sound(rt, path, form, &sound),
+    match read_sound(rt, exporting.path, exporting.until) {
+        Ok(sound) => write_sound(rt, exporting, &sound),
         Err(status) => status,
     }
 }

@@ -2,7 +2,6 @@
 #![tactic(auto)]
 
 pub mod backup;
-pub mod edits;
 pub mod exporting;
 pub mod importing;
 pub mod log;

@@ -4,7 +4,6 @@ ghost use Rattle.std.specs.Prelude.{map};
 ghost use Rattle.std.specs.String.{string_bytes};
 ghost use Rattle.ds_store_commands.specs.Logs.{HaveFirst};
 
-use crate::edits::{Entry, Maker, entries};
 use crate::exporting::{write_line, write_table};
 use crate::reading::{ReadStore, read_store};
 use crate::stores::{tell_fault, written};
@@ -14,6 +13,7 @@ use ds_formula::cells::{Cell, Shape};
 use ds_layout::layout::Layout;
 use ds_script_io::fields::is_skipped;
 use ds_store::fault::StoreFault;
+use ds_store_edits::edits::{Entry, Maker, entries};
 use std::alloc::Global;
 use std::fs::Files;
 use std::io::{self, BufWriter, Write};

@@ -3,7 +3,8 @@
 use crate::making::make_store;
 use crate::reading::{ReadStore, read_store};
 use crate::status::store_status;
-use ds_batch::status::STREAM_FAILED;
+use ds_batch::closing::is_closed;
+use ds_batch::status::{CLOSED, STREAM_FAILED};
 use ds_formula::cells::Shape;
 use ds_layout::layout::Layout;
 use ds_store::compact;
@@ -49,10 +50,11 @@ pub fn close<R: Eprint>(rt: &R, path: &str, store: Store<Disk>) -> u8 {
     closed(rt, path, store.into_database().close())
 }
 
-/// The status after what was written, or not.
+/// The status after what was written, or not; where nobody reads it any more, nothing is said.
 pub(crate) fn written<R: Eprint>(rt: &R, out: io::Result<()>) -> u8 {
     match out {
         Ok(()) => 0,
+        Err(error) if is_closed(&error) => CLOSED,
         Err(error) => tell_error(rt, "standard output", &error),
     }
 }

@@ -16,8 +16,8 @@ fn base(line: usize) -> usize {
     line_y(line).saturating_add(4)
 }
 
-// The text, cut where it has no room; three dots show that.
-fn cut(alloc: Global, text: &[u8], limit: usize) -> Result<Vec<u8>, AllocError> {
+/// The text, cut where it has no room; three dots show that.
+pub fn cut(alloc: Global, text: &[u8], limit: usize) -> Result<Vec<u8>, AllocError> {
     if text.len() <= limit {
         return Vec::from_slice(alloc, text);
     }
@@ -87,8 +87,8 @@ fn draw_rail(page: &mut Page, alloc: Global, x: usize, rail: &Rail) -> Result<()
     }
 }
 
-// The sign of an event that does not happen.
-fn draw_refused(page: &mut Page, alloc: Global, x: usize, y: usize) -> Result<(), NoPage> {
+/// The sign of an event that does not happen.
+pub fn draw_refused(page: &mut Page, alloc: Global, x: usize, y: usize) -> Result<(), NoPage> {
     let (left, right) = (x.saturating_sub(4), x.saturating_add(4));
     let (top, bottom) = (y.saturating_sub(4), y.saturating_add(4));
     let outline = format!(in alloc;
@@ -97,8 +97,8 @@ fn draw_refused(page: &mut Page, alloc: Global, x: usize, y: usize) -> Result<()
     path(page, alloc, "a", outline.as_str())
 }
 
-// The sign of an entry on the line of its call.
-fn draw_sign(
+/// The sign of an entry on the line of its call.
+pub fn draw_sign(
     page: &mut Page,
     alloc: Global,
     x: usize,

@@ -16,8 +16,13 @@ use std::alloc::Global;
 // The least width, for the legend.
 const LEAST_WIDTH: usize = 650;
 
-// The page, with its looks.
-fn begin_page(alloc: Global, limit: usize, width: usize, height: usize) -> Result<Page, NoPage> {
+/// The page, so wide and so high.
+pub fn begin_page(
+    alloc: Global,
+    limit: usize,
+    width: usize,
+    height: usize,
+) -> Result<Page, NoPage> {
     let view = format!(in alloc; "0 0 {width} {height}")?;
     let attributes = [
         named(Name::Namespace, b"http://www.w3.org/2000/svg"),

@@ -41,6 +41,20 @@ const FAST: &[u8] =
 const FAST_ANSWERS: &str =
     "{\"last\":null,\"ok\":\"join\",\"process\":1}\n{\"code\":4,\"error\":\"process-taken\"}\n{\"last\":null,\"ok\":\"join\",\"process\":0}\n{\"number\":0,\"ok\":\"done\"}\n{\"number\":1,\"ok\":\"done\"}\n{\"number\":2,\"ok\":\"done\"}\n{\"number\":3,\"ok\":\"done\"}\n{\"number\":4,\"ok\":\"done\"}\n{\"number\":5,\"ok\":\"done\"}\n{\"number\":6,\"ok\":\"done\"}\n{\"number\":7,\"ok\":\"done\"}\n{\"number\":8,\"ok\":\"done\"}\n{\"number\":9,\"ok\":\"done\"}\n{\"number\":10,\"ok\":\"done\"}\n{\"number\":11,\"ok\":\"done\"}\n{\"number\":12,\"ok\":\"done\"}\n{\"number\":13,\"ok\":\"done\"}\n{\"number\":14,\"ok\":\"done\"}\n{\"number\":15,\"ok\":\"done\"}\n{\"number\":16,\"ok\":\"done\"}\n{\"number\":17,\"ok\":\"done\"}\n{\"number\":18,\"ok\":\"done\"}\n{\"number\":19,\"ok\":\"done\"}\n{\"number\":0,\"ok\":\"done\"}\n{\"ok\":\"settled\",\"rows\":[[\"20\",\"21\"],[\"\",\"\"]]}\n";
 
+// A client edits, reads and takes edits back.
+const EDITOR: &[u8] =
+    b"{\"op\":\"join\",\"process\":\"any\"}\n{\"op\":\"set\",\"cell\":\"A1\",\"text\":\"=1+2\"}\n{\"op\":\"set\",\"cell\":\"B2\",\"text\":\"7\"}\n{\"op\":\"set\",\"cell\":\"A1\",\"text\":\"=[.B2]\"}\n{\"op\":\"get\",\"cell\":\"A1\"}\n{\"op\":\"undo\",\"cell\":\"A1\"}\n{\"op\":\"undo\",\"cell\":\"A1\"}\n{\"op\":\"undo\",\"cell\":\"B1\"}\n{\"op\":\"get\",\"cell\":\"A1\"}\n";
+
+// Somebody reads who joins no process.
+const VIEWER: &[u8] =
+    b"{\"op\":\"get\",\"cell\":\"A1\"}\n{\"op\":\"get\",\"cell\":\"B1\"}\n{\"op\":\"view\"}\n{\"op\":\"history\",\"from\":0}\n{\"op\":\"history\",\"from\":4}\n{\"op\":\"history\",\"from\":9}\n{\"op\":\"undo\",\"cell\":\"A1\"}\n";
+
+const READ_ANSWERS: &str =
+    "{\"last\":null,\"ok\":\"join\",\"process\":0}\n{\"number\":0,\"ok\":\"done\"}\n{\"number\":1,\"ok\":\"done\"}\n{\"number\":2,\"ok\":\"done\"}\n{\"cell\":\"A1\",\"edit\":{\"number\":2,\"process\":0},\"ok\":\"got\",\"text\":\"=[.B2]\",\"value\":\"7\"}\n{\"number\":3,\"ok\":\"done\"}\n{\"number\":4,\"ok\":\"done\"}\n{\"code\":22,\"error\":\"no-edit\"}\n{\"cell\":\"A1\",\"edit\":{\"number\":4,\"process\":0},\"ok\":\"got\",\"text\":\"=[.B2]\",\"value\":\"7\"}\n";
+
+const VIEWED: &str =
+    "{\"cell\":\"A1\",\"edit\":{\"number\":4,\"process\":0},\"ok\":\"got\",\"text\":\"=[.B2]\",\"value\":\"7\"}\n{\"cell\":\"B1\",\"edit\":null,\"ok\":\"got\",\"text\":\"\",\"value\":\"\"}\n{\"ok\":\"settled\",\"rows\":[[\"7\",\"\"],[\"\",\"7\"]]}\n{\"edits\":[{\"cell\":\"A1\",\"number\":0,\"process\":0,\"text\":\"=1+2\"},{\"cell\":\"B2\",\"number\":1,\"process\":0,\"text\":\"7\"},{\"cell\":\"A1\",\"number\":2,\"process\":0,\"text\":\"=[.B2]\"},{\"cell\":\"A1\",\"number\":3,\"process\":0,\"text\":\"=1+2\"},{\"cell\":\"A1\",\"number\":4,\"process\":0,\"text\":\"=[.B2]\"}],\"from\":0,\"of\":5,\"ok\":\"history\"}\n{\"edits\":[{\"cell\":\"A1\",\"number\":4,\"process\":0,\"text\":\"=[.B2]\"}],\"from\":4,\"of\":5,\"ok\":\"history\"}\n{\"edits\":[],\"from\":9,\"of\":5,\"ok\":\"history\"}\n{\"code\":6,\"error\":\"not-joined\"}\n";
+
 const ROWS: [LoopbackRow; 6] = [
     LoopbackRow {
         workers: 0,
@@ -101,6 +115,21 @@ fn serve_loopback(rt: HostRuntime) -> Result<(), Fail> {
         let got = str::from_utf8(served.answers.as_slice()).unwrap_or("?");
         assert!(rt; is_right(&served, row.answers), "{got}");
     }
+    Ok(())
+}
+
+// A client edits, reads and takes edits back; when it has gone, somebody reads who joins no process, while a worker has the
+// other one.
+#[test]
+fn reads_need_no_process(rt: HostRuntime) -> Result<(), Fail> {
+    let alloc = rt.alloc();
+    let served = serve_clients(&rt, alloc, LAYOUT, 1, Clients::Each(&[EDITOR, VIEWER]))?;
+    let got = str::from_utf8(served.answers.as_slice()).unwrap_or("?");
+    assert!(rt;
+        got.starts_with(READ_ANSWERS) && got.ends_with(VIEWED),
+        "{got}"
+    );
+    assert!(rt; served.is_closed && got.len() == READ_ANSWERS.len() + VIEWED.len());
     Ok(())
 }
 

@@ -42,7 +42,7 @@ fn unsettled(rt: HostRuntime) {
 }
 
 // What a board refuses, by its code and name.
-const REFUSALS: [(CallRefusal, &str); 4] = [
+const REFUSALS: [(CallRefusal, &str); 6] = [
     (
         CallRefusal::ProcessTaken,
         "{\"code\":4,\"error\":\"process-taken\"}\n",
@@ -58,6 +58,11 @@ const REFUSALS: [(CallRefusal, &str); 4] = [
     (
         CallRefusal::NoMemory,
         "{\"code\":15,\"error\":\"no-memory\"}\n",
+    ),
+    (CallRefusal::NoEdit, "{\"code\":22,\"error\":\"no-edit\"}\n"),
+    (
+        CallRefusal::NoHistory,
+        "{\"code\":23,\"error\":\"no-history\"}\n",
     ),
 ];
 

@@ -8,4 +8,6 @@ mod beside;
 #[cfg(test)]
 mod failing;
 #[cfg(test)]
+mod reading;
+#[cfg(test)]
 mod talking;

@@ -1,5 +1,8 @@
+use ds_explore::exploration::explored;
 use ds_explore::explore::{ExploreEnd, explore};
 use ds_explore::options::{Options, Watcher};
+use ds_explore_summary::json::lines;
+use ds_explore_summary::summary::summary;
 use ds_script_io::streams::Writing;
 use std::str::from_utf8;
 use test_support::streams::Full;
@@ -60,4 +63,34 @@ fn failing_writers(rt: HostRuntime) {
         };
         assert_eq!(rt; end, expected, "{room}");
     }
+}
+
+// What may be reported after an edit of a number, with a crash at each of its states or none.
+const ENDINGS: &str = "states 21\norders 22\noutcomes 5\nendings 3\nnothing is wrong\n
+ending 1: orders 9, with a crash or without one\noutcomes 1 2 3\n0 last 0 A1 done\n1 nothing\nclean\nsettled\n7,\n,\n
+ending 2: orders 4, with a crash alone\noutcomes 4\n0 last 0 A1 not-done\n1 nothing\nclean\nsettled\n,\n,\n
+ending 3: orders 9, with a crash alone\noutcomes 5\n0 nothing\n1 nothing\nclean\nsettled\n,\n,\n";
+
+// The figures of the same, as JSON.
+const FIGURES: &str =
+    "{\"cut\":false,\"endless\":false,\"found\":{\"orders\":\"22\",\"outcomes\":5,\"states\":21},\"wrong\":false}\n";
+
+#[test]
+fn endings(rt: HostRuntime) {
+    let options = Options {
+        crashes: true,
+        ..STEPS
+    };
+    let mut last = Last { states: 0 };
+    let found = explored(rt.alloc(), b"begin 0 set A1 7\n", options, &mut last);
+    let Ok(exploration) = found else {
+        assert!(rt; false, "an exploration");
+        return;
+    };
+    let text = summary(rt.alloc(), &exploration).unwrap_or(Vec::new(rt.alloc()));
+    assert_eq!(rt; from_utf8(&text).unwrap_or(""), ENDINGS, "at a glance");
+    let text = lines(rt.alloc(), &exploration).unwrap_or(Vec::new(rt.alloc()));
+    let text = from_utf8(&text).unwrap_or("");
+    assert!(rt; text.starts_with(FIGURES), "the figures");
+    assert_eq!(rt; text.split('\n').count(), 7, "a line for each outcome");
 }

@@ -4,4 +4,5 @@ pub returns : goal.returns
 returns c =
     let one = c.with_argument-one.ensures _ _ c.file_command-command.ensures c.number_option.ensures.rule c.number_option.ensures.local in
     let two = c.with_argument-two.ensures _ _ one c.flag.ensures.rule c.flag.ensures.local in
-    c.with_argument.ensures _ _ two c.flag-2.ensures.rule c.flag-2.ensures.local
+    let three = c.with_argument-three.ensures _ _ two c.flag-2.ensures.rule c.flag-2.ensures.local in
+    c.with_argument.ensures _ _ three c.flag-3.ensures.rule c.flag-3.ensures.local

@@ -1,15 +1,8 @@
-use Rattle.std.proofs.Common.{inl, inr, refl, sym}
-use Rattle.std.proofs.lemmas.List.{append-nil}
-use Rattle.ds_server.specs.declared.desk.CallRefusal.TheVariants.{NoMemory}
-use Rattle.ds_server.specs.Replies.{Refused}
+use Rattle.ds_server.specs.Replies.{set_view}
+use Rattle.ds_net_desks.specs.StoredDesks.{StoredSet}
+use Rattle.ds_net_desks.proofs.Reading.{used_after}
 use Rattle.ds_net_desks.proofs.stored_desk.seat_edit.Goals as goal
 
-pub returns-in-Err-clause-uses : goal.returns-in-Err-clause-uses
-returns-in-Err-clause-uses g c = record {
-  now = c.args.numbered.now;
-  plain = Refused NoMemory;
-  catches_up = record { process = refl; newer = inl refl };
-  uses = (inr (refl, refl), sym (append-nil c.args.heard.now.items));
-  seen = refl;
-  rest = record { numberings = refl; epoch = refl };
-}
+pub returns-clause-uses : goal.returns-clause-uses
+returns-clause-uses g c =
+    used_after (StoredSet c.args.heard.now.items c.args.cell c.args.text.now c.edited_as-end.new.heard.items) c.args.numbered.now c.catch_up.new.numbered c.edited_as-end.new.numbered (set_view c.edited_as-end.result) c.catch_up.ensures c.edited_as-end.ensures.uses

@@ -1,0 +1,9 @@
+use Rattle.std.proofs.Common.{◌≡◌}
+use Rattle.ds_net_desks.specs.CellQuestions.{HasTried}
+use Rattle.ds_net_desks.proofs.cell_question.CellQuestion.answer.Given as goal
+
+abbrev pub invariant-loop : goal.invariant-loop
+invariant-loop g l = record {
+  tried : HasTried l.fn.numbered l.fn.seen.items l.numbered l.seen.items;
+  process : l.numbered.seat.pass.process ≡ l.fn.numbered.seat.pass.process;
+}

@@ -1,0 +1,3 @@
+mod Floats
+mod Carrying
+pub mod JsonRuns

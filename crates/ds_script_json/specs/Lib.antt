@@ -1,0 +1,3 @@
+pub mod CommandEnds
+pub mod JsonAnswers
+pub mod JsonScripts

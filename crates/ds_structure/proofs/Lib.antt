@@ -1,0 +1,9 @@
+pub mod Words
+pub mod Seconds
+pub mod Passing
+pub mod Losing
+pub mod Edits
+pub mod Works
+pub mod Shows
+pub mod Recoveries
+pub mod Structure

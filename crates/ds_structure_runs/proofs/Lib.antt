@@ -1,0 +1,11 @@
+pub mod Clipped
+pub mod Tidy
+pub mod Leading
+pub mod ByKind
+pub mod Answering
+pub mod EditRuns
+pub mod WorkRuns
+pub mod ShowRuns
+pub mod RecoveryRuns
+pub mod Cores
+pub mod Boards
