@@ -37,9 +37,12 @@ def row(what, got, wanted):
 class Server:
     """The program as a server, by HTTP and by lines."""
 
+    running = []
+
     def __init__(self, program, *words):
         ask = [program, "serve", "--listen", "127.0.0.1:0", "--http", "127.0.0.1:0", "--forever", *words]
         self.process = subprocess.Popen(ask, stdin=subprocess.PIPE, stderr=subprocess.PIPE, text=True, bufsize=1)
+        Server.running.append(self.process)
         self.said, self.lines, self.port = [], None, None
         while self.port is None:
             line = self.process.stderr.readline()
@@ -216,8 +219,20 @@ def requests(server):
         '{"last":null,"ok":"join","process":0}', '{"ok":"settled","rows":[["3",""],["","6"]]}', '{"last":null,"ok":"last"}']))
     row("no lines", client.ask("POST", "/lines", "")[::2], (200, ""))
     row("lines that are none", client.ask("POST", "/lines", "{\n\n")[2].splitlines(), ['{"code":1,"error":"not-json"}'] * 2)
-    status, fields, body = client.ask("GET", "/edits")
-    row("another method", (status, fields["allow"], body), (405, "POST", '{"code":32,"error":"method-not-allowed"}\n'))
+    row("a cell and its last edit", client.ask("GET", "/cells/b2")[::2], (
+        200, '{"cell":"B2","edit":{"number":1,"process":1},"ok":"got","text":"=[.A1]*2","value":"6"}\n'))
+    row("a cell that nobody edited", client.ask("GET", "/cells/A2")[::2], (200, '{"cell":"A2","edit":null,"ok":"got","text":"","value":""}\n'))
+    row("its head alone", client.ask("HEAD", "/cells/A1")[::2], (200, ""))
+    for path in ["/cells/C1", "/cells/", "/cells/A1/", "/cells", "/cells/%411"]:
+        row(f"no cell of the sheet: {path}", client.ask("GET", path)[::2], (404, '{"code":31,"error":"not-found"}\n'))
+    both = [{"cell": "A1", "number": 0, "process": 1, "text": "=1+2"}, {"cell": "B2", "number": 1, "process": 1, "text": "=[.A1]*2"}]
+    for query, edits, first in [("", both, 0), ("?from=0", both, 0), ("?from=1", both[1:], 1), ("?from=02", [], 2), ("?from=18446744073709551614", [], 2**64 - 2)]:
+        status, _, body = client.ask("GET", "/edits" + query)
+        row(f"the list of edits{query}", (status, json.loads(body)), (200, {"edits": edits, "from": first, "of": 2, "ok": "history"}))
+    for query in ["?", "?from=", "?from=x", "?from=-1", "?from=1&most=2", "?most=1", "?from=18446744073709551615"]:
+        row(f"no place in the list: {query}", client.ask("GET", "/edits" + query)[::2], (400, '{"code":3,"error":"bad-field"}\n'))
+    status, fields, body = client.ask("DELETE", "/edits")
+    row("another method", (status, fields["allow"], body), (405, "GET, HEAD, POST", '{"code":32,"error":"method-not-allowed"}\n'))
     row("a method that changes", client.ask("PUT", "/sheet", "1")[1]["allow"], "GET, HEAD")
     row("no such path", client.ask("GET", "/edits/1")[::2], (404, '{"code":31,"error":"not-found"}\n'))
     row("a query is no part of the path", client.ask("GET", "/healthz?a=1")[0], 200)
@@ -243,7 +258,7 @@ def fits(described, schema, value):
     if schema["type"] == "object":
         known = schema["properties"]
         return set(schema["required"]) <= set(value) <= set(known) and all(fits(described, known[key], value[key]) for key in value)
-    return isinstance(value, {"string": str, "integer": int}[schema["type"]]) and value != -1
+    return isinstance(value, {"string": str, "integer": int, "null": type(None)}[schema["type"]]) and value != -1
 
 
 def description(server):
@@ -253,13 +268,14 @@ def description(server):
     asked = {"connection": "Upgrade", "upgrade": "websocket", "sec_websocket_version": "13", "sec_websocket_key": KEY}
     cases = [
         ("POST", "/edits", '{"cell":"a1","text":"=1+2"}', 200, {}), ("POST", "/edits", '{"cell":"A1","text":"=1+"}', 422, {}),
-        ("POST", "/edits", '{"cell":"A1"}', 400, {}), ("GET", "/sheet", None, 200, {}), ("POST", "/lines", "{}", 200, {}),
+        ("POST", "/edits", '{"cell":"A1"}', 400, {}), ("GET", "/sheet", None, 200, {}), ("GET", "/edits", None, 200, {}),
+        ("GET", "/edits?from=x", None, 400, {}), ("GET", "/cells/A1", None, 200, {}), ("GET", "/cells/C1", None, 404, {}), ("POST", "/lines", "{}", 200, {}),
         ("GET", "/session", None, 426, {}), ("GET", "/session", None, 400, asked | {"sec_websocket_key": "none"}),
         ("GET", "/session", None, 101, asked), ("GET", "/healthz", None, 200, {}), ("GET", "/", None, 200, {}),
     ]
     for method, path, body, wanted, fields in cases:
         status, told, text = Client(server).ask(method, path, body, **fields)
-        answers = described["paths"][path][method.lower()]["responses"]
+        answers = described["paths"][re.sub("/cells/.*", "/cells/{name}", path.split("?")[0])][method.lower()]["responses"]
         kind, form = next(iter(answers[str(wanted)].get("content", {}).items()), (None, None))
         value = json.loads(text) if kind == "application/json" else text
         right = form is None or told["content-type"] == kind and fits(described, form["schema"], value)
@@ -363,7 +379,9 @@ def beside(server):
     other = WebSocket(server)
     row("a second session has process 1", other.ask(op="join", process=1)["ok"], "join")
     row("no process is free", client.edit("A1", "6"), (503, {"code": 4, "error": "process-taken"}))
-    row("nor for a report", client.ask("GET", "/sheet")[::2], (503, '{"code":4,"error":"process-taken"}\n'))
+    row("a report needs none", client.sheet()[0], ["5", "8"])
+    row("nor does a cell", json.loads(client.ask("GET", "/cells/B1")[2])["value"], "8")
+    row("nor a session's view", json.loads(client.ask("POST", "/lines", '{"op":"view"}')[2])["rows"], client.sheet())
     other.client.close()
     for _ in range(200):
         if client.edit("A1", "9")[0] == 200:
@@ -436,6 +454,8 @@ def tokens(program):
         for value in ["Bearer open sesam", "Bearer open sesame2", "open sesame", "Bearer "]:
             row(f"an edit with {value}", client.ask("POST", "/edits", edit, authorization=value)[0], 401)
         row("a report without it", client.ask("GET", "/sheet")[0], 401)
+        row("a cell without it", client.ask("GET", "/cells/A1")[0], 401)
+        row("the list of edits without it", client.ask("GET", "/edits")[0], 401)
         row("a report with it", client.ask("GET", "/sheet", authorization="Bearer open sesame")[2], '{"ok":"settled","rows":[["",""],["",""]]}\n')
         row("an edit with it", client.ask("POST", "/edits", edit, authorization="Bearer open sesame")[0], 200)
         row("a join without it", client.ask("POST", "/lines", '{"op":"join","process":0}')[2], '{"code":20,"error":"denied"}\n')
@@ -491,6 +511,8 @@ def main():
         failed = 1
     print(f"http: {passed} passed, {failed} failed")
     sys.stdout.flush()
+    for process in Server.running:
+        process.kill()
     os._exit(1 if failed else 0)
 
 

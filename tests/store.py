@@ -355,6 +355,35 @@ def check_reading(program, folder, gets, draw):
     pass_rows("the history after a kill, a join of any process, two undos", 3)
 
 
+def check_crowded(program, folder):
+    """Each process is a client's: who only reads is answered all the same, from scratch, what a client's report tells."""
+    server, port = start(program, os.path.join(folder, "crowd.db"))
+    editors = [Viewer(port) for _ in range(PROCESSES)]
+    for editor in editors:
+        if editor.call(op="join", process="any").get("ok") != "join":
+            raise Failed("a client cannot join any process")
+    viewer = Viewer(port)
+    if viewer.call(op="join", process="any").get("error") != "process-taken":
+        raise Failed("a process is free where each is a client's")
+    texts = {"A1": "2", "B1": "=[.A1]*3", "C1": "=SUM([.A1:.B1])", "D1": "=[.D1]", "A2": "1", "B2": "=1/0"}
+    for cell, text in [("C1", "9"), *texts.items(), ("A2", "")]:
+        if editors[0].call(op="set", cell=cell, text=text).get("ok") != "done":
+            raise Failed(f"an edit of {cell}")
+    told = editors[1].settled(op="report")
+    if told["rows"][0] != ["2", "6", "8", "Err:522"] or viewer.call(op="view") != told:
+        raise Failed(f"a view from scratch is {viewer.call(op='view')}, a report {told}")
+    for number, (cell, text) in enumerate({**texts, "A2": ""}.items()):
+        value = told["rows"][int(cell[1]) - 1][ord(cell[0]) - 65]
+        number = 7 if cell == "A2" else number + 1
+        answer = viewer.call(op="get", cell=cell)
+        if (answer["value"], answer["text"], answer["edit"]["number"]) != (value, text, number):
+            raise Failed(f"a cell from scratch is {answer}")
+    if viewer.call(op="get", cell="D8") != {"cell": "D8", "edit": None, "ok": "got", "text": "", "value": ""}:
+        raise Failed("a cell that nobody edited")
+    stop(server)
+    pass_rows("a view and cells, where each process is a client's", 2 + len(texts))
+
+
 def run(program, *words, **more):
     return subprocess.run([program, *words], capture_output=True, text=True, timeout=60, **more)
 
@@ -988,6 +1017,7 @@ def check_all(program, kills, cuts, many, draw):
         check_backup(program, folder, store)
         check_backup_beside(program, folder, max(5, cuts // 5), draw)
         check_reading(program, folder, max(100, 5 * cuts), draw)
+        check_crowded(program, folder)
         check_full(program, folder)
         check_white_space(program, folder)
         check_fifo(program, folder)

@@ -3,10 +3,12 @@
 OpenDocument are written as dsheet reads them; the first table of the document is taken.
     documents.py grid BUDGET.fods > budget.csv            the texts of its cells: numbers, formulas and labels
     dsheet report budget.csv --labels > values.csv
+    documents.py texts BUDGET.fods | dsheet import budget.db --csv        the same without labels, as a store
     documents.py fill BUDGET.fods values.csv NEW.fods     the same document, its formulas with these values
     documents.py values NEW.fods                          the values that a document shows
 """
 import csv
+import re
 import sys
 import xml.etree.ElementTree as ET
 import zipfile
@@ -86,6 +88,11 @@ def text(cell):
     return formula.removeprefix("of:") or shown(cell)
 
 
+def content(cell):
+    """The text of a cell, where it is no label: a label begins neither as a number nor as a formula does."""
+    return text(cell) if re.match(r"[ \t+.-]*[=\d]", text(cell)) else ""
+
+
 def fill(tree, values):
     """Gives each formula the value that stands in its place."""
     for row, wanted in zip(cells(tree), values, strict=True):
@@ -109,11 +116,11 @@ def main(command, document, *files):
             fill(tree, csv.reader(values))
         write(tree, document, files[1])
     else:
-        of_cell = {"grid": text, "values": shown}[command]
+        of_cell = {"grid": text, "texts": content, "values": shown}[command]
         csv.writer(sys.stdout, lineterminator="\n").writerows(map(of_cell, row) for row in cells(tree))
 
 
 if __name__ == "__main__":
-    if len(sys.argv) - 1 != {"grid": 2, "values": 2, "fill": 4}.get("".join(sys.argv[1:2])):
+    if len(sys.argv) - 1 != {"grid": 2, "texts": 2, "values": 2, "fill": 4}.get("".join(sys.argv[1:2])):
         sys.exit(__doc__)
     main(*sys.argv[1:])

@@ -1,20 +1,15 @@
 //! Whether an outcome is one that may be.
 
 ghost use Rattle.std.specs.Prelude.{◌≡◌, ◌≢◌, ◌++◌, List, IfOk, IsFalse, IsTrue, OnOk, length, map, option_copied, option_map, true};
-ghost use Rattle.ds_explore.specs.Judging.{AddsValueFlaws, AreContents, EndsIn, FitsValue, Holds, IsEvaluated, IsJudgeOf, IsJudged, JudgesReport, JudgesValues, answer_at, any_below, asked_in, asked_of, edit_at, flaws_below, has_text, is_contradicted, is_done, is_done_at, is_done_in, is_done_with, is_overtaken_by_none, is_refused, is_reported_done, is_reported_otherwise, is_reported_twice, is_text, is_undone, may_hold, plain_asked, process_flaw, same_bool, same_end, settle_flaw, recovery_at, text_flaw, texts_in, texts_of};
+ghost use Rattle.ds_explore.specs.Judging.{AddsValueFlaws, EndsIn, FitsValue, IsJudgeOf, IsJudged, JudgesReport, JudgesValues, answer_at, any_below, asked_in, asked_of, edit_at, flaws_below, has_text, is_contradicted, is_done, is_done_at, is_done_in, is_done_with, is_overtaken_by_none, is_refused, is_reported_done, is_reported_otherwise, is_reported_twice, is_text, is_undone, may_hold, plain_asked, process_flaw, same_bool, same_end, settle_flaw, recovery_at, text_flaw, texts_in, texts_of};
 ghost use Rattle.ds_explore.specs.declared.flaw.Flaw.{Flaw};
 ghost use Rattle.ds_state.specs.Value.{WorldValue};
 
 use crate::ends::{OutcomeEnding, end_order, values};
 use crate::flaw::{Flaw, add};
 use ds_calls::settle::SettleEnd;
-use ds_eval::scratch::scratch;
-use ds_eval::sheet::Sheet;
 use ds_eval::value::Value;
 use ds_formula::cells::Shape;
-use ds_formula::content::Content;
-use ds_formula::fault::FaultKind;
-use ds_formula::reading::read_content;
 use ds_state::answer::{Answer, EditEnd};
 use ds_state::edit::EditCall;
 use ds_state::recovery::{LastEdit, RecoveryEnd};
@@ -23,6 +18,7 @@ use ds_state::show::ShowEnd;
 use ds_state::shown;
 use ds_state::situation::Situation;
 use ds_state::world::World;
+use ds_text_values::values::evaluated;
 use std::alloc::{AllocError, Global};
 
 /// An edit under way where the script ends.
@@ -416,44 +412,6 @@ impl Judge {
         all_report_flaws(alloc, world, &texts, ending.reported, &mut flaws)?;
         Ok(flaws)
     }
-}
-
-// What a text gives its cell. An error means that an allocation failed.
-#[tactic(auto, using(crate::proofs::Valued::blank_holds))]
-fn content_of(alloc: Global, shape: Shape, text: &[u8]) -> Result<Content, AllocError>
-    ensures { IfOk result (Holds shape text.now) }
-{
-    match read_content(alloc, &shape, text) {
-        Ok(content) => Ok(content),
-        Err(fault) => match fault.kind {
-            FaultKind::NoMemory => Err(AllocError),
-            _ => Ok(Content::Blank),
-        },
-    }
-}
-
-// What texts give their cells.
-fn contents(alloc: Global, shape: Shape, texts: &[Vec<u8>]) -> Result<Vec<Content>, AllocError>
-    ensures { IfOk result (λ held. AreContents shape (texts_of texts.now) held.items) }
-{
-    let mut held = Vec::new(alloc);
-    for number in 0..texts.len() {
-        let content = content_of(alloc, shape, &texts[number])?;
-        held.push(content)?;
-    }
-    Ok(held)
-}
-
-// The values of texts of all cells, from scratch. An error is also that they are not those of all.
-fn evaluated(alloc: Global, shape: Shape, texts: &[Vec<u8>]) -> Result<Vec<Value>, AllocError>
-    ensures { IfOk result (λ values. IsEvaluated shape (texts_of texts.now) values.items) }
-{
-    let contents = contents(alloc, shape, texts)?;
-    if contents.len() != shape.count() {
-        return Err(AllocError);
-    }
-    let sheet = Sheet::new(shape, contents);
-    scratch(alloc, &sheet)
 }
 
 // Whether there are two values that are the same, or none.

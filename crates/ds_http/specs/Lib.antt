@@ -8,4 +8,5 @@ pub mod Statuses
 pub mod Taking
 pub mod Edits
 pub mod Lines
+pub mod Reading
 pub mod Sites

@@ -1,12 +1,16 @@
 -- What is answered to a request, and what it does to the sheet.
-use Rattle.std.specs.Prelude.{◌≡◌, ℕ, List, [], ◌∷◌, Bool, true, false, Option, Some, None, codes}
+use Rattle.std.specs.Prelude.{◌≡◌, ℕ, List, [], ◌∷◌, Bool, true, false, Option, Some, None, bytes_eq, codes}
 use Rattle.http.specs.declared.request.Request.{Request}
 use Rattle.http.specs.Request.{head_of, body_of}
-use Rattle.http_uri.specs.Uri.{uri_path}
+use Rattle.http_uri.specs.Uri.{uri_path, uri_query}
 use Rattle.http_server.specs.declared.response.Response.{Response}
 use Rattle.http_server.specs.Response.{IsResponse}
+use Rattle.ds_formula.specs.declared.cells.Cell.{Cell}
+use Rattle.ds_server.specs.declared.request.LineFault.TheVariants as fault
 use Rattle.ds_server.specs.declared.session.SessionEnd.{SessionEnd}
-use Rattle.ds_server.specs.Replies.{Said}
+use Rattle.ds_server.specs.DeskCalls.{Call, Get, Listing, View}
+use Rattle.ds_server.specs.Replies.{Faulted, Said}
+use Rattle.ds_server.specs.SessionLimits.{HISTORY_MOST}
 use Rattle.ds_server.specs.SessionTexts.{said_text}
 use Rattle.ds_server.specs.Desks.{Rules}
 use Rattle.ds_http.specs.declared.reply.Kind.TheVariants as kinds
@@ -20,18 +24,34 @@ use Rattle.ds_http.specs.Tokens.{bears}
 use Rattle.ds_http.specs.Bodies.{fields_for, denied_fields, Says, Refuses}
 use Rattle.ds_http.specs.Handshakes.{Shakes}
 use Rattle.ds_http.specs.Statuses.{status_of, status_at}
-use Rattle.ds_http.specs.Taking.{Visits, Reports}
 use Rattle.ds_http.specs.Edits.{Posts}
 use Rattle.ds_http.specs.Lines.{whole_lines, Plays}
+use Rattle.ds_http.specs.Reading.{cell_in, from_in}
 
 -- the response is what the sheet has said, as a session's line of it, with its status
 abbrev pub SaysOf : {B : Type 0} → Rules B → B → Said → Response → Type 0
 SaysOf rules old said r = Says (status_of said) (fields_for kinds.Json) (said_text (rules.shape old) said) r
 
--- the answer to `GET /sheet`: what a report by a process that nobody had is answered
-pub record AnswersSheet {B : Type 0} (rules : Rules B) (old : B) (r : Response) (new : B) : Type 0 where
+-- the answer to a request is what the desk answers to this call
+pub record AnswersCall {B : Type 0} (rules : Rules B) (old : B) (call : Call) (r : Response) (new : B) : Type 0 where
   pub said : Said
-  pub visits : Visits rules old (Reports rules) said new
+  pub does : rules.does old call said new
+  pub says : SaysOf rules old said r
+
+-- the answer to `GET /cells/NAME`: what the cell is, where the path names one of the sheet
+abbrev pub AnswersCell : {B : Type 0} → Rules B → B → Option Cell → Response → B → Type 0
+AnswersCell rules old None r new = Refuses [] problems.NotFound r × (new ≡ old)
+AnswersCell rules old (Some cell) r new = AnswersCall rules old (Get None cell) r new
+
+-- what is said to a query for the list of edits: a part of it; or that the query is bad
+abbrev pub ListsFrom : {B : Type 0} → Rules B → B → Option ℕ → Said → B → Type 0
+ListsFrom rules old None said new = (said ≡ Faulted fault.BadField) × (new ≡ old)
+ListsFrom rules old (Some from) said new = rules.does old (Listing from HISTORY_MOST) said new
+
+-- the answer to `GET /edits?from=N`
+pub record AnswersList {B : Type 0} (rules : Rules B) (old : B) (from : Option ℕ) (r : Response) (new : B) : Type 0 where
+  pub said : Said
+  pub lists : ListsFrom rules old from said new
   pub says : SaysOf rules old said r
 
 -- the answer to `POST /edits`: what the edit that the body asks for is answered
@@ -40,15 +60,21 @@ pub record AnswersEdit {B : Type 0} (rules : Rules B) (old : B) (body : List ℕ
   pub posts : Posts rules old body said new
   pub says : SaysOf rules old said r
 
--- the answer to `GET /sheet`, and whether the request has the token
-abbrev pub AnswersSheetIf : {B : Type 0} → Rules B → B → Bool → Response → B → Type 0
-AnswersSheetIf rules old true r new = AnswersSheet rules old r new
-AnswersSheetIf rules old false r new = Refuses denied_fields problems.Denied r × (new ≡ old)
+-- the answer to a request for the list of edits, or for a new one by `POST`
+abbrev pub AnswersEdits : {B : Type 0} → Rules B → B → Bool → Request (List ℕ) → Response → B → Type 0
+AnswersEdits rules old true request r new = AnswersEdit rules old (body_of request) r new
+AnswersEdits rules old false request r new = AnswersList rules old (from_in (uri_query (head_of request).uri)) r new
 
--- the answer to `POST /edits`, and whether the request has the token
-abbrev pub AnswersEditIf : {B : Type 0} → Rules B → B → Bool → List ℕ → Response → B → Type 0
-AnswersEditIf rules old true body r new = AnswersEdit rules old body r new
-AnswersEditIf rules old false body r new = Refuses denied_fields problems.Denied r × (new ≡ old)
+-- the answer to a request for what the sheet has
+abbrev pub AnswersOf : {B : Type 0} → Rules B → B → Resource → Request (List ℕ) → Response → B → Type 0
+AnswersOf rules old names.Cell request r new = AnswersCell rules old (cell_in (rules.shape old) (uri_path (head_of request).uri)) r new
+AnswersOf rules old names.Edits request r new = AnswersEdits rules old (bytes_eq (head_of request).method (codes "POST")) request r new
+AnswersOf rules old resource request r new = AnswersCall rules old (View None) r new
+
+-- the same, and whether the request has the token
+abbrev pub AnswersOfIf : {B : Type 0} → Rules B → B → Bool → Resource → Request (List ℕ) → Response → B → Type 0
+AnswersOfIf rules old true resource request r new = AnswersOf rules old resource request r new
+AnswersOfIf rules old false resource request r new = Refuses denied_fields problems.Denied r × (new ≡ old)
 
 -- whether a request may act by a process of the desk
 abbrev pub may_act : {B : Type 0} → Rules B → B → Request (List ℕ) → Bool
@@ -65,8 +91,9 @@ pub record AnswersLines {B : Type 0} (rules : Rules B) (old : B) (body : List �
 abbrev pub Obeys : {B : Type 0} → Rules B → List ℕ → B → Resource → Request (List ℕ) → Response → B → Type 0
 Obeys rules page old names.Page request r new = IsResponse 200 (fields_for kinds.Page) page r × (new ≡ old)
 Obeys rules page old names.Health request r new = IsResponse 200 (fields_for kinds.Text) (codes "ok\n") r × (new ≡ old)
-Obeys rules page old names.Sheet request r new = AnswersSheetIf rules old (may_act rules old request) r new
-Obeys rules page old names.Edits request r new = AnswersEditIf rules old (may_act rules old request) (body_of request) r new
+Obeys rules page old names.Sheet request r new = AnswersOfIf rules old (may_act rules old request) names.Sheet request r new
+Obeys rules page old names.Cell request r new = AnswersOfIf rules old (may_act rules old request) names.Cell request r new
+Obeys rules page old names.Edits request r new = AnswersOfIf rules old (may_act rules old request) names.Edits request r new
 Obeys rules page old names.Lines request r new = AnswersLines rules old (body_of request) r new
 Obeys rules page old names.Session request r new = Shakes (head_of request).headers r × (new ≡ old)
 

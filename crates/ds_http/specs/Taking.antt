@@ -5,7 +5,7 @@ use Rattle.ds_formula.specs.Cells.{IsInside}
 use Rattle.ds_state.specs.declared.recovery.LastEdit.{LastEdit}
 use Rattle.ds_server.specs.declared.desk.CallRefusal.{CallRefusal}
 use Rattle.ds_server.specs.declared.desk.CallRefusal.TheVariants as refusal
-use Rattle.ds_server.specs.DeskCalls.{Join, Set, Report, Leave}
+use Rattle.ds_server.specs.DeskCalls.{Join, Set, Leave}
 use Rattle.ds_server.specs.Replies.{Said, Joined, Left, Refused}
 use Rattle.ds_server.specs.Desks.{Rules}
 
@@ -39,10 +39,6 @@ pub data Visits {B : Type 0} (rules : Rules B) (first : B) (does : ℕ → B →
   none : (why : CallRefusal) (new : B) → Takes rules first (Err why) new → Visits rules first does (Refused why) new
   visits : (process : ℕ) (said : Said) (old mid new : B) → Takes rules first (Ok process) old
       → does process old said mid → rules.does mid (Leave process) Left new → Visits rules first does said new
-
--- a whole report by the process
-abbrev pub Reports : {B : Type 0} → Rules B → ℕ → B → Said → B → Type 0
-Reports rules process old said new = rules.does old (Report process) said new
 
 -- a whole edit by the process of a cell that the sheet has; or, since the sheet has it no more, nothing
 pub data Sets {B : Type 0} (rules : Rules B) (cell : Cell) (text : List ℕ) (process : ℕ) (old : B) : Said → B → Type 0 where

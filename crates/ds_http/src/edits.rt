@@ -1,18 +1,18 @@
-//! Single calls: an edit, and a report.
+//! A single edit.
 
 ghost use Rattle.std.specs.Prelude.{◌≡◌, option_map};
 ghost use Rattle.serde_json.specs.View.{view};
 ghost use Rattle.ds_formula.specs.Cells.{IsInside};
-ghost use Rattle.ds_server.specs.DeskCalls.{Set, Report};
+ghost use Rattle.ds_server.specs.DeskCalls.{Set};
 ghost use Rattle.ds_server.specs.LineRequests.{text_field};
 ghost use Rattle.ds_server.specs.LineAnswers.{response_view};
-ghost use Rattle.ds_http.specs.Taking.{Visits, Reports, Sets};
+ghost use Rattle.ds_http.specs.Taking.{Visits, Sets};
 ghost use Rattle.ds_http.specs.Edits.{edit_in, PostsValue, Posts};
 
 use crate::taking::take_process;
 use ds_formula::cells::{Cell, Shape};
 use ds_server::answer::Response;
-use ds_server::desk::{CallRefusal, Desk, Reported};
+use ds_server::desk::{CallRefusal, Desk};
 use ds_server::request::{LineFault, read_json};
 use ds_state::answer::EditEnd;
 use serde_json::Value;
@@ -54,19 +54,6 @@ fn set<B: Desk>(alloc: Global, desk: &mut B, process: usize, cell: Cell, text: &
     }
 }
 
-// A settle and a whole report.
-fn report<B: Desk>(alloc: Global, desk: &mut B, process: usize) -> Response
-    requires { B.rules.sits desk.old process }
-    ensures does { B.rules.does desk.old (Report process) (response_view result) desk.new }
-    ensures sits { B.rules.sits desk.new process }
-{
-    match desk.report(alloc, process) {
-        Ok(Reported::Settled(values)) => Response::Settled(values),
-        Ok(Reported::Unsettled(place, word)) => Response::Unsettled(place, word),
-        Err(why) => Response::Refused(why),
-    }
-}
-
 // A whole edit of a cell that the sheet has; else nothing.
 fn set_within<B: Desk>(
     alloc: Global,
@@ -93,20 +80,6 @@ fn edit<B: Desk>(alloc: Global, desk: &mut B, cell: Cell, text: &[u8]) -> Respon
     match take_process(alloc, desk) {
         Ok(process) => {
             let answer = set_within(alloc, desk, process, cell, text);
-            desk.leave(process);
-            answer
-        }
-        Err(why) => Response::Refused(why),
-    }
-}
-
-/// A report by a process that nobody has, which is taken for as long as the report lasts.
-pub(crate) fn report_sheet<B: Desk>(alloc: Global, desk: &mut B) -> Response
-    ensures { Visits B.rules desk.old (Reports B.rules) (response_view result) desk.new }
-{
-    match take_process(alloc, desk) {
-        Ok(process) => {
-            let answer = report(alloc, desk, process);
             desk.leave(process);
             answer
         }

@@ -8,6 +8,7 @@ pub mod messages;
 mod origin;
 pub mod page;
 mod problem;
+mod reading;
 mod reply;
 mod resource;
 pub mod site;

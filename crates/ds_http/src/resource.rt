@@ -12,7 +12,9 @@ pub(crate) enum Resource {
     Health,
     /// The values of the sheet.
     Sheet,
-    /// Edits, each by a request of its own.
+    /// A cell: its value and its last edit.
+    Cell,
+    /// The list of edits; a new one, by a request of its own.
     Edits,
     /// Sessions, each by a request of its own.
     Lines,
@@ -31,6 +33,7 @@ pub(crate) fn resource_at(path: &str) -> Option<Resource>
         "/edits" => Some(Resource::Edits),
         "/lines" => Some(Resource::Lines),
         "/session" => Some(Resource::Session),
+        _ if path.as_bytes().starts_with(b"/cells/") => Some(Resource::Cell),
         _ => None,
     }
 }
@@ -41,11 +44,12 @@ impl Resource {
         ensures { result ≡ allows self method.now }
     {
         match self {
-            Resource::Page | Resource::Health | Resource::Sheet => {
+            Resource::Page | Resource::Health | Resource::Sheet | Resource::Cell => {
                 method == "GET" || method == "HEAD"
             }
+            Resource::Edits => method == "GET" || method == "HEAD" || method == "POST",
             Resource::Session => method == "GET",
-            Resource::Edits | Resource::Lines => method == "POST",
+            Resource::Lines => method == "POST",
         }
     }
 
@@ -54,9 +58,10 @@ impl Resource {
         ensures { result.now ≡ methods_of self }
     {
         match self {
-            Resource::Page | Resource::Health | Resource::Sheet => "GET, HEAD",
+            Resource::Page | Resource::Health | Resource::Sheet | Resource::Cell => "GET, HEAD",
+            Resource::Edits => "GET, HEAD, POST",
             Resource::Session => "GET",
-            Resource::Edits | Resource::Lines => "POST",
+            Resource::Lines => "POST",
         }
     }
 }

@@ -1,23 +1,30 @@
 //! What is answered to each request.
 
-ghost use Rattle.std.specs.Prelude.{◌≡◌, OnOk, OnErr, IsTrue};
+ghost use Rattle.std.specs.Prelude.{◌≡◌, None, OnOk, OnErr, IsTrue, bytes_eq, codes, option_map};
 ghost use Rattle.http.specs.Request.{head_of, body_of};
 ghost use Rattle.http_server.specs.Response.{IsBlank};
 ghost use Rattle.http_uri.specs.Uri.{uri_path};
 ghost use Rattle.ds_http.specs.Resources.{allows, resource_at};
-ghost use Rattle.ds_http.specs.Sites.{AnswersSheet, AnswersSheetIf, AnswersEdit, AnswersEditIf, AnswersLines, Obeys, ObeysAt};
+ghost use Rattle.ds_server.specs.DeskCalls.{View};
+ghost use Rattle.ds_server.specs.LineAnswers.{response_view};
+ghost use Rattle.ds_http.specs.Reading.{cell_in, from_in};
+ghost use Rattle.ds_http.specs.Sites.{AnswersCall, AnswersCell, AnswersEdit, AnswersEdits, AnswersLines, AnswersList, AnswersOfIf, ListsFrom, Obeys, ObeysAt};
 
-use crate::edits::{post_edit, report_sheet};
+use crate::edits::post_edit;
 use crate::handshake::shake;
 use crate::lines::{play_lines, whole_lines};
 use crate::origin::is_own;
 use crate::problem::Problem;
+use crate::reading::{cell_in, from_in};
 use crate::reply::{Kind, begin, deny, end, refuse, refuse_method, say, tell};
 use crate::resource::{Resource, resource_at};
 use crate::status::status_at;
 use crate::token::may_act;
 use bytes::Bytes;
+use ds_server::answer::Response as Answer;
 use ds_server::desk::Desk;
+use ds_server::request::LineFault;
+use ds_server::session::{get, history, view};
 use http::Request;
 use http_server::{Response, Service};
 use std::alloc::{AllocError, Global};
@@ -68,48 +75,102 @@ fn answer_sheet<B: Desk>(
     response: &mut Response,
 ) -> Result<(), AllocError>
     requires { IsBlank response.old }
-    ensures answers { OnOk result (AnswersSheet B.rules desk.old response.new desk.new) }
+    ensures answers { OnOk result (AnswersCall B.rules desk.old (View None) response.new desk.new) }
     ensures kept { OnErr result (desk.new ≡ desk.old) }
 {
     begin(response, Kind::Json)?;
     let shape = desk.shape();
-    let answer = report_sheet(alloc, desk);
+    let answer = view(alloc, desk, None);
     say(alloc, response, &shape, &answer);
     Ok(())
 }
 
-// One edit, where the request may act.
-fn answer_edit_if<B: Desk>(
+// What a cell is, where the path names one.
+fn answer_cell<B: Desk>(
     alloc: Global,
     desk: &mut B,
-    may: bool,
-    body: &[u8],
+    path: &str,
     response: &mut Response,
 ) -> Result<(), AllocError>
     requires { IsBlank response.old }
-    ensures answers { OnOk result (AnswersEditIf B.rules desk.old may body.now response.new desk.new) }
+    ensures answers { OnOk result (AnswersCell B.rules desk.old (cell_in (B.rules.shape desk.old) path.now) response.new desk.new) }
     ensures kept { OnErr result (desk.new ≡ desk.old) }
 {
-    match may {
-        true => answer_edit(alloc, desk, body, response),
-        false => deny(response),
+    let shape = desk.shape();
+    let Some(cell) = cell_in(path, &shape) else {
+        return refuse(response, Problem::NotFound);
+    };
+    begin(response, Kind::Json)?;
+    let answer = get(alloc, desk, None, cell);
+    say(alloc, response, &shape, &answer);
+    Ok(())
+}
+
+// What a query for the list of edits is answered.
+fn listed<B: Desk>(alloc: Global, desk: &mut B, from: Option<usize>) -> Answer
+    ensures { ListsFrom B.rules desk.old from (response_view result) desk.new }
+{
+    match from {
+        Some(from) => history(alloc, desk, None, from),
+        None => Answer::Faulted(LineFault::BadField),
     }
 }
 
-// The values of the sheet, where the request may act.
-fn answer_sheet_if<B: Desk>(
+// A part of the list of edits.
+fn answer_list<B: Desk>(
     alloc: Global,
     desk: &mut B,
-    may: bool,
+    query: Option<&str>,
     response: &mut Response,
 ) -> Result<(), AllocError>
     requires { IsBlank response.old }
-    ensures answers { OnOk result (AnswersSheetIf B.rules desk.old may response.new desk.new) }
+    ensures answers { OnOk result (AnswersList B.rules desk.old (from_in (option_map (λ q. q.now) query.entry)) response.new desk.new) }
     ensures kept { OnErr result (desk.new ≡ desk.old) }
 {
-    match may {
-        true => answer_sheet(alloc, desk, response),
-        false => deny(response),
+    begin(response, Kind::Json)?;
+    let shape = desk.shape();
+    let answer = listed(alloc, desk, from_in(query));
+    say(alloc, response, &shape, &answer);
+    Ok(())
+}
+
+// The list of edits, or a new one.
+fn answer_edits<B: Desk>(
+    alloc: Global,
+    desk: &mut B,
+    request: &Request<Bytes>,
+    response: &mut Response,
+) -> Result<(), AllocError>
+    requires { IsBlank response.old }
+    ensures answers { OnOk result (AnswersEdits B.rules desk.old (bytes_eq (head_of request.now).method (codes "POST")) request.now response.new desk.new) }
+    ensures kept { OnErr result (desk.new ≡ desk.old) }
+{
+    match request.method().as_str() == "POST" {
+        true => answer_edit(alloc, desk, request.body().as_slice(), response),
+        false => answer_list(alloc, desk, request.uri().query(), response),
+    }
+}
+
+// What the sheet has, where the request may act.
+fn answer_of_if<B: Desk>(
+    alloc: Global,
+    desk: &mut B,
+    may: bool,
+    resource: Resource,
+    request: &Request<Bytes>,
+    response: &mut Response,
+) -> Result<(), AllocError>
+    requires { IsBlank response.old }
+    ensures answers { OnOk result (AnswersOfIf B.rules desk.old may resource request.now response.new desk.new) }
+    ensures kept { OnErr result (desk.new ≡ desk.old) }
+{
+    if !may {
+        return deny(response);
+    }
+    match resource {
+        Resource::Cell => answer_cell(alloc, desk, request.uri().path(), response),
+        Resource::Edits => answer_edits(alloc, desk, request, response),
+        _ => answer_sheet(alloc, desk, response),
     }
 }
 
@@ -147,13 +208,9 @@ fn obey<B: Desk>(
     match resource {
         Resource::Page => tell(response, Kind::Page, page.as_bytes()),
         Resource::Health => tell(response, Kind::Text, b"ok\n"),
-        Resource::Sheet => {
+        Resource::Sheet | Resource::Cell | Resource::Edits => {
             let may = may_act(desk, request.headers());
-            answer_sheet_if(alloc, desk, may, response)
-        }
-        Resource::Edits => {
-            let may = may_act(desk, request.headers());
-            answer_edit_if(alloc, desk, may, request.body().as_slice(), response)
+            answer_of_if(alloc, desk, may, resource, request, response)
         }
         Resource::Lines => answer_lines(alloc, desk, request.body().as_slice(), response),
         Resource::Session => shake(alloc, request.headers(), response),

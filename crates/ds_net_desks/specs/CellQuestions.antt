@@ -1,6 +1,8 @@
 -- What a session does that asks what a cell is, over a shared sheet whose edits are listed.
 use Rattle.std.specs.Prelude.{◌≡◌, ◌⊎◌, ◌++◌, ◌∷◌, [], ℕ, List, Option, Some, None, Result, Ok, Err, option_map, slice_get}
 use Rattle.ds_formula.specs.declared.cells.Cell.{Cell}
+use Rattle.ds_formula.specs.declared.cells.Shape.{Shape}
+use Rattle.ds_formula.specs.Cells.{index_of}
 use Rattle.ds_eval.specs.declared.value.Value.{Value}
 use Rattle.ds_server.specs.declared.desk.CallRefusal.{CallRefusal}
 use Rattle.ds_server.specs.declared.desk.CallRefusal.TheVariants as refusals
@@ -9,6 +11,7 @@ use Rattle.ds_server.specs.Replies as said
 use Rattle.ds_net_floor.specs.EditLists.{TellsLast}
 use Rattle.ds_net_floor.specs.Entries.{entries}
 use Rattle.ds_net_floor.specs.declared.edit_list.EditList.{EditList}
+use Rattle.ds_net_values.specs.ListValues.{AreValues}
 use Rattle.ds_net_desks.specs.DeskSeats.{Uses}
 use Rattle.ds_net_desks.specs.SharedDesks.{HasReported}
 use Rattle.ds_net_desks.specs.declared.numbered_seat.NumberedSeat.{NumberedSeat}
@@ -73,8 +76,35 @@ pub record HasToldOf (cell : Cell) (number : ℕ) (old : NumberedSeat) (before :
 abbrev pub HasGot : Cell → ℕ → NumberedSeat → Seen → said.Said → NumberedSeat → Seen → Type 0
 HasGot cell number old before what new after = HasToldOf cell number old before what new after ⊎ ((what ≡ said.Refused refusals.NoMemory) × HasTried old before new after)
 
--- by the session's seat; or, where it has none, by one that nobody has, if there is one, which is given back
-abbrev pub HasAsked : Cell → ℕ → Option NumberedSeat → Seen → said.Said → Option NumberedSeat → Seen → Type 0
-HasAsked cell number (Some old) before what (Some new) after = HasGot cell number old before what new after
-HasAsked cell number None before what None after = ((old : NumberedSeat) × (new : NumberedSeat) × HasGot cell number old before what new after) ⊎ ((what ≡ said.Refused refusals.ProcessTaken) × (after ≡ before))
-HasAsked cell number old before what new after = ⊥
+-- ---- from scratch
+
+-- the values after the edits of this list are said, from scratch; or an allocation has failed
+abbrev pub SaysValues : Shape → EditList → said.Said → Type 0
+SaysValues shape list (said.Settled values) = AreValues shape (entries list) values
+SaysValues shape list (said.Refused why) = why ≡ refusals.NoMemory
+SaysValues shape list what = ⊥
+
+-- the list was looked at, and its values are said
+pub record HasComputed (shape : Shape) (before : Seen) (what : said.Said) (after : Seen) : Type 0 where
+  pub list : EditList
+  pub seen : after ≡ before ++ look list
+  pub says : SaysValues shape list what
+
+-- the list's value of the cell is said, from scratch, with its last edit of the cell; or an allocation has failed
+abbrev pub SaysCell : Shape → Cell → EditList → said.Said → Type 0
+SaysCell shape cell list what =
+    ((plain : said.Said) × (edit : Option said.EditEntry) × SaysValues shape list plain × TellsLast cell (entries list) edit × (what ≡ got_said cell (index_of shape cell) edit plain)) ⊎ (what ≡ said.Refused refusals.NoMemory)
+
+-- the list was looked at, and what it has of the cell is said
+pub record HasComputedCell (shape : Shape) (cell : Cell) (before : Seen) (what : said.Said) (after : Seen) : Type 0 where
+  pub list : EditList
+  pub seen : after ≡ before ++ look list
+  pub says : SaysCell shape cell list what
+
+-- ---- what is answered
+
+-- by the session's seat; or, where it has none, by one that nobody has, which is given back, or from scratch
+abbrev pub HasAsked : Shape → Cell → Option NumberedSeat → Seen → said.Said → Option NumberedSeat → Seen → Type 0
+HasAsked shape cell (Some old) before what (Some new) after = HasGot cell (index_of shape cell) old before what new after
+HasAsked shape cell None before what None after = ((old : NumberedSeat) × (new : NumberedSeat) × HasGot cell (index_of shape cell) old before what new after) ⊎ HasComputedCell shape cell before what after
+HasAsked shape cell old before what new after = ⊥

@@ -39,11 +39,15 @@ abbrev pub HasTaken : NumberedSeat → said.Said → Option NumberedSeat → Typ
 HasTaken taken (said.Tells last) (Some new) = HasJoined taken.seat.pass.process last new
 HasTaken taken what new = ⊥
 
--- a report by the session's seat; or, where it has none, by one that nobody has, if there is one, which is given back
+-- a report by the session's seat; or, where it has none, by one that nobody has, which is given back
 abbrev pub HasViewed : Option NumberedSeat → said.Said → Option NumberedSeat → Type 0
 HasViewed (Some old) what (Some new) = Uses HasReported old what new
-HasViewed None what None = ((old : NumberedSeat) × (new : NumberedSeat) × Uses HasReported old what new) ⊎ (what ≡ said.Refused refusals.ProcessTaken)
+HasViewed None what None = (old : NumberedSeat) × (new : NumberedSeat) × Uses HasReported old what new
 HasViewed old what new = ⊥
+
+-- the session has no seat
+abbrev pub HasNoSeat : Option NumberedSeat → Option NumberedSeat → Type 0
+HasNoSeat old new = (old ≡ None) × (new ≡ None)
 
 -- the call is refused, since the edits of a sheet alone are not listed
 abbrev pub HasNoList : Option NumberedSeat → said.Said → Option NumberedSeat → Type 0
@@ -60,7 +64,7 @@ SeatDeals old JoinAny (said.Joined q last) (Some new) = (old ≡ None) × HasJoi
 SeatDeals old JoinAny (said.Refused why) new = (new ≡ old) × (why ≡ refusals.ProcessTaken)
 SeatDeals (Some old) (Set p cell text) what (Some new) = Uses (λ seat plain after. HasSet seat cell text plain after) old what new
 SeatDeals (Some old) (Report p) what (Some new) = Uses HasReported old what new
-SeatDeals old (View joined) what new = HasViewed old what new
+SeatDeals old (View joined) what new = HasViewed old what new ⊎ (HasNoSeat old new × (what ≡ said.Refused refusals.ProcessTaken))
 SeatDeals (Some old) (Last p) what (Some new) = Uses HasRecovered old what new
 SeatDeals old (Undo p cell) what new = HasNoList old what new
 SeatDeals old (Get joined cell) what new = HasNoList old what new

@@ -3,19 +3,18 @@ use Rattle.std.specs.Prelude.{◌≡◌, ◌⊎◌, ◌++◌, ◌∷◌, [], ℕ
 use Rattle.std.specs.Global.{Global}
 use Rattle.ds_formula.specs.declared.cells.Cell.{Cell}
 use Rattle.ds_formula.specs.declared.cells.Shape.{Shape}
-use Rattle.ds_formula.specs.Cells.{index_of}
 use Rattle.ds_shared_seats.specs.declared.seat.Seat.{Seat}
 use Rattle.ds_server.specs.declared.desk.CallRefusal.{CallRefusal}
 use Rattle.ds_server.specs.declared.desk.CallRefusal.TheVariants as refusals
 use Rattle.ds_server.specs.declared.desk.History.{History}
-use Rattle.ds_server.specs.DeskCalls.{Call, Get, Listing, Set, Undo}
+use Rattle.ds_server.specs.DeskCalls.{Call, Get, Listing, Set, Undo, View}
 use Rattle.ds_server.specs.Replies as said
 use Rattle.ds_store_journal.specs.Journals.{KeptEdit}
 use Rattle.ds_net_floor.specs.EditLists.{HadBefore, HasNoEdit, part_of}
 use Rattle.ds_net_floor.specs.Entries.{entries}
 use Rattle.ds_net_floor.specs.declared.edit_list.EditList.{EditList}
-use Rattle.ds_net_desks.specs.CellQuestions.{HasAsked, Seen, look}
-use Rattle.ds_net_desks.specs.DeskSeats.{SeatDeals, Uses}
+use Rattle.ds_net_desks.specs.CellQuestions.{HasAsked, HasComputed, Seen, look}
+use Rattle.ds_net_desks.specs.DeskSeats.{HasNoSeat, HasViewed, SeatDeals, Uses}
 use Rattle.ds_net_desks.specs.SharedDesks.{HasSet}
 use Rattle.ds_net_desks.specs.declared.numbered_seat.NumberedSeat.{NumberedSeat}
 
@@ -84,12 +83,14 @@ pub record Lists (from most : ℕ) (before : Seen) (what : said.Said) (after : S
 
 -- what a call that was answered so does to the session's seat, if it has joined a process, of which edits the keeper has heard
 -- then, and which lists the session has looked at: as over a shared sheet, but that the keeper hears of each edit that is done,
--- of a set and of an undo, and of nothing else; and that the edits are listed
+-- of a set and of an undo, and of nothing else; and that the edits are listed, so that the values are said from scratch where no
+-- process is free to read by
 abbrev pub StoredDeals : Shape → Option NumberedSeat → Notes → Call → said.Said → Option NumberedSeat → Notes → Type 0
 StoredDeals shape (Some old) before (Set p cell text) what (Some new) after = Uses (StoredSet before.heard cell text after.heard) old what new × (after.seen ≡ before.seen)
 StoredDeals shape old before (Set p cell text) what new after = ⊥
 StoredDeals shape (Some old) before (Undo p cell) what (Some new) after = HasUndone cell old before what new after
 StoredDeals shape old before (Undo p cell) what new after = ⊥
-StoredDeals shape old before (Get joined cell) what new after = HasAsked cell (index_of shape cell) old before.seen what new after.seen × (after.heard ≡ before.heard)
+StoredDeals shape old before (View joined) what new after = ((HasViewed old what new × (after.seen ≡ before.seen)) ⊎ (HasNoSeat old new × HasComputed shape before.seen what after.seen)) × (after.heard ≡ before.heard)
+StoredDeals shape old before (Get joined cell) what new after = HasAsked shape cell old before.seen what new after.seen × (after.heard ≡ before.heard)
 StoredDeals shape old before (Listing from most) what new after = Lists from most before.seen what after.seen × (new ≡ old) × (after.heard ≡ before.heard)
 StoredDeals shape old before call what new after = SeatDeals old call what new × (after ≡ before)

@@ -43,7 +43,7 @@ pub struct CellQuestion<'a, R: Wait + Clock> {
 }
 
 // What the report says of the cell with this number, of which this is the last edit.
-fn got_of(
+pub(crate) fn got_of(
     end: Result<Reported, CallRefusal>,
     number: usize,
     edit: Option<ListedEdit>,

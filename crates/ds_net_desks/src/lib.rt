@@ -2,6 +2,7 @@
 #![tactic(auto)]
 
 mod cell_question;
+mod computed;
 pub mod listing;
 pub mod numbered_seat;
 pub mod numbering;

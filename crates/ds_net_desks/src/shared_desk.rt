@@ -1,14 +1,15 @@
 //! A desk that is a sheet which threads share, with no lock.
 
-ghost use Rattle.std.specs.Prelude.{◌≡◌, ℕ};
-ghost use Rattle.ds_formula.specs.Cells.{IsInside, index_of};
+ghost use Rattle.std.specs.Prelude.{◌≡◌, IfSome, None, ℕ};
+ghost use Rattle.ds_formula.specs.Cells.{IsInside};
 ghost use Rattle.ds_shared_seats.specs.Sheets.{IsSeatOf};
 ghost use Rattle.ds_server.specs.Replies.{got_view, last_view, set_view, report_view};
 ghost use Rattle.ds_net_desks.specs.SharedDesks.{HasSet, HasReported, HasRecovered, set_said, last_said, report_said, sheet_of};
 ghost use Rattle.ds_net_desks.specs.CellQuestions.{HasAsked};
-ghost use Rattle.ds_net_desks.specs.DeskSeats.{HasTaken, HasViewed, IsSeatedAt, Uses};
+ghost use Rattle.ds_net_desks.specs.DeskSeats.{HasNoSeat, HasTaken, HasViewed, IsSeatedAt, Uses};
 
 use crate::cell_question::CellQuestion;
+use crate::computed::computed_cell;
 use crate::numbered_seat::NumberedSeat;
 use crate::seat_pool::SeatPool;
 use crate::shared_settle::{STEPS_MOST, shared_settle};
@@ -112,26 +113,32 @@ impl<'a, R: Wait + Clock> SharedDesk<'a, R> {
         }
     }
 
-    // A report by the seat of the process that the session has joined, else by any that nobody has.
-    fn viewed(&mut self, alloc: Global) -> Result<Reported, CallRefusal>
-        ensures viewed { HasViewed self.old.numbered (report_view result) self.new.numbered }
+    /// A report by the seat of the process that the session has joined, else by any that nobody has; none, and nothing is
+    /// done, where there is none.
+    pub fn viewed(&mut self, alloc: Global) -> Option<Result<Reported, CallRefusal>>
+        ensures viewed { IfSome result (λ end. HasViewed self.old.numbered (report_view end) self.new.numbered) }
+        ensures none { result ≡ None → HasNoSeat self.old.numbered self.new.numbered }
         ensures process { (process : ℕ) → IsSeatedAt self.old.numbered process → IsSeatedAt self.new.numbered process }
         ensures rest { (self.new.shape ≡ self.old.shape) × (self.new.pool ≡ self.old.pool) × (self.new.token ≡ self.old.token) }
     {
+        self.course.renew(alloc, self.references);
         let (rt, pool, visit) = (self.rt, self.pool, self.visit);
         if let Some(numbered) = &mut self.numbered {
-            return seat_report(rt, alloc, pool, numbered, &self.course, visit);
+            return Some(seat_report(rt, alloc, pool, numbered, &self.course, visit));
         }
-        let Some(mut numbered) = pool.take_any(rt, self.open) else {
-            return Err(CallRefusal::ProcessTaken);
-        };
+        let mut numbered = pool.take_any(rt, self.open)?;
         let end = seat_report(rt, alloc, pool, &mut numbered, &self.course, visit);
         pool.put_back(rt, numbered);
-        end
+        Some(end)
+    }
+
+    /// Counts what a report has come to.
+    pub fn counted(&self, end: &Result<Reported, CallRefusal>) {
+        self.visit.counts_report(end);
     }
 
     /// What a cell is, and its last edit that counts, of a sheet whose edits are listed: by the seat of the process that the
-    /// session has joined, else by any that nobody has.
+    /// session has joined, else by any that nobody has, else from scratch.
     pub fn got(
         &mut self,
         alloc: Global,
@@ -140,7 +147,7 @@ impl<'a, R: Wait + Clock> SharedDesk<'a, R> {
         cell: Cell,
     ) -> Result<Got, CallRefusal>
         requires { IsInside self.old.shape cell }
-        ensures asked { HasAsked cell (index_of self.old.shape cell) self.old.numbered seen.old.items (got_view cell result) self.new.numbered seen.new.items }
+        ensures asked { HasAsked self.old.shape cell self.old.numbered seen.old.items (got_view cell result) self.new.numbered seen.new.items }
         ensures process { (process : ℕ) → IsSeatedAt self.old.numbered process → IsSeatedAt self.new.numbered process }
         ensures rest { (self.new.shape ≡ self.old.shape) × (self.new.pool ≡ self.old.pool) × (self.new.token ≡ self.old.token) }
     {
@@ -159,7 +166,7 @@ impl<'a, R: Wait + Clock> SharedDesk<'a, R> {
             return question.answer(alloc, seen, numbered);
         }
         let Some(mut numbered) = pool.take_any(rt, open) else {
-            return Err(CallRefusal::ProcessTaken);
+            return computed_cell(rt, alloc, self.shape, keeping, seen, cell);
         };
         let got = question.answer(alloc, seen, &mut numbered);
         pool.put_back(rt, numbered);
@@ -381,9 +388,11 @@ impl<'a, R: Wait + Clock> Desk for SharedDesk<'a, R> {
     }
 
     fn view(&mut self, alloc: Global, _joined: Option<usize>) -> Result<Reported, CallRefusal> {
-        self.course.renew(alloc, self.references);
-        let end = self.viewed(alloc);
-        self.visit.counts_report(&end);
+        let end = match self.viewed(alloc) {
+            Some(end) => end,
+            None => Err(CallRefusal::ProcessTaken),
+        };
+        self.counted(&end);
         end
     }
 

@@ -9,6 +9,7 @@ ghost use Rattle.ds_net_desks.specs.StoredDesks.{HasListed, HasUndone, SaysBefor
 ghost use Rattle.ds_net_desks.specs.CellQuestions.{look};
 ghost use Rattle.ds_net_desks.specs.Counting.{number_seen};
 
+use crate::computed::computed_values;
 use crate::numbered_seat::{NumberedSeat, number_seen};
 use crate::numbering::Numbering;
 use crate::seat_pool::SeatPool;
@@ -334,8 +335,19 @@ impl<'a, R: Wait + Clock> Desk for StoredDesk<'a, R> {
         self.shared.report(alloc, process)
     }
 
-    fn view(&mut self, alloc: Global, joined: Option<usize>) -> Result<Reported, CallRefusal> {
-        self.shared.view(alloc, joined)
+    fn view(&mut self, alloc: Global, _joined: Option<usize>) -> Result<Reported, CallRefusal> {
+        let end = match self.shared.viewed(alloc) {
+            Some(end) => end,
+            None => computed_values(
+                self.shared.rt,
+                alloc,
+                self.shared.shape,
+                self.keeping,
+                &mut self.seen,
+            ),
+        };
+        self.shared.counted(&end);
+        end
     }
 
     fn get(

@@ -146,8 +146,8 @@ fn report<B: Desk>(alloc: Global, desk: &mut B, process: usize) -> Response
     report_response(desk.report(alloc, process))
 }
 
-// The same, by any process without one.
-fn view<B: Desk>(alloc: Global, desk: &mut B, joined: Option<usize>) -> Response
+/// A settle and a whole report, by the joined process; without one by any that nobody has.
+pub fn view<B: Desk>(alloc: Global, desk: &mut B, joined: Option<usize>) -> Response
     requires { Seated B.rules joined desk.old }
     ensures does { B.rules.does desk.old (View joined) (response_view result) desk.new }
     ensures seated { Seated B.rules (joined_after joined (response_view result)) desk.new }
@@ -155,8 +155,8 @@ fn view<B: Desk>(alloc: Global, desk: &mut B, joined: Option<usize>) -> Response
     report_response(desk.view(alloc, joined))
 }
 
-// What the cell is.
-fn get<B: Desk>(alloc: Global, desk: &mut B, joined: Option<usize>, cell: Cell) -> Response
+/// What the cell is: its value, and the last edit of it that counts.
+pub fn get<B: Desk>(alloc: Global, desk: &mut B, joined: Option<usize>, cell: Cell) -> Response
     requires seated { Seated B.rules joined desk.old }
     requires inside { IsInside (B.rules.shape desk.old) cell }
     ensures does { B.rules.does desk.old (Get joined cell) (response_view result) desk.new }
@@ -169,8 +169,8 @@ fn get<B: Desk>(alloc: Global, desk: &mut B, joined: Option<usize>, cell: Cell) 
     }
 }
 
-// The edits that count, from this place on.
-fn history<B: Desk>(alloc: Global, desk: &mut B, joined: Option<usize>, from: usize) -> Response
+/// The edits that count, from this place on, at most `HISTORY_LIMIT` of them.
+pub fn history<B: Desk>(alloc: Global, desk: &mut B, joined: Option<usize>, from: usize) -> Response
     requires { Seated B.rules joined desk.old }
     ensures does { B.rules.does desk.old (Listing from HISTORY_MOST) (response_view result) desk.new }
     ensures seated { Seated B.rules (joined_after joined (response_view result)) desk.new }

@@ -1,5 +1,4 @@
 use Rattle.std.proofs.Common.{inl, subst, sym}
-use Rattle.ds_formula.specs.Cells.{index_of}
 use Rattle.ds_server.specs.Replies.{got_view}
 use Rattle.ds_net_desks.specs.CellQuestions.{HasAsked, HasGot}
 use Rattle.ds_net_desks.proofs.shared_desk.SharedDesk.got.Goals as goal
@@ -12,5 +11,5 @@ returns-clause-asked g c =
     let after = c.answer-got.new.seen.items in
     let old = c.in-Some-take_any.numbered in
     let new = c.answer-got.new.numbered in
-    subst (λ o. HasAsked cell (index_of c.args.self.now.shape cell) o seen what o after) (sym c.in_default.is)
+    subst (λ o. HasAsked c.args.self.now.shape cell o seen what o after) (sym c.in_default.is)
     (inl (old, new, subst (λ n. HasGot cell n old seen what new after) c.index.ensures.value c.answer-got.ensures.got))

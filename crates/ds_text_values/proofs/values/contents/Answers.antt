@@ -1,5 +1,5 @@
-use Rattle.ds_explore.proofs.Valued.{contents_more, contents_none}
-use Rattle.ds_explore.proofs.judge.contents.Goals as goal
+use Rattle.ds_text_values.proofs.Held.{contents_more, contents_none}
+use Rattle.ds_text_values.proofs.values.contents.Goals as goal
 
 pub loop-number-init : goal.loop-number-init
 loop-number-init c = contents_none c.args.shape c.new-held.result.items c.new-held.ensures.items

@@ -1,0 +1,4 @@
+//! Values of a sheet by the edits that a server lists.
+#![tactic(auto)]
+
+pub mod values;

@@ -1,0 +1,4 @@
+//! Values of the texts of a sheet's cells.
+#![tactic(auto)]
+
+pub mod values;
