@@ -81,11 +81,11 @@ report_command = with_rule (with_rule (with_rule (with_rule (new_app (codes "rep
 -- `dsheet serve [--listen ADDRESS] [--columns N] [--rows N]`
 abbrev pub sheet_command : App
 sheet_command = with_rule (with_rule (with_rule (new_app (codes "serve")) listen)
-    (number_option (codes "columns") (codes "2"))) (number_option (codes "rows") (codes "2"))
+    (number_option (codes "columns") (codes "0"))) (number_option (codes "rows") (codes "0"))
 
 -- the same with [--processes N] [--workers N] [--sessions N] [--forever]
 abbrev pub shared_command : App
-shared_command = with_rule (with_rule (with_rule (with_rule sheet_command (number_option (codes "processes") (codes "2")))
+shared_command = with_rule (with_rule (with_rule (with_rule sheet_command (number_option (codes "processes") (codes "0")))
     (number_option (codes "workers") (codes "0"))) (given_number (codes "sessions"))) (flag (codes "forever"))
 
 -- the option `--store` with one value

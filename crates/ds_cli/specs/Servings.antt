@@ -1,5 +1,5 @@
 -- What a server is asked for, by the options of `dsheet serve`.
-use Rattle.std.specs.Prelude.{◌≡◌, ◌⊎◌, ◌<◌, ◌≤◌, ℕ, List, Option, Some, None, codes, option_map}
+use Rattle.std.specs.Prelude.{◌≡◌, ◌⊎◌, ◌<◌, ◌≤◌, ℕ, zero, suc, List, Option, Some, None, codes, option_map}
 use Rattle.log.specs.Level.{parse_filter}
 use Rattle.log.specs.declared.level.LevelFilter.{LevelFilter}
 use Rattle.clap.specs.Words.{Row, Text, first_of, one_of}
@@ -36,14 +36,21 @@ ServesSessions matches (Some sessions) = (one_of (codes "forever") matches ≡ S
 abbrev pub IsTextOf : List Row → Text → Option (List ℕ) → Type 0
 IsTextOf rows name text = first_of name rows ≡ text
 
+-- what a new sheet has, of which an option asks for this number: 2, where it leaves it open
+abbrev pub or_two : ℕ → ℕ
+or_two zero = 2
+or_two (suc n) = suc n
+
 -- the matches of `dsheet serve` ask for this server: each of its parts is the value of its option, and it is within
 -- the limits
 pub record IsServing (matches : List Row) (s : Serving) : Type 0 where
   pub addresses : ListensAt matches s.addresses
   pub token_file : IsTextOf matches (codes "token-file") (option_map (λ t. t.now) s.token_file)
-  pub columns : IsNumberOf matches (codes "columns") s.shape.columns
-  pub rows : IsNumberOf matches (codes "rows") s.shape.rows
-  pub processes : IsNumberOf matches (codes "processes") s.processes
+  pub columns : IsNumberOf matches (codes "columns") s.asked.columns
+  pub rows : IsNumberOf matches (codes "rows") s.asked.rows
+  pub processes : IsNumberOf matches (codes "processes") s.asked.processes
+  pub shape : (s.shape.columns ≡ or_two s.asked.columns) × (s.shape.rows ≡ or_two s.asked.rows)
+  pub has : s.processes ≡ or_two s.asked.processes
   pub workers : IsNumberOf matches (codes "workers") s.workers
   pub sessions : ServesSessions matches s.sessions
   pub at_once : IsNumberOf matches (codes "at-once") s.at_once
@@ -65,15 +72,15 @@ HasNoProcess rows name = (process : ℕ) → IsNumberOf rows name process → pr
 
 -- the options name no shape of a sheet
 abbrev pub HasNoShape : List Row → Type 0
-HasNoShape matches = (columns rows : ℕ) → IsNumberOf matches (codes "columns") columns → IsNumberOf matches (codes "rows") rows → MayHave columns rows → ⊥
+HasNoShape matches = (columns rows : ℕ) → IsNumberOf matches (codes "columns") columns → IsNumberOf matches (codes "rows") rows → MayHave (or_two columns) (or_two rows) → ⊥
 
--- the option has no number of processes from 1 to 8
+-- the option has no number of processes of at most 8
 abbrev pub HasNoProcesses : List Row → Type 0
-HasNoProcesses matches = (processes : ℕ) → IsNumberOf matches (codes "processes") processes → 1 ≤ processes → processes ≤ PROCESSES_MOST → ⊥
+HasNoProcesses matches = (processes : ℕ) → IsNumberOf matches (codes "processes") processes → or_two processes ≤ PROCESSES_MOST → ⊥
 
--- the options have no number of workers below that of the processes, which is from 1 to 8
+-- the options have no number of workers below that of the processes of a new sheet
 abbrev pub HasNoWorkers : List Row → Type 0
-HasNoWorkers matches = (processes workers : ℕ) → IsNumberOf matches (codes "processes") processes → processes ≤ PROCESSES_MOST → IsNumberOf matches (codes "workers") workers → workers < processes → ⊥
+HasNoWorkers matches = (processes workers : ℕ) → IsNumberOf matches (codes "processes") processes → or_two processes ≤ PROCESSES_MOST → IsNumberOf matches (codes "workers") workers → workers < or_two processes → ⊥
 
 -- the option of this name has no number from 1 to 65,535
 abbrev pub HasNone : List Row → Text → Type 0

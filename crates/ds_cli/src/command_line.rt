@@ -437,18 +437,18 @@ fn sheet_command<'a>(alloc: Global) -> Result<Command<'a>, AllocError>
     ensures { IfOk result (IsCommand sheet_app) }
 {
     let one = with_argument(Ok(serve_alone(alloc)), listen_option(alloc));
-    let columns_help = "Columns of the sheet, 1 to 26";
-    let two = with_argument(one, number_option(alloc, "columns", "2", columns_help));
-    let rows_help = "Rows of the sheet, 1 to 64";
-    with_argument(two, number_option(alloc, "rows", "2", rows_help))
+    let columns_help = "Columns of the sheet, 1 to 26; 0: those of the store's file, else 2";
+    let two = with_argument(one, number_option(alloc, "columns", "0", columns_help));
+    let rows_help = "Rows of the sheet, 1 to 64; 0: those of the store's file, else 2";
+    with_argument(two, number_option(alloc, "rows", "0", rows_help))
 }
 
 // The command with its processes and its sessions, too.
 fn shared_command<'a>(alloc: Global) -> Result<Command<'a>, AllocError>
     ensures { IfOk result (IsCommand shared_app) }
 {
-    let processes_help = "Processes, 1 to 8";
-    let processes = number_option(alloc, "processes", "2", processes_help);
+    let processes_help = "Processes, 1 to 8; 0: those of the store's file, else 2";
+    let processes = number_option(alloc, "processes", "0", processes_help);
     let one = with_argument(sheet_command(alloc), processes);
     let workers_help = "Workers, fewer than the processes";
     let two = with_argument(one, number_option(alloc, "workers", "0", workers_help));

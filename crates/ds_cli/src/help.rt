@@ -171,7 +171,7 @@ marked; no session can join them. Once it listens it says so on standard error, 
 
 Without --store the sheet goes with the server. With it the sheet is that of a file, which is made where there is none:
 no answer leaves before the edits that were made before it are kept there. Kill the server, start it with the same words, and ask: each edit that was
-answered done is there, and a join tells of the last one. Its shape and its processes have to be those of the file.
+answered done is there, and a join tells of the last one. A file that is there has its columns, rows and processes; others that are asked for are refused.
 After 240 edits of a process the server goes over to a new sheet with the same texts; their numbers go on.
 
 Whoever reaches the address may join a process and edit, so only addresses of this machine are listened on, unless there

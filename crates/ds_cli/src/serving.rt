@@ -5,7 +5,7 @@ ghost use Rattle.std.specs.Prelude.{◌≡◌, ◌<◌, ◌≤◌, ℕ, IfErr, I
 ghost use Rattle.clap.specs.Matches.{found_of};
 ghost use Rattle.clap.specs.Walk.{rows_of};
 ghost use Rattle.ds_cli.specs.Addresses.{HasNoAddress, IsAddressOf};
-ghost use Rattle.ds_cli.specs.Servings.{HasNoLevel, HasNoNumber, HasNoShape, IsLevelOf, IsNumberOf, IsNumberOr, IsOutOfLimits, IsServing, IsTextOf, IsWritten, ServesSessions, usage_of};
+ghost use Rattle.ds_cli.specs.Servings.{HasNoLevel, HasNoNumber, HasNoShape, IsLevelOf, IsNumberOf, IsNumberOr, IsOutOfLimits, IsServing, IsTextOf, IsWritten, ServesSessions, or_two, usage_of};
 
 use crate::addresses::{Addresses, read_addresses};
 use crate::exploring::is_set;
@@ -16,6 +16,17 @@ use log::LevelFilter;
 use std::net::SocketAddr;
 use thiserror::Error;
 
+/// What a server's sheet is asked to have, as the options say it. 0: what the file of its store has, or 2 of a new sheet.
+#[derive(Clone, Copy, Debug, PartialEq, Eq)]
+pub struct AskedSheet {
+    /// Columns, at most 26.
+    pub columns: usize,
+    /// Rows, at most 64.
+    pub rows: usize,
+    /// Processes, at most 8.
+    pub processes: usize,
+}
+
 /// A server: where it listens, its sheet, and how long it serves.
 #[derive(Clone, Copy, Debug, PartialEq, Eq)]
 pub struct Serving<'a> {
@@ -23,9 +34,11 @@ pub struct Serving<'a> {
     pub addresses: Addresses,
     /// The file whose first line is the token that a join has to have, if any.
     pub token_file: Option<&'a str>,
-    /// The shape of its sheet, at most 26 columns, 64 rows and 1,024 cells.
+    /// What its sheet is asked to have.
+    pub asked: AskedSheet,
+    /// The shape of a new sheet, at most 26 columns, 64 rows and 1,024 cells.
     pub shape: Shape,
-    /// How many processes the sheet has, 1 to 8.
+    /// How many processes a new sheet has, 1 to 8.
     pub processes: usize,
     /// How many of them, the last ones, work on marked cells: fewer than there are.
     pub workers: usize,
@@ -59,10 +72,10 @@ pub enum OutOfLimits {
     #[error("--http: whoever reaches this address may edit; give --token-file FILE, or --open")]
     OpenHttp,
     /// The sheet is too large, or has no cell.
-    #[error("--columns, --rows: from 1 to 26 and from 1 to 64, and at most 1024 cells")]
+    #[error("--columns, --rows: from 1 to 26 and from 1 to 64, and at most 1024 cells; 0: those of the store's file, else 2")]
     Shape,
     /// The sheet has too many processes, or none.
-    #[error("--processes: from 1 to 8")]
+    #[error("--processes: from 1 to 8; 0: those of the store's file, else 2")]
     Processes,
     /// There are as many workers as processes, or more.
     #[error("--workers: fewer than the processes")]
@@ -228,36 +241,44 @@ fn level(matches: &ArgMatches<'_>) -> Option<LevelFilter>
     }
 }
 
-// The shape that two options ask for; none where it is none of a sheet.
-fn read_shape(matches: &ArgMatches<'_>) -> Option<Shape>
-    ensures some { IfSome result (λ s. IsNumberOf (rows_of (found_of matches.now)) (codes "columns") s.columns
-        × IsNumberOf (rows_of (found_of matches.now)) (codes "rows") s.rows) }
+// What a new sheet has, of which the options ask for this number.
+fn or_two(number: usize) -> usize
+    ensures { result ≡ or_two number }
+{
+    if number == 0 { 2 } else { number }
+}
+
+// The shape of a new sheet, and what two options ask for of it; none where it is none of a sheet.
+fn read_shape(matches: &ArgMatches<'_>) -> Option<(Shape, usize, usize)>
+    ensures some { IfSome result (λ r. IsNumberOf (rows_of (found_of matches.now)) (codes "columns") r.1 × IsNumberOf (rows_of (found_of matches.now)) (codes "rows") r.2
+        × (r.0.columns ≡ or_two r.1) × (r.0.rows ≡ or_two r.2)) }
     ensures none { result ≡ None → HasNoShape (rows_of (found_of matches.now)) }
 {
     let columns = number(matches, "columns")?;
     let rows = number(matches, "rows")?;
-    Shape::new(columns, rows)
+    let shape = Shape::new(or_two(columns), or_two(rows))?;
+    Some((shape, columns, rows))
 }
 
 // How many processes the options ask for.
 fn read_processes(matches: &ArgMatches<'_>) -> Result<usize, OutOfLimits>
-    ensures some { IfOk result (λ p. IsNumberOf (rows_of (found_of matches.now)) (codes "processes") p × (1 ≤ p) × (p ≤ PROCESSES_MOST)) }
+    ensures some { IfOk result (λ p. IsNumberOf (rows_of (found_of matches.now)) (codes "processes") p × (or_two p ≤ PROCESSES_MOST)) }
     ensures limit { IfErr result (IsOutOfLimits (rows_of (found_of matches.now))) }
 {
     match number(matches, "processes") {
-        Some(processes) if 1 <= processes && processes <= PROCESS_LIMIT => Ok(processes),
+        Some(processes) if or_two(processes) <= PROCESS_LIMIT => Ok(processes),
         _ => Err(OutOfLimits::Processes),
     }
 }
 
-// How many workers they ask for, beside this number of processes.
+// How many workers they ask for, beside the processes of a new sheet, of which they ask for this number.
 fn read_workers(matches: &ArgMatches<'_>, processes: usize) -> Result<usize, OutOfLimits>
-    requires { IsNumberOf (rows_of (found_of matches.now)) (codes "processes") processes × (processes ≤ PROCESSES_MOST) }
-    ensures some { IfOk result (λ w. IsNumberOf (rows_of (found_of matches.now)) (codes "workers") w × (w < processes)) }
+    requires { IsNumberOf (rows_of (found_of matches.now)) (codes "processes") processes × (or_two processes ≤ PROCESSES_MOST) }
+    ensures some { IfOk result (λ w. IsNumberOf (rows_of (found_of matches.now)) (codes "workers") w × (w < or_two processes)) }
     ensures limit { IfErr result (IsOutOfLimits (rows_of (found_of matches.now))) }
 {
     match number(matches, "workers") {
-        Some(workers) if workers < processes => Ok(workers),
+        Some(workers) if workers < or_two(processes) => Ok(workers),
         _ => Err(OutOfLimits::Workers),
     }
 }
@@ -304,7 +325,7 @@ pub fn read_serving<'a>(matches: &ArgMatches<'a>) -> Result<Serving<'a>, OutOfLi
 {
     let token_file = text(matches, "token-file");
     let addresses = read_addresses(matches, token_file)?;
-    let Some(shape) = read_shape(matches) else {
+    let Some((shape, columns, rows)) = read_shape(matches) else {
         return Err(OutOfLimits::Shape);
     };
     let processes = read_processes(matches)?;
@@ -320,8 +341,13 @@ pub fn read_serving<'a>(matches: &ArgMatches<'a>) -> Result<Serving<'a>, OutOfLi
     Ok(Serving {
         addresses,
         token_file,
+        asked: AskedSheet {
+            columns,
+            rows,
+            processes,
+        },
         shape,
-        processes,
+        processes: or_two(processes),
         workers,
         sessions,
         at_once,

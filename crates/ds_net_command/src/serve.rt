@@ -9,6 +9,7 @@ use ds_batch::status::STREAM_FAILED;
 use ds_batch::token::{bytes_of, read_token};
 use ds_cli::addresses::Addresses;
 use ds_cli::serving::Serving;
+use ds_formula::cells::Shape;
 use ds_layout::layout::Layout;
 use ds_net::keeper::Attendant;
 use ds_net::stored::{self, StoredEnd};
@@ -16,6 +17,7 @@ use ds_net_connections::counts::Taken;
 use ds_net_connections::entrance::{Entrance, Entrances, Protocol};
 use ds_net_connections::serving::{ServeError, Service};
 use ds_net_floor::door::Door;
+use ds_store::fault::StoreFault;
 use ds_store::open::Databases;
 use ds_store::store::{Opened, Store, open_or_make};
 use ds_store_commands::stores::{Disk, close, tell_fault};
@@ -242,6 +244,62 @@ fn serve_kept<
     }
 }
 
+// The layout of the sheet that a store has, where no other one is asked for, and it has processes beside the workers'.
+fn layout_in(
+    serving: Serving<'_>,
+    columns: usize,
+    rows: usize,
+    processes: usize,
+) -> Option<Layout> {
+    let asked = serving.asked;
+    let pairs = [
+        (asked.columns, columns),
+        (asked.rows, rows),
+        (asked.processes, processes),
+    ];
+    let fits = pairs.iter().all(|(asked, has)| *asked == 0 || asked == has);
+    if !fits || serving.workers >= processes {
+        return None;
+    }
+    Layout::new(Shape::new(columns, rows)?, processes)
+}
+
+// Opens the store at this path, whose sheet has this layout, or makes it so.
+fn opened_as<R: AllocGlobal + Databases>(
+    rt: &R,
+    path: &str,
+    layout: Layout,
+) -> Result<Opened<Disk>, StoreFault> {
+    open_or_make(rt.alloc(), rt.open_database(path)?, layout)
+}
+
+// The same with the layout of its sheet, where it has another one that was not asked for.
+fn opened_for<R: AllocGlobal + Databases>(
+    rt: &R,
+    serving: Serving<'_>,
+    path: &str,
+) -> Result<Opened<Disk>, StoreFault>
+    requires { IsWithinLimits serving }
+{
+    match opened_as(rt, path, layout_of(serving)) {
+        Err(
+            StoreFault::OtherSheet {
+                columns,
+                rows,
+                processes,
+            },
+        ) => match layout_in(serving, columns, rows, processes) {
+            Some(layout) => opened_as(rt, path, layout),
+            None => Err(StoreFault::OtherSheet {
+                columns,
+                rows,
+                processes,
+            }),
+        },
+        opened => opened,
+    }
+}
+
 // Opens the store at this path, or makes it. An error is the status, when standard error has the reason.
 fn opened<R: AllocGlobal + Eprint + Databases>(
     rt: &R,
@@ -250,12 +308,7 @@ fn opened<R: AllocGlobal + Eprint + Databases>(
 ) -> Result<Opened<Disk>, u8>
     requires { IsWithinLimits serving }
 {
-    let layout = layout_of(serving);
-    let opened = match rt.open_database(path) {
-        Ok(conn) => open_or_make(rt.alloc(), conn, layout),
-        Err(fault) => Err(fault),
-    };
-    match opened {
+    match opened_for(rt, serving, path) {
         Ok(opened) => Ok(opened),
         Err(fault) => Err(tell_fault(rt, path, &fault)),
     }
