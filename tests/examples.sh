@@ -1,7 +1,7 @@
 #!/usr/bin/env bash
 # Runs the examples: each file of examples/ that has words beside it (NAME.args) is a standard input, whose answer is
 # NAME.stdout, where that is there, and whose exit status is that of .ci/statuses, and 0 where it names none.
-# Then a budget of an office goes through the report and back, as .fods and as .ods.
+# Then a budget of an office goes through the report and back, and into a store, as .fods and as .ods.
 #   tests/examples.sh PROGRAM
 program=$(realpath "$1")
 cd "$(dirname "$0")/.."
@@ -42,5 +42,9 @@ for kind in fods ods; do
     python3 "$documents" fill "$room/budget.$kind" "$room/values" "$room/new.$kind" 2>"$room/said"
     python3 "$documents" values "$room/new.$kind" | diff "$room/values" - >&2 || fail "budget.$kind: other values in it"
     python3 "$documents" grid "$room/new.$kind" | diff "$room/grid" - >&2 || fail "budget.$kind: other formulas in it"
+    python3 "$documents" texts "$room/budget.$kind" >"$room/texts"
+    "$program" import "$room/$kind.db" --csv <"$room/texts" >&2 || fail "budget.$kind: no store of it"
+    "$program" report <"$room/texts" >"$room/values"
+    "$program" export "$room/$kind.db" --values | diff "$room/values" - >&2 || fail "budget.$kind: other values in its store"
     passed "budget.$kind"
 done

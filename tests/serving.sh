@@ -117,7 +117,8 @@ joined1='{"last":null,"ok":"join","process":1}'
 # ---- the words
 
 refuses "an address that is none" "dsheet: --listen: .*" --listen nowhere
-refuses "too many processes" "dsheet: --processes: from 1 to 8" --listen 127.0.0.1:0 --processes 9
+refuses "too many processes" "dsheet: --processes: from 1 to 8; .*" --listen 127.0.0.1:0 --processes 9
+refuses "too many cells" "dsheet: --columns, --rows: .*" --listen 127.0.0.1:0 --columns 26 --rows 40
 refuses "no process without a worker" "dsheet: --workers: .*" --listen 127.0.0.1:0 --workers 2
 refuses "a number that is none" "error: invalid value 'many' .*" --listen 127.0.0.1:0 --columns many
 refuses "no address at all" "dsheet: where it listens: .*"

@@ -365,7 +365,7 @@ def check_crowded(program, folder):
     viewer = Viewer(port)
     if viewer.call(op="join", process="any").get("error") != "process-taken":
         raise Failed("a process is free where each is a client's")
-    texts = {"A1": "2", "B1": "=[.A1]*3", "C1": "=SUM([.A1:.B1])", "D1": "=[.D1]", "A2": "1", "B2": "=1/0"}
+    texts = {"A1": "2", "B1": "=[.A1]*3", "C1": "=SUM([.A1:.B1])", "D1": "=[.D1]", "A2": "1", "B2": "=QUOTIENT(1;0)"}
     for cell, text in [("C1", "9"), *texts.items(), ("A2", "")]:
         if editors[0].call(op="set", cell=cell, text=text).get("ok") != "done":
             raise Failed(f"an edit of {cell}")
@@ -382,6 +382,23 @@ def check_crowded(program, folder):
         raise Failed("a cell that nobody edited")
     stop(server)
     pass_rows("a view and cells, where each process is a client's", 2 + len(texts))
+
+
+def check_shape(program, folder):
+    """A server takes columns, rows and processes from the file that is there, and refuses others that are asked for."""
+    store = os.path.join(folder, "shape.db")
+    made = run(program, "import", store, input="sheet 3 5 4\nset 2 C5 =1+2\n")
+    expect("a store of another shape", made, 0, "")
+    for words in (["--columns", "0", "--rows", "5"], ["--processes", "4", "--workers", "3"], []):
+        server, port = start(program, store, shape=words or ["--columns", "3"])
+        view = Viewer(port).settled(op="view")
+        stop(server)
+        if view["rows"] != [["", "", ""]] * 4 + [["", "", "3"]]:
+            raise Failed(f"served with {words}: {view}")
+    for words in (["--columns", "2"], ["--rows", "4"], ["--processes", "2"], ["--workers", "1", "--processes", "8"]):
+        said = run(program, "serve", "--listen", "127.0.0.1:0", "--store", store, *words)
+        expect(f"another shape: {' '.join(words)}", said, 1, "its sheet has 3 columns, 5 rows and 4 processes")
+    pass_rows("a server takes the shape of its sheet from the file", 3)
 
 
 def run(program, *words, **more):
@@ -1018,6 +1035,7 @@ def check_all(program, kills, cuts, many, draw):
         check_backup_beside(program, folder, max(5, cuts // 5), draw)
         check_reading(program, folder, max(100, 5 * cuts), draw)
         check_crowded(program, folder)
+        check_shape(program, folder)
         check_full(program, folder)
         check_white_space(program, folder)
         check_fifo(program, folder)

@@ -29,9 +29,9 @@ complete -c dsheet -n '__fish_seen_subcommand_from report' -l json -d 'Writes on
 complete -c dsheet -n '__fish_seen_subcommand_from report' -l a1 -d 'Formulas are written as in Calc and Excel: =A1*2, =SUM(A1:B3,7)'
 complete -c dsheet -n '__fish_seen_subcommand_from report' -F
 complete -c dsheet -n '__fish_seen_subcommand_from serve' -l listen -x -d 'Takes sessions at this address and port, as 127.0.0.1:8080'
-complete -c dsheet -n '__fish_seen_subcommand_from serve' -l columns -x -d 'Columns of the sheet, 1 to 26'
-complete -c dsheet -n '__fish_seen_subcommand_from serve' -l rows -x -d 'Rows of the sheet, 1 to 64'
-complete -c dsheet -n '__fish_seen_subcommand_from serve' -l processes -x -d 'Processes, 1 to 8'
+complete -c dsheet -n '__fish_seen_subcommand_from serve' -l columns -x -d 'Columns of the sheet, 1 to 26; 0: those of the store\'s file, else 2'
+complete -c dsheet -n '__fish_seen_subcommand_from serve' -l rows -x -d 'Rows of the sheet, 1 to 64; 0: those of the store\'s file, else 2'
+complete -c dsheet -n '__fish_seen_subcommand_from serve' -l processes -x -d 'Processes, 1 to 8; 0: those of the store\'s file, else 2'
 complete -c dsheet -n '__fish_seen_subcommand_from serve' -l workers -x -d 'Workers, fewer than the processes'
 complete -c dsheet -n '__fish_seen_subcommand_from serve' -l sessions -x -d 'Connections that are served before the server ends, at least 1; 1 without it'
 complete -c dsheet -n '__fish_seen_subcommand_from serve' -l forever -d 'Serves as many connections as come, until it is asked to stop'

@@ -2,3 +2,4 @@ pub mod Crossing
 mod Listed
 mod Reading
 mod Sharing
+mod Viewing

@@ -1,5 +1,5 @@
 -- What the calls of a session over a shared sheet do to its seat.
-use Rattle.std.proofs.Common.{◌≡◌, ◌∙◌, ◌⊎◌, ◌<◌, ◌≤◌, ◌+◌, ◌*◌, arith, inl, inr, refl, sym, ap, subst, ℕ, List, Option, Some, Result, Ok, Err, IfOk, IfErr}
+use Rattle.std.proofs.Common.{◌≡◌, ◌∙◌, ◌⊎◌, ◌<◌, ◌≤◌, ◌+◌, ◌*◌, arith, inl, inr, refl, sym, ap, subst, ℕ, List, Option, Result, Ok, Err, IfOk, IfErr}
 use Rattle.std.specs.Prelude.{Vec}
 use Rattle.std.proofs.Math.Nat.{mul-le-mul_right}
 use Rattle.std.specs.Result.{IsErrAnd, IsOkAnd}

@@ -126,7 +126,9 @@ impl<'a, R: Wait + Clock> SharedDesk<'a, R> {
         if let Some(numbered) = &mut self.numbered {
             return Some(seat_report(rt, alloc, pool, numbered, &self.course, visit));
         }
-        let mut numbered = pool.take_any(rt, self.open)?;
+        let Some(mut numbered) = pool.take_any(rt, self.open) else {
+            return None;
+        };
         let end = seat_report(rt, alloc, pool, &mut numbered, &self.course, visit);
         pool.put_back(rt, numbered);
         Some(end)

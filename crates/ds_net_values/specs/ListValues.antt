@@ -1,5 +1,5 @@
 -- The values of a sheet after a list of edits.
-use Rattle.std.specs.Prelude.{ℕ, zero, suc, List, [], ◌∷◌, ◌++◌}
+use Rattle.std.specs.Prelude.{ℕ, suc, List, [], ◌∷◌, ◌++◌}
 use Rattle.ds_formula.specs.declared.cells.Shape.{Shape}
 use Rattle.ds_formula.specs.Cells.{cell_at, count_of}
 use Rattle.ds_eval.specs.declared.value.Value.{Value}

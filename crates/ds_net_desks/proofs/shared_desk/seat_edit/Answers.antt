@@ -1,4 +1,4 @@
-use Rattle.std.proofs.Common.{◌≡◌, refl, subst, sym}
+use Rattle.std.proofs.Common.{◌≡◌, refl, subst}
 use Rattle.ds_server.specs.Replies.{set_view}
 use Rattle.ds_net_desks.specs.Counting.{seen_by}
 use Rattle.ds_net_desks.proofs.Sharing.{set_process}

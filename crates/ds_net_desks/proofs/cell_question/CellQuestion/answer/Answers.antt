@@ -1,4 +1,4 @@
-use Rattle.std.proofs.Common.{◌≡◌, ◌∙◌, refl}
+use Rattle.std.proofs.Common.{◌∙◌, refl}
 use Rattle.ds_server.specs.Replies.{got_view}
 use Rattle.ds_net_desks.proofs.Reading.{got_after, tried_both, tried_none}
 use Rattle.ds_net_desks.proofs.cell_question.CellQuestion.answer.Goals as goal
