@@ -8,7 +8,7 @@ use Rattle.std_heap.specs.contracts.GlobalAllocator.TheImpl.{ghosts, dict}
 use Rattle.std_heap.proofs.Global.TheLaws as heap
 use Rattle.ds_state.specs.contracts.world.World as World
 use Rattle.ds_state.proofs.world.World.TheLaws as world
-use Rattle.ds_c.specs.contracts.parts.Parts as Parts
+use Rattle.c_handles.specs.contracts.parts.Parts as Parts
 use Rattle.ds_c.specs.contracts.handle.BoxedWorld as BoxedWorld
 
 -- a box of a world in memory of the heap

@@ -8,7 +8,7 @@ use Rattle.std_heap.specs.contracts.GlobalAllocator.TheImpl.{ghosts, dict}
 use Rattle.std_heap.proofs.Global.TheLaws as heap
 use Rattle.ds_c.specs.contracts.held.Held as Held
 use Rattle.ds_c.proofs.held.Held.TheLaws as held
-use Rattle.ds_c.specs.contracts.parts.Parts as Parts
+use Rattle.c_handles.specs.contracts.parts.Parts as Parts
 use Rattle.ds_c.specs.contracts.holder.BoxedHeld as BoxedHeld
 
 -- a box of what a holder holds, in memory of the heap

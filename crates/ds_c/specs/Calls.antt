@@ -1,17 +1,13 @@
 -- What a call does to the world that a handle holds, and what its caller gets.
 use Rattle.std.specs.Prelude.{ℕ, ◌≡◌, ◌<◌, ◌≤◌, ◌++◌, List, length, drop, Result, Ok, Err}
+use Rattle.c_handles.specs.Calls as handles
+pub use Rattle.c_handles.specs.Calls.{Does}
 use Rattle.ds_state.specs.Value.{WorldValue}
 use Rattle.ds_c.specs.declared.handle.Handle.{Handle}
 use Rattle.ds_c.specs.declared.failure.Failure.{Failure}
 use Rattle.ds_c.specs.declared.failure.Failure.TheVariants.{Empty, TooSmall}
 use Rattle.ds_c.specs.Failures.{failure_number}
 use Rattle.ds_c.specs.Handles.{Holds, IsEmpty}
-
--- a call leads from the one value to the other so, and tells this; or it fails for a cause that holds, and the value
--- stays
-abbrev pub Does : {V R : Type 0} → (V → R → V → Type 0) → (V → Failure → Type 0) → V → Result R Failure → V → Type 0
-Does P Fails old (Ok told) new = P old told new
-Does P Fails old (Err why) new = Fails old why × (new ≡ old)
 
 -- the call was made on the world that the handle held, and the handle holds what it led to
 pub record OnWorld {R : Type 0} (Call : WorldValue → Result R Failure → WorldValue → Type 0) (Tells : Result R Failure → ℕ → Type 0) (old new : Handle) (number : ℕ) : Type 0 where
@@ -28,15 +24,13 @@ pub data OnHandle {R : Type 0} (Call : WorldValue → Result R Failure → World
   called : OnWorld Call Tells old new number → OnHandle Call Tells old new number
   empty : IsEmpty old → new ≡ old → Tells (Err Empty) number → OnHandle Call Tells old new number
 
--- a result as a number alone: 0, or that of the failure
+-- a result as a number alone
 abbrev pub Numbers : {R : Type 0} → Result R Failure → ℕ → Type 0
-Numbers (Ok told) number = number ≡ 0
-Numbers (Err why) number = number ≡ failure_number why
+Numbers told number = handles.Numbers failure_number told number
 
--- a result as a number, and as a row of the caller's, which stays where the call failed
+-- a result as a number, and as a row of the caller's
 abbrev pub Tells : {R : Type 0} → R → R → Result R Failure → ℕ → Type 0
-Tells before after (Ok row) number = (after ≡ row) × (number ≡ 0)
-Tells before after (Err why) number = (after ≡ before) × (number ≡ failure_number why)
+Tells before after told number = handles.Tells failure_number before after told number
 
 -- the items stand in the caller's buffer from its start, and what comes after them stays; or it is too small for them,
 -- and stays

@@ -10,8 +10,8 @@ use crate::failure::Failure;
 use crate::held::Held;
 use crate::holder::Holder;
 use crate::rows::{MarkRow, SizeRow, ValueRow};
-use crate::tell::tell;
 use crate::{closed_calls, sheet_calls};
+use c_handles::tell::{Numbered, tell};
 use ds_formula::cells::Cell;
 use std::alloc::Global;
 

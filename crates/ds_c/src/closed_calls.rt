@@ -10,6 +10,7 @@ use crate::failure::Failure;
 use crate::held::Held;
 use crate::rows::{MarkRow, SizeRow, ValueRow};
 use crate::tell::fill;
+use c_handles::tell::Numbered;
 use ds_formula::cells::Cell;
 use ds_shared_seats::fault::Fault;
 use std::alloc::Global;

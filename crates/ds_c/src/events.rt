@@ -12,7 +12,7 @@ use crate::calls;
 use crate::failure::Failure;
 use crate::handle::Handle;
 use crate::rows::PlaceRow;
-use crate::tell::{status, tell};
+use c_handles::tell::{Numbered, status, tell};
 use ds_formula::cells::Cell;
 use std::alloc::Global;
 

@@ -3,6 +3,7 @@
 ghost use Rattle.std.specs.Prelude.{◌≡◌};
 ghost use Rattle.ds_c.specs.Failures.{failure_number, failure_of};
 
+use c_handles::tell::Numbered;
 use ds_shared_seats::fault::Fault;
 
 /// Why a call of the library was not carried out. The world, and the handle, are as they were. C has it as a number;
@@ -46,11 +47,14 @@ impl Failure {
             Fault::NoMemory => Failure::NoMemory,
         }
     }
+}
 
-    /// Its number, as C has it; 0 is that of a call that was carried out.
-    pub fn number(self) -> u32
-        ensures { result ≡ failure_number self }
-    {
+impl Numbered for Failure {
+    ghost use Rattle.ds_c.specs.Failures.{failure_number};
+
+    ghost number_of = { failure_number };
+
+    fn number(self) -> u32 {
         match self {
             Failure::Empty => 1,
             Failure::Full => 2,

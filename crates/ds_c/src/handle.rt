@@ -5,7 +5,7 @@ ghost use Rattle.ds_state.specs.Value.{WorldValue};
 ghost use Rattle.ds_c.specs.declared.handle.TheConstants.{HELD};
 ghost use Rattle.ds_c.specs.Owned.{state_owns, world_coded};
 
-use crate::parts::Parts;
+use c_handles::parts::Parts;
 use ds_state::world::World;
 use std::alloc::Global;
 use std::marker::Model;

@@ -6,7 +6,7 @@ ghost use Rattle.ds_c.specs.declared.holder.TheConstants.{FULL};
 ghost use Rattle.ds_c.specs.OwnedHeld.{held_owns, held_coded};
 
 use crate::held::Held;
-use crate::parts::Parts;
+use c_handles::parts::Parts;
 use std::alloc::Global;
 use std::marker::Model;
 use std::ptr;

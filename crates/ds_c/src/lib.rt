@@ -14,7 +14,6 @@ mod held;
 mod holder;
 mod laws;
 mod make;
-mod parts;
 mod reads;
 mod rows;
 mod seat_calls;

@@ -7,6 +7,7 @@ ghost use Rattle.ds_c.specs.Making.{IsMade, CanNotMake, Makes, Frees};
 
 use crate::failure::Failure;
 use crate::handle::Handle;
+use c_handles::tell::Numbered;
 use ds_formula::cells::Shape;
 use ds_layout::layout::PROCESS_LIMIT;
 use ds_layout::place::Edition;

@@ -12,6 +12,7 @@ use crate::calls::{find_place, find_process};
 use crate::failure::Failure;
 use crate::rows::{MarkRow, PlaceRow, SizeRow, ValueRow, WordRow};
 use crate::tell::{fill, fill_values};
+use c_handles::tell::Numbered;
 use ds_formula::cells::Cell;
 use ds_state::world::World;
 use std::alloc::Global;

@@ -11,6 +11,7 @@ use crate::failure::Failure;
 use crate::held::Held;
 use crate::rows::ValueRow;
 use crate::tell::fill_values;
+use c_handles::tell::Numbered;
 use ds_formula::cells::Cell;
 use std::alloc::Global;
 

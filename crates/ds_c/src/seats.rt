@@ -10,7 +10,7 @@ use crate::held::Held;
 use crate::holder::Holder;
 use crate::rows::ValueRow;
 use crate::seat_calls;
-use crate::tell::tell;
+use c_handles::tell::{Numbered, tell};
 use ds_formula::cells::Cell;
 use std::alloc::Global;
 

@@ -7,6 +7,7 @@ use crate::failure::Failure;
 use crate::held::Held;
 use crate::holder::Holder;
 use crate::sheet_calls;
+use c_handles::tell::Numbered;
 use std::alloc::Global;
 
 /// A holder that holds nothing gets a new sheet of this shape, which threads may share. Every process is between calls.

@@ -8,7 +8,7 @@ use crate::failure::Failure;
 use crate::handle::Handle;
 use crate::reads;
 use crate::rows::{MarkRow, PlaceRow, SizeRow, ValueRow, WordRow};
-use crate::tell::tell;
+use c_handles::tell::{Numbered, tell};
 use ds_formula::cells::Cell;
 use std::alloc::Global;
 

@@ -1,35 +1,13 @@
-//! What a caller gets of a result.
+//! Buffers of the caller.
 
 ghost use Rattle.std.specs.Prelude.{◌≡◌, length, map};
-ghost use Rattle.ds_c.specs.Calls.{Numbers, Tells, Fills};
+ghost use Rattle.ds_c.specs.Calls.{Fills};
 ghost use Rattle.ds_c.specs.Rows.{value_row};
 
 use crate::failure::Failure;
 use crate::rows::ValueRow;
+use c_handles::tell::Numbered;
 use ds_eval::value::Value;
-
-/// By its number alone.
-pub fn status(told: Result<(), Failure>) -> u32
-    ensures { Numbers told result }
-{
-    match told {
-        Ok(()) => 0,
-        Err(failure) => failure.number(),
-    }
-}
-
-/// By its number, and a row.
-pub fn tell<R: Copy>(told: Result<R, Failure>, row: &mut R) -> u32
-    ensures { Tells row.old row.new told result }
-{
-    match told {
-        Ok(value) => {
-            *row = value;
-            0
-        }
-        Err(failure) => failure.number(),
-    }
-}
 
 /// Bytes at the start of a buffer, if it has room for them.
 pub fn fill(bytes: &[u8], buffer: &mut [u8]) -> u32

@@ -10,7 +10,7 @@ use crate::answer::AnswerRow;
 use crate::calls;
 use crate::failure::Failure;
 use crate::handle::Handle;
-use crate::tell::tell;
+use c_handles::tell::{Numbered, tell};
 use ds_formula::cells::Cell;
 use std::alloc::Global;
 
