@@ -200,12 +200,23 @@ def edits(first, second):
     row("what refers to a cell follows", second.wait(second.cell("B1"), "19"), "19")
     second.edit("C1", "=1+")
     fault = "document.getElementById('fault').textContent"
-    row("a fault has a caret and its name", second.wait(fault, "   ^ Unfinished, at byte 3"), "   ^ Unfinished, at byte 3")
+    wanted = "   ^ a number, a reference, a function or ( could stand here"
+    row("a fault has a caret, and what could stand there", second.wait(fault, wanted), wanted)
     second.press("Escape")
     row("it is left", second.wait(fault, ""), "")
     first.get("pick(0, 1, true)")
     first.press("Delete")
     row("a cell is cleared", second.wait(second.cell("B1"), "14"), "14")
+
+
+def notes(program, page):
+    """What the page says of a fault is what the program says of it."""
+    texts = ["7.5", "hello", "+3x", "=1+", "=AVERAGE(1)", "=SUM(1", "=1/2", "=[.Z9]", "=ABS(1;2)", "=1!=2", "=[.A1", '=1+"x"', "=(1+2 3", "=2&3"]
+    for text in texts:
+        ran = subprocess.run([program, "run"], input=f"set 0 A1 {text}\n", capture_output=True, text=True, timeout=SECONDS, check=True)
+        kind, offset = ran.stdout.split()[3:5]
+        wanted = next(line for line in ran.stderr.splitlines() if line.lstrip().startswith("^ ")).lstrip(" ^")
+        row(f"what is said of {text}", page.get(f"noteOf({json.dumps(text)}, {json.dumps(kind)}, {offset})"), wanted)
 
 
 def kill(server, first, second):
@@ -260,6 +271,7 @@ def play(path, program):
             address = f"http://127.0.0.1:{server.ports[1]}/"
             first, second = browser.open(address), browser.open(address)
             edits(first, second)
+            notes(program, first)
             kill(server, first, second)
             doubt(server, first)
             kills(server, first, KILLS)

@@ -97,6 +97,9 @@ def limits():
     edit = b"set 0 A1 7\n" + (b"#" * 511 + b"\n") * 2048
     yield row("stops within the limit", "run --stops", edit[:LIMIT], blocks("A1", "7,\n,\n", 13, 20))
     yield row("stops over it", "run --stops", edit, blocks("A1", "7,\n,\n", 13, 20), too_long, 3)
+    comments = row("explore of a megabyte of comments", "explore --summary", b"begin 0 set A1 7\n" + lines[9:-8 * 512])
+    comments.has = [b"states 21\norders 1\n"]
+    yield comments
     for words in ("trace", "explore"):
         yield row(f"{words} over the limit", words, b"\n" * (LIMIT + 1), b"", too_long, 3)
     ten = row("a run of ten edits", "trace", b"set 0 A1 7\n" * 10)

@@ -52,7 +52,7 @@ passed "answers are those of a script"
 status=0
 printf 'set A1 1\nwork A1\nset A1 2\n' | "$program" connect "127.0.0.1:$port" --process 0 >"$room/out" 2>"$room/said" || status=$?
 [ "$status" = 1 ] || fail "a line that is no call: status $status"
-grep -q '^line 2: expected: set CELL TEXT, undo CELL, report, view, get CELL, history \[FROM\] or last$' "$room/said" || fail "a line that is no call"
+grep -q '^line 2: expected: set CELL TEXT, undo CELL, report, view, get CELL, history \[FROM\], outcome KEY or last$' "$room/said" || fail "a line that is no call"
 [ "$(tail -n 1 "$room/out")" = "0 0 done" ] || fail "lines before a fault"
 passed "a line that is no call"
 
@@ -197,6 +197,74 @@ wait "$breaking" 2>/dev/null || true
 [ "$(grep -c '^1 .*"op":"join"' "$room/asked")" = 1 ] || fail "it did not join again: $(cat "$room/asked")"
 grep -q '^0 last 0 A1 done$' "$room/out" || fail "what its recovery reported: $(cat "$room/out")"
 passed "a server that breaks off after an edit"
+
+# With keys: the same input again edits nothing, also by another process; a set is refused where its key is of another edit.
+printf 'set A1 5\nset A2 6\nget A1\noutcome k-1\n' >"$room/calls"
+"$program" connect "127.0.0.1:$port" --process 1 --key k <"$room/calls" >"$room/out" 2>"$room/said" || fail "with keys: status $?"
+number=$(sed -n 's/^1 \([0-9]*\) done$/\1/p' "$room/out" | head -n 1)
+next=$((number + 1))
+for process in 1 0; do
+    "$program" connect "127.0.0.1:$port" --process $process --key k <"$room/calls" >"$room/out" 2>"$room/said" || fail "with keys again: status $?"
+    printf "$process $number done\n$process $next done\ngot A1 5 1 $number 5\noutcome k-1 done 1 $next A2 6\n" >"$room/wanted"
+    tail -n +2 "$room/out" | cmp - "$room/wanted" || fail "with keys again, by $process: $(cat "$room/out")"
+done
+printf 'outcome k-9\nset A1 9\n' | "$program" connect "127.0.0.1:$port" --process 0 --key k >"$room/out" 2>"$room/said" || fail "another text: status $?"
+printf 'outcome k-9 never\n0 refused key-reused\n' >"$room/wanted"
+tail -n +2 "$room/out" | cmp - "$room/wanted" || fail "another text: $(cat "$room/out")"
+status=0
+printf 'outcome k-0\noutcome a b\n' | "$program" connect "127.0.0.1:$port" >"$room/out" 2>"$room/said" || status=$?
+[ "$status" = 1 ] || fail "two words after outcome: status $status"
+[ "$(cat "$room/out")" = "outcome k-0 done 1 $number A1 5" ] || fail "without a process: $(cat "$room/out")"
+for prefix in "a b" "$(printf 'k%.0s' $(seq 44))"; do
+    status=0
+    "$program" connect "127.0.0.1:$port" --key "$prefix" </dev/null >"$room/out" 2>"$room/said" || status=$?
+    [ "$status" = 2 ] || fail "a prefix that is none: status $status"
+    grep -q -e '--key: 1 to 43 visible ASCII characters' "$room/said" || fail "a prefix that is none: $(cat "$room/said")"
+done
+passed "edits with keys"
+
+# A server that breaks off after an edit with a key, twice: the client joins again, and sends it again with that key.
+python3 -c '
+import json, socket, sys
+listener = socket.create_server(("127.0.0.1", 0))
+print(listener.getsockname()[1], flush=True)
+listener.settimeout(20)
+for at in range(3):
+    stream = listener.accept()[0]
+    stream.settimeout(20)
+    for line in stream.makefile("rb"):
+        print(at, line.decode().strip(), file=sys.stderr, flush=True)
+        answer = {"last": None, "ok": "join", "process": 0}
+        if json.loads(line)["op"] != "join":
+            if at < 2:
+                break
+            answer = {"number": 4, "ok": "done"}
+        stream.sendall(json.dumps(answer, separators=(",", ":")).encode() + b"\n")
+    stream.shutdown(socket.SHUT_RDWR)
+    stream.close()
+' >"$room/port" 2>"$room/asked" &
+breaking=$!
+for _ in $(seq 400); do
+    [ -s "$room/port" ] && break
+    sleep 0.05
+done
+printf 'set A1 7\n' | timeout 60 "$program" connect "127.0.0.1:$(cat "$room/port")" --key k >"$room/out" 2>"$room/said" || fail "an edit with a key: status $?"
+wait "$breaking" 2>/dev/null || true
+[ "$(grep -c '"key":"k-0","op":"set"' "$room/asked")" = 3 ] || fail "an edit with a key is sent again: $(cat "$room/asked")"
+grep -q '"told"' "$room/asked" && fail "the number of an edit with a key is told: $(cat "$room/asked")"
+[ "$(tail -n 1 "$room/out")" = "0 4 done" ] || fail "an edit with a key is answered: $(cat "$room/out")"
+passed "a server that breaks off after an edit with a key"
+
+# A server that does not listen yet is waited for: both may be begun at once.
+kill "$server"
+wait "$server" 2>/dev/null || true
+echo view | timeout 60 "$program" connect "127.0.0.1:$at" >"$room/out" 2>"$room/said" &
+client=$!
+sleep 1
+start "$at"
+wait "$client" || fail "a server that is begun later: status $?"
+[ "$(head -n 1 "$room/out")" = settled ] || fail "a server that is begun later: $(cat "$room/out" "$room/said")"
+passed "a server that is begun later"
 
 kill "$server"
 wait "$server" 2>/dev/null || true

@@ -1,7 +1,8 @@
 #!/usr/bin/env bash
 # Runs the examples: each file of examples/ that has words beside it (NAME.args) is a standard input, whose answer is
 # NAME.stdout, where that is there, and whose exit status is that of .ci/statuses, and 0 where it names none.
-# Then a budget of an office goes through the report and back, and into a store, as .fods and as .ods.
+# Then the client of HTTP speaks to servers of its own, and a budget of an office goes through the report and back, and into a
+# store, as .fods and as .ods.
 #   tests/examples.sh PROGRAM
 program=$(realpath "$1")
 cd "$(dirname "$0")/.."
@@ -35,6 +36,9 @@ with zipfile.ZipFile(sys.argv[2], "w") as package:
 documents=examples/python/documents.py
 package examples/python/budget.fods "$room/budget.ods"
 cp examples/python/budget.fods "$room/budget.fods"
+DSHEET=$program python3 -m doctest examples/python/client.py >"$room/said" 2>&1 || fail "the client of HTTP"
+passed "client.py"
+
 for kind in fods ods; do
     python3 "$documents" grid "$room/budget.$kind" >"$room/grid" 2>"$room/said"
     "$program" report --labels <"$room/grid" >"$room/values" 2>"$room/said" || fail "budget.$kind: its report"
@@ -48,3 +52,15 @@ for kind in fods ods; do
     "$program" export "$room/$kind.db" --values | diff "$room/values" - >&2 || fail "budget.$kind: other values in its store"
     passed "budget.$kind"
 done
+{
+    sleep 0.2
+    python3 "$documents" values examples/python/budget.fods 2>"$room/said"
+} | true || true
+[ ! -s "$room/said" ] || fail "values that nobody reads: it says something"
+passed "values that nobody reads"
+
+# The crash that README shows is examples/taken_back, and is answered so.
+shown() { sed -n '/^## A crash$/,/^!/s/^    //p' README.md | cut -c "$1" | sed 's/ *$//'; }
+grep -v '^#' examples/taken_back | diff - <(shown 1-24) >&2 || fail "README shows another script than examples/taken_back"
+grep -v ',' examples/taken_back.stdout | diff - <(shown 25-46) >&2 || fail "README shows other answers than examples/taken_back has"
+passed "the crash of README"

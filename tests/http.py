@@ -234,7 +234,7 @@ def requests(server):
     status, fields, body = client.ask("DELETE", "/edits")
     row("another method", (status, fields["allow"], body), (405, "GET, HEAD, POST", '{"code":32,"error":"method-not-allowed"}\n'))
     row("a method that changes", client.ask("PUT", "/sheet", "1")[1]["allow"], "GET, HEAD")
-    row("no such path", client.ask("GET", "/edits/1")[::2], (404, '{"code":31,"error":"not-found"}\n'))
+    row("no such path", client.ask("GET", "/edit/1")[::2], (404, '{"code":31,"error":"not-found"}\n'))
     row("a query is no part of the path", client.ask("GET", "/healthz?a=1")[0], 200)
     client.socket.sendall(b"POST /edits HTTP/1.1\r\nhost: localhost\r\ntransfer-encoding: chunked\r\nexpect: 100-continue\r\n\r\n")
     row("it is told to go on", client.head()[0], 100)
@@ -243,6 +243,96 @@ def requests(server):
     client.socket.sendall(b"GET /healthz HTTP/1.1\r\nhost: localhost\r\n\r\n" * 20)
     row("twenty requests at once", [client.answer()[0] for _ in range(20)], [200] * 20)
     row("it asks to close", (client.ask("GET", "/healthz", connection="close")[1]["connection"], client.has_ended()), ("close", True))
+
+
+def keys(server):
+    """Edits with keys: each counts once, and what became of it is answered."""
+    client, edit = Client(server), '{"cell":"B1","text":"41"}'
+    before = json.loads(client.ask("GET", "/edits")[2])["of"]
+    first = client.ask("POST", "/edits", edit, idempotency_key="pay-7")[::2]
+    number = json.loads(first[1])["number"]
+    row("an edit with a key", first, (200, f'{{"number":{number},"ok":"done"}}\n'))
+    row("the same again", client.ask("POST", "/edits", edit, idempotency_key="pay-7")[::2], first)
+    row("the same again, by a name in other letters", client.ask("POST", "/edits", edit, IDEMPOTENCY_Key="pay-7")[::2], first)
+    row("the same again, by the body", client.ask("POST", "/edits", '{"cell":"b1","key":"pay-7","text":"41"}')[::2], first)
+    row("the same again, by both", client.ask("POST", "/edits", '{"cell":"B1","key":"pay-7","text":"41"}', idempotency_key="pay-7")[::2], first)
+    answers = client.ask("POST", "/lines", '{"op":"join","process":0}\n{"op":"set","cell":"B1","key":"pay-7","text":"41"}')[2].splitlines()
+    row("the same again, by a session", answers[1] + "\n", first[1])
+    reused, bad = (422, '{"code":21,"error":"key-reused"}\n'), (400, '{"code":3,"error":"bad-field"}\n')
+    row("another text by that key", client.ask("POST", "/edits", '{"cell":"B1","text":"42"}', idempotency_key="pay-7")[::2], reused)
+    row("another cell by that key", client.ask("POST", "/edits", '{"cell":"A2","text":"41"}', idempotency_key="pay-7")[::2], reused)
+    row("two keys that differ", client.ask("POST", "/edits", '{"cell":"B1","key":"pay-8","text":"41"}', idempotency_key="pay-7")[::2], bad)
+    for value in ["", "a b", "k" * 65, "käse"]:
+        row(f"no key: {value!r}", client.ask("POST", "/edits", edit, idempotency_key=value)[::2], bad)
+    for value in ["7", "null", '""', '"a b"', f'"{"k" * 65}"']:
+        row(f"no key in the body: {value}", client.ask("POST", "/edits", f'{{"cell":"B1","key":{value},"text":"41"}}')[::2], bad)
+    row("one edit was made", json.loads(client.ask("GET", "/edits")[2])["of"], before + 1)
+    done = f'{{"edit":{{"cell":"B1","number":{number},"process":1,"text":"41"}},"ok":"outcome","outcome":"done"}}\n'
+    row("what became of it", client.ask("GET", "/edits/pay-7")[::2], (200, done))
+    row("the head of that alone", client.ask("HEAD", "/edits/pay-7")[::2], (200, ""))
+    row("a query is no part of a key", client.ask("GET", "/edits/pay-7?from=0")[::2], (200, done))
+    row("the same by a session", client.ask("POST", "/lines", '{"op":"outcome","key":"pay-7"}')[2], done)
+    for again in ["", ", asked again"]:
+        row("a key that none has" + again, client.ask("GET", "/edits/pay-9")[::2], (200, '{"edit":null,"ok":"outcome","outcome":"never"}\n'))
+    row("an edit with it is refused", client.ask("POST", "/edits", edit, idempotency_key="pay-9")[::2], reused)
+    row("the longest key", client.ask("POST", "/edits", edit, idempotency_key="k" * 64)[0], 200)
+    for path in ["/edits/", "/edits/a/b", "/edits/a%2Db", "/edits/" + "k" * 65]:
+        row(f"no key of a path: {path}", client.ask("GET", path)[::2], (404, '{"code":31,"error":"not-found"}\n'))
+    row("another method", client.ask("DELETE", "/edits/pay-7")[1]["allow"], "GET, HEAD")
+
+
+def metrics(server):
+    """The numbers of the server, by what is done between two looks at them."""
+    def look():
+        status, fields, body = client.ask("GET", "/metrics")
+        assert (status, fields["content-type"]) == (200, "text/plain; version=0.0.4; charset=utf-8"), (status, fields)
+        return body
+
+    client = Client(server)
+    first = look()
+    lines, commits = first.splitlines()[:-4], first.splitlines()[-4:]
+    names = [line.split()[0] for line in lines[2::3]]
+    row("metrics: three lines each", ([line.split()[:3] for line in lines[0::3]], [line.split()[:3] for line in lines[1::3]]),
+        ([["#", "HELP", name] for name in names], [["#", "TYPE", name] for name in names]))
+    row("metrics: their types", [line.split()[3] for line in lines[1::3]], ["counter"] * 5 + ["gauge"])
+    row("metrics: their names", names, [f"dsheet_{name}" for name in [
+        "edits_done_total", "edits_overtaken_total", "calls_refused_total", "reports_total", "sessions_joined_total", "sessions"]])
+    row("metrics: it ends with a line", first[-1], "\n")
+    name = "dsheet_commit_seconds"
+    row("metrics: the commits", ([line.split()[:3] for line in commits[:2]], commits[1].split()[3], [line.split()[0] for line in commits[2:]]),
+        ([["#", "HELP", name], ["#", "TYPE", name]], "summary", [f"{name}_sum", f"{name}_count"]))
+    for _ in range(3):
+        client.edit("A1", "4")
+    client.edit("A1", "=")
+    client.sheet()
+    last = look()
+    took, made = (float(new.split()[1]) - float(old.split()[1]) for old, new in zip(commits[2:], last.splitlines()[-2:]))
+    row("metrics: three edits in at most as many commits, in less than a minute", (1 <= made <= 3, 0 < took < 60), (True, True))
+    old, new = (dict(line.split() for line in body.splitlines()[2:-4:3]) for body in (first, last))
+    grown = {name: int(new[name]) - int(old[name]) for name in names}
+    row("metrics: three edits and one that is refused", (grown[names[0]], grown[names[1]], grown[names[2]]), (3, 0, 1))
+    row("metrics: a report", grown[names[3]], 1)
+    row("metrics: a connection", int(new[names[5]]) >= 1, True)
+
+
+def events(server):
+    """The list of edits as events: each is named by the place after its edits, from which the next request asks."""
+    def look(query="", **fields):
+        status, told, body = client.ask("GET", "/events" + query, **fields)
+        return status, told["content-type"], body.split("\n")
+
+    client = Client(server)
+    of = json.loads(client.ask("GET", "/edits")[2])["of"]
+    client.edit("A2", "5")
+    status, kind, (retry, place, data, *end) = look(f"?from={of}")
+    said = json.loads(data.removeprefix("data: "))
+    row("events: an edit", (status, kind, retry, place, end), (200, "text/event-stream", "retry: 1000", f"id: {of + 1}", ["", ""]))
+    row("events: which it is", ([(edit["cell"], edit["text"]) for edit in said["edits"]], said["from"]), ([("A2", "5")], of))
+    row("events: no other one", json.loads(look(last_event_id=str(of + 1))[2][2].removeprefix("data: "))["edits"], [])
+    client.edit("B2", "6")
+    status, kind, (retry, place, data, *end) = look("?from=0", last_event_id=str(of + 1))
+    row("events: the next one alone", (place, [edit["cell"] for edit in json.loads(data.removeprefix("data: "))["edits"]]), (f"id: {of + 2}", ["B2"]))
+    row("events: a name that is none", look(last_event_id="x")[::2], (400, ["retry: 1000", 'data: {"code":3,"error":"bad-field"}', "", ""]))
 
 
 def fits(described, schema, value):
@@ -257,7 +347,7 @@ def fits(described, schema, value):
         return isinstance(value, list) and all(fits(described, schema["items"], item) for item in value)
     if schema["type"] == "object":
         known = schema["properties"]
-        return set(schema["required"]) <= set(value) <= set(known) and all(fits(described, known[key], value[key]) for key in value)
+        return isinstance(value, dict) and set(schema["required"]) <= set(value) <= set(known) and all(fits(described, known[key], value[key]) for key in value)
     return isinstance(value, {"string": str, "integer": int, "null": type(None)}[schema["type"]]) and value != -1
 
 
@@ -269,13 +359,17 @@ def description(server):
     cases = [
         ("POST", "/edits", '{"cell":"a1","text":"=1+2"}', 200, {}), ("POST", "/edits", '{"cell":"A1","text":"=1+"}', 422, {}),
         ("POST", "/edits", '{"cell":"A1"}', 400, {}), ("GET", "/sheet", None, 200, {}), ("GET", "/edits", None, 200, {}),
+        ("POST", "/edits", '{"cell":"A1","text":"=1+2"}', 200, {"idempotency_key": "d-1"}), ("POST", "/edits", '{"cell":"A1","text":"2"}', 422, {"idempotency_key": "d-1"}),
+        ("GET", "/edits/d-1", None, 200, {}), ("GET", "/edits/d-2", None, 200, {}), ("GET", "/edits/d%202", None, 404, {}),
         ("GET", "/edits?from=x", None, 400, {}), ("GET", "/cells/A1", None, 200, {}), ("GET", "/cells/C1", None, 404, {}), ("POST", "/lines", "{}", 200, {}),
         ("GET", "/session", None, 426, {}), ("GET", "/session", None, 400, asked | {"sec_websocket_key": "none"}),
-        ("GET", "/session", None, 101, asked), ("GET", "/healthz", None, 200, {}), ("GET", "/", None, 200, {}),
+        ("GET", "/events", None, 200, {}), ("GET", "/events?from=x", None, 400, {}),
+        ("GET", "/session", None, 101, asked), ("GET", "/metrics", None, 200, {}), ("GET", "/healthz", None, 200, {}), ("GET", "/", None, 200, {}),
     ]
     for method, path, body, wanted, fields in cases:
         status, told, text = Client(server).ask(method, path, body, **fields)
-        answers = described["paths"][re.sub("/cells/.*", "/cells/{name}", path.split("?")[0])][method.lower()]["responses"]
+        known = re.sub("^/edits/.*", "/edits/{key}", re.sub("^/cells/.*", "/cells/{name}", path.split("?")[0]))
+        answers = described["paths"][known][method.lower()]["responses"]
         kind, form = next(iter(answers[str(wanted)].get("content", {}).items()), (None, None))
         value = json.loads(text) if kind == "application/json" else text
         right = form is None or told["content-type"] == kind and fits(described, form["schema"], value)
@@ -454,13 +548,19 @@ def tokens(program):
         for value in ["Bearer open sesam", "Bearer open sesame2", "open sesame", "Bearer "]:
             row(f"an edit with {value}", client.ask("POST", "/edits", edit, authorization=value)[0], 401)
         row("a report without it", client.ask("GET", "/sheet")[0], 401)
+        row("the numbers without it", client.ask("GET", "/metrics")[0], 401)
+        row("the numbers with it", client.ask("GET", "/metrics", authorization="Bearer open sesame")[0], 200)
         row("a cell without it", client.ask("GET", "/cells/A1")[0], 401)
         row("the list of edits without it", client.ask("GET", "/edits")[0], 401)
-        row("a report with it", client.ask("GET", "/sheet", authorization="Bearer open sesame")[2], '{"ok":"settled","rows":[["",""],["",""]]}\n')
+        row("events without it", client.ask("GET", "/events")[0], 401)
+        row("what became of an edit without it", client.ask("GET", "/edits/k-1")[0], 401)
+        row("that has spent no key", client.ask("POST", "/edits", edit, authorization="Bearer open sesame", idempotency_key="k-1")[0], 200)
+        row("what became of it with it", json.loads(client.ask("GET", "/edits/k-1", authorization="Bearer open sesame")[2])["outcome"], "done")
+        row("a report with it", client.ask("GET", "/sheet", authorization="Bearer open sesame")[2], '{"ok":"settled","rows":[["1",""],["",""]]}\n')
         row("an edit with it", client.ask("POST", "/edits", edit, authorization="Bearer open sesame")[0], 200)
         row("a join without it", client.ask("POST", "/lines", '{"op":"join","process":0}')[2], '{"code":20,"error":"denied"}\n')
         row("a join with it", client.ask("POST", "/lines", '{"op":"join","process":0,"token":"open sesame"}')[2], '{"last":null,"ok":"join","process":0}\n')
-        for op in ['"view"', '"get","cell":"A1"', '"history","from":0']:
+        for op in ['"view"', '"get","cell":"A1"', '"history","from":0', '"outcome","key":"k-1"']:
             asked = f'{{"op":{op}}}\n{{"op":{op},"token":"open sesame"}}\n{{"op":"join","process":0,"token":"open sesame"}}\n{{"op":{op}}}'
             answers = [json.loads(line).get("error") for line in client.ask("POST", "/lines", asked)[2].splitlines()]
             row(f"a question by {op} without it, with it, and after a join", answers, ["denied", None, None, None])
@@ -489,6 +589,9 @@ def slow(program):
 def play(program, quick):
     server = Server(program, "--columns", "2", "--rows", "2", "--processes", "2")
     requests(server)
+    keys(server)
+    metrics(server)
+    events(server)
     description(server)
     limits(server)
     origins(server)

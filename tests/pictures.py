@@ -19,6 +19,8 @@ BRIEF_RUNS = RUNS + ("overtaken", "unsettled", "work")
 # The brief pictures of docs/pictures, each with its run.
 SHOWN = {"taken_back": "crash"}
 LETTER = 7.25
+# A colour by a variable, and a plain one before it: what knows no variables draws that.
+BY_VARIABLE, AFTER_PLAIN = re.compile(rb"(?:fill|stroke):var"), re.compile(rb"(fill|stroke):#[0-9a-f]{3,6};\1:var")
 PACKED = re.compile(r"^(.+), (cached|persisted): (\d+)( \(.+\))?(; .+)?$")
 SECONDS = 120
 
@@ -28,11 +30,17 @@ def is_titled(element):
     return element.find(TAG + "title") is not None
 
 
+def has_plain_colours(drawn):
+    """Whether a picture is drawn in its colours also where variables are not known, as by librsvg."""
+    return len(BY_VARIABLE.findall(drawn)) == len(AFTER_PLAIN.findall(drawn)) > 0
+
+
 def rows_of(name, drawn):
     """What has to hold of a picture, each with whether it does."""
     with open(f"{TOP}/docs/pictures/{name}.svg", "rb") as it:
         yield "it is the picture of docs/pictures", drawn == it.read()
     yield "it has at most 1 MiB", len(drawn) <= 1_048_576
+    yield "each colour by a variable has a plain one before it", has_plain_colours(drawn)
     root = xml.etree.ElementTree.fromstring(drawn)
     yield "its root is an svg", root.tag == TAG + "svg"
     heads = [text.text for text in root.iter(TAG + "text") if text.get("class", "").split()[:1] == ["h"]]
@@ -122,6 +130,7 @@ def looks_of(root):
 
 def brief_of(name, whole, drawn):
     """What has to hold of a brief picture, beside the whole one of the same run."""
+    yield "each colour by a variable has a plain one before it", has_plain_colours(drawn)
     root = xml.etree.ElementTree.fromstring(drawn)
     if name in SHOWN:
         with open(f"{TOP}/docs/pictures/{SHOWN[name]}.svg", "rb") as it:

@@ -137,7 +137,13 @@ answers "report of a pipe" examples/grid.stdout /dev/null report "$room/pipe"
 printf 'set 0 A1 =1+B1\npeek A1\n' >"$room/script"
 printf '0 0 done\nA1 dirty blank =1+[.B1]\n' >"$room/answers"
 answers "run --a1 of a file" "$room/answers" /dev/null run "$room/script" --a1
-for words in run "run --a1" "run --stops" report "report --a1"; do
+"$program" trace <examples/taken_back >"$room/drawn"
+answers "trace of a file" "$room/drawn" /dev/null trace examples/taken_back
+printf 'sheet 1 1 1\nbegin 0 set A1 1\n' >"$room/script"
+"$program" explore <"$room/script" >"$room/explored"
+answers "explore of a file" "$room/explored" /dev/null explore "$room/script"
+answers "explore of standard input by its name" "$room/explored" "$room/script" explore -
+for words in run "run --a1" "run --stops" report "report --a1" explore trace; do
     # shellcheck disable=SC2086
     on /dev/null $words "$room/nothing"
     expect "$words: no such file" "$status" 3 "dsheet: $room/nothing: No such file or directory (os error 2)"
@@ -190,6 +196,8 @@ for words in "serve --listen 1" "explore --most 0" "connect 1" "run --from 1" "e
     on /dev/null $words
     expect "$words: its usage" "$status" 2 "$("$program" "${words%% *}" --help | grep '^Usage: ' | sed 's/[][]/\\&/g')"
 done
+on /dev/null serve --listen 127.0.0.1:0 --log on
+expect "serve --log on" "$status" 2 'dsheet: --log: off, error, warn, info, debug or trace'
 on examples/stops explore --most 0
 expect "explore --most 0" "$status" 2 'dsheet: --most: from 1 to 65535 thousand states'
 

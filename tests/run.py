@@ -34,6 +34,7 @@ PARTS = {
     "serving": Part("serving.sh"),
     "load": Part("load.py", knows_quick=True),
     "http": Part("http.py", knows_quick=True),
+    "keys": Part("keys.py", knows_quick=True),
     "browser": Part("browser.py"),
     "connect": Part("connect.sh"),
     "terminal": Part("terminal.py"),

@@ -62,9 +62,17 @@ ends_with() {
     fi
 }
 
-# Asks the server to stop.
+# Asks the server to stop: it ends within half a minute.
 stop() {
     echo stop >&9
+    for _ in $(seq 300); do
+        if ! kill -0 "$server" 2>/dev/null; then break; fi
+        sleep 0.1
+    done
+    if kill -0 "$server" 2>/dev/null; then
+        kill -9 "$server"
+        fail "it was asked to stop, and has not ended"
+    fi
     ends_with 0
 }
 

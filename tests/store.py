@@ -161,6 +161,12 @@ def stop(server):
         raise Failed(f"a server that was told to stop ended with status {server.returncode}")
 
 
+def expect_no_log(store):
+    """A store that was closed is one file."""
+    if os.path.exists(store + "-wal"):
+        raise Failed(f"{store} was closed, and has a log of {os.path.getsize(store + '-wal')} bytes")
+
+
 def edits_left(program, store):
     """How many edits the busiest process has left until the server goes over to a new sheet."""
     if not os.path.exists(store):
@@ -210,6 +216,7 @@ def one_store(program, folder, kills, draw):
     server, port = start(program, store)
     check_values(port, clients, draw)
     stop(server)
+    expect_no_log(store)
     told = sum(len(client.told) for client in clients)
     said = run(program, "check", store)
     if said.returncode != 0 or f"{told} edits count" not in said.stdout:
@@ -588,6 +595,7 @@ def check_backup(program, folder, store):
     """A copy of a store at rest has its lines; what is there is not written over, and a backup that fails leaves no file."""
     copy = os.path.join(folder, "copy.db")
     expect("backup", run(program, "backup", store, copy), 0, "")
+    expect_no_log(copy)
     if lines_in(copy) != lines_in(store):
         raise Failed("the copy has other lines")
     expect("check of a copy", run(program, "check", copy), 0, "edits count")

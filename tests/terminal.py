@@ -1,5 +1,6 @@
 #!/usr/bin/env python3
-"""Types lines to `dsheet connect` on a terminal, and compares what stands on it then. The last line counts the rows.
+"""Types lines to `dsheet connect` on a terminal, and compares what stands on it then; and what a long run shows there of
+how far it is. The last line counts the rows.
     tests/terminal.py PROGRAM
 """
 import os
@@ -14,9 +15,10 @@ HELP = ("set CELL TEXT   sets the text of a cell, as set A1 =1+2\r\nundo CELL   
         "report          shows all values\r\nview            shows all values, also without a process\r\n"
         "get CELL        shows the value of a cell, its last edit that counts, and its text\r\n"
         "history [FROM]  shows the edits that count, from a place on, at most 100\r\n"
+        "outcome KEY     shows the edit with a key; where none has it, none ever will\r\n"
         "last            reports what became of the last edit of the process\r\nhelp            shows these lines\r\n"
         "quit            ends, as the end of the input does\r\n")
-FAULT = "expected: set CELL TEXT, undo CELL, report, view, get CELL, history [FROM] or last; help shows what each line does\r\n"
+FAULT = "expected: set CELL TEXT, undo CELL, report, view, get CELL, history [FROM], outcome KEY or last; help shows what each line does\r\n"
 
 
 class Terminal:
@@ -122,7 +124,27 @@ def play(rows, program, port):
     calls = b"report\nhelp\nreport\n"
     ran = subprocess.run([program, "connect", f"127.0.0.1:{port}", "--process", "0"], input=calls, capture_output=True, timeout=SECONDS)
     rows.check("not on a terminal", (ran.returncode, ran.stdout, ran.stderr),
-               (1, b"0 last 2 B2 done\nsettled\n3,#DIV/0!\n,-12345\n", b"line 2: expected: set CELL TEXT, undo CELL, report, view, get CELL, history [FROM] or last\n"))
+               (1, b"0 last 2 B2 done\nsettled\n3,#DIV/0!\n,-12345\n", b"line 2: expected: set CELL TEXT, undo CELL, report, view, get CELL, history [FROM], outcome KEY or last\n"))
+
+
+def play_progress(rows, program):
+    """A long run shows on a terminal how far it is, and takes that back; elsewhere it shows nothing."""
+    script, words = b"set 0 A1 1\n" * 4, [program, "run", "--stops"]
+    ours, theirs = pty.openpty()
+    ran = subprocess.Popen(words, stdin=subprocess.PIPE, stdout=subprocess.DEVNULL, stderr=theirs, start_new_session=True)
+    os.close(theirs)
+    ran.stdin.write(script)
+    ran.stdin.close()
+    shown = b""
+    while select.select([ours], [], [], SECONDS)[0]:
+        try:
+            shown += os.read(ours, 4096)
+        except OSError:
+            break
+    os.close(ours)
+    rows.check("how far a run is", (shown, ran.wait(SECONDS)), (b"\rdsheet: 64 stops\r" + b" " * 34 + b"\r", 0))
+    said = subprocess.run(words, input=script, capture_output=True, timeout=SECONDS).stderr
+    rows.check("not on a terminal: nothing of it", said, b"")
 
 
 def main():
@@ -132,6 +154,7 @@ def main():
         try:
             port = int(server.stderr.readline().rsplit(":", 1)[1])
             play(rows, program, port)
+            play_progress(rows, program)
         except (AssertionError, subprocess.TimeoutExpired) as error:
             rows.failed += 1
             print(f"tests/terminal.py: {error}", file=sys.stderr)

@@ -47,4 +47,5 @@ def main():
     sys.exit(bool(flaws))
 
 
-main()
+if __name__ == "__main__":
+    main()

@@ -1,8 +1,8 @@
 #!/usr/bin/env python3
-"""Writes the manual page of dsheet, from what the program says of itself by --help and --version; or, with --check, compares
-it with the one that is there.
-    tools/man.py [--check] PROGRAM [FILE]       FILE: examples/man/dsheet.1, where none is named
-Exit status 1 where the file is otherwise, and --check was given.
+"""Writes the manual page of dsheet, from what the program says of itself by --help and --version, and the help of each
+command, which ./dsheet shows where nothing is built; or, with --check, compares them with those that are there.
+    tools/man.py [--check] PROGRAM [FOLDER]       FOLDER: examples, where none is named; FOLDER/man, FOLDER/help
+Exit status 1 where a file is otherwise, and --check was given.
 """
 import os
 import re
@@ -86,17 +86,21 @@ def page(program):
 
 def main(*words):
     checks = words[:1] == ("--check",)
-    program, *files = words[checks:]
-    path = files[0] if files else os.path.join(TOP, "examples/man/dsheet.1")
-    text = page(os.path.realpath(program))
-    if not checks:
-        os.makedirs(os.path.dirname(path), exist_ok=True)
-        with open(path, "w", encoding="utf-8") as file:
-            file.write(text)
-    elif not os.path.exists(path) or open(path, encoding="utf-8").read() != text:
-        print(f"{path}: not of this program; tools/man.py PROGRAM writes it anew", file=sys.stderr)
-        return 1
-    return 0
+    program, *folders = words[checks:]
+    program = os.path.realpath(program)
+    texts = {"man/dsheet.1": page(program), "help/dsheet": read_help(program)}
+    texts |= {f"help/{command.name}": read_help(program, command.name) for command in commands_of(program)}
+    status = 0
+    for name, text in texts.items():
+        path = os.path.join(folders[0] if folders else f"{TOP}/examples", name)
+        if not checks:
+            os.makedirs(os.path.dirname(path), exist_ok=True)
+            with open(path, "w", encoding="utf-8") as file:
+                file.write(text)
+        elif not os.path.exists(path) or open(path, encoding="utf-8").read() != text:
+            print(f"{path}: not of this program; tools/man.py PROGRAM writes it anew", file=sys.stderr)
+            status = 1
+    return status
 
 
 if __name__ == "__main__":

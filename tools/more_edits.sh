@@ -1,12 +1,16 @@
 #!/usr/bin/env bash
 # Tries the edits of crates/NAME/more-edits, which the gate does not try, as it tries those of must-fail: the prover has to
-# refuse each. In a copy of the repository they lie in must-fail, and `rt ci NAME ..` proves and tries there; what it has
-# proved or tried once on this machine it takes from what it keeps, so an interrupted run loses little. Run it for a crate
-# whenever its code or its definitions change. Where all edits of a crate are refused, it notes of which text that is so,
-# in crates/NAME/more-edits/tried. The last line counts the crates; exit status 1 where any is left.
+# refuse each. In a copy of the repository they lie in must-fail. Where `rt ci` takes names and keeps what it has proved,
+# `rt ci NAME ..` proves and tries there. Elsewhere tools/try_edits.py does, crate by crate, over what checks here have
+# kept: `rt check` in a crate's folder keeps the libraries below it, and else they are proved anew for each run. Run it for
+# a crate whenever its code or its definitions change. Where all edits of a crate are refused, it notes of which text that
+# is so, in crates/NAME/more-edits/tried. The last line counts the crates; exit status 1 where any is left.
 #   tools/more_edits.sh [NAME ..]           these crates, or those whose text is another one than that
-#   tools/more_edits.sh --alone [NAME ..]   the same without a proof of the crates below: `rt check` and `rt must-fail` for each
+#   tools/more_edits.sh --alone [NAME ..]   the same by tools/try_edits.py, whatever `rt ci` takes
 #   tools/more_edits.sh --stale             lists them, and tries nothing
+#   tools/more_edits.sh --is-beside         says by its status whether they are tried beside another `rt ci`, of what it keeps
+#   tools/more_edits.sh --note LOG NAME ..  notes these crates by what an `rt ci` said, in whose must-fail their edits lay
+# RT_JOBS says how many processors a check uses.
 set -euo pipefail
 cd "$(dirname "$0")/.."
 
@@ -54,7 +58,7 @@ with_those_below() {
     printf '%s\n' "${!taken[@]}"
 }
 
-# Copies what checks of these crates read, with their edits where `rt ci` tries them. No other crate is copied, so no other
+# Copies what checks of these crates read, with their edits where `rt` tries them. No other crate is copied, so no other
 # one is proved or tested there.
 copy_repository() {
     local room=$1 name crate
@@ -73,7 +77,28 @@ copy_repository() {
     done
 }
 
-# Whether each edit of a crate was refused, by what `rt ci` said.
+# Gives the copy what checks have kept here: the libraries, which no check writes in place, and of these crates what a
+# check has proved of them. A check takes of it what is of the text as it stands.
+copy_kept() {
+    local room=$1 name crate
+    shift
+    while read -r name; do
+        crate=crates/$name
+        if [ -f "$crate/out/rlib/stamp" ]; then
+            mkdir "$room/$crate/out"
+            cp -al "$crate/out/rlib" "$room/$crate/out/" 2>/dev/null || cp -a "$crate/out/rlib" "$room/$crate/out/"
+        fi
+    done < <(with_those_below "$@")
+    for name in "$@"; do
+        crate=crates/$name
+        if [ -d "$crate/out/incremental" ]; then
+            mkdir -p "$room/$crate/out"
+            cp -a "$crate/out/incremental" "$room/$crate/out/"
+        fi
+    done
+}
+
+# Whether each edit of a crate was refused, by what was said.
 all_refused() {
     local name=$1 log=$2 edit
     for edit in "crates/$name/more-edits/"*.edit; do
@@ -81,18 +106,43 @@ all_refused() {
     done
 }
 
+# Whether `rt ci` takes names of crates.
+takes_names() {
+    rt help 2>&1 | grep -qE '^ *rt ci .*NAME'
+}
+
+# Says whether all edits of a crate were refused, by what was said, and notes it where they were.
+conclude() {
+    local name=$1 said=$2
+    if all_refused "$name" "$said"; then
+        echo "${texts[$name]}" >"crates/$name/more-edits/tried"
+        echo "more_edits: $name: all refused"
+        refused=$((refused + 1))
+    else
+        echo "more_edits: $name: not all refused"
+    fi
+}
+
 if [ "${1-}" = --stale ]; then
     stale
     exit 0
 fi
-# Tries the edits of these crates in the copy, each over what a check of its crate kept.
-try_alone() {
-    local name
+if [ "${1-}" = --is-beside ]; then
+    takes_names
+    exit
+fi
+declare -A texts
+refused=0
+if [ "${1-}" = --note ]; then
+    said=$2
+    shift 2
     for name in "$@"; do
-        (cd "crates/$name" && rt check) && rt must-fail "$name"
+        texts[$name]=$(text_of "$name")
+        conclude "$name" "$said"
     done
-}
-
+    [ "$refused" = $# ]
+    exit
+fi
 alone=
 if [ "${1-}" = --alone ]; then
     alone=yes
@@ -108,23 +158,21 @@ room=$(mktemp -d)
 trap 'rm -rf "$room"' EXIT
 trap 'exit 130' INT
 trap 'exit 143' TERM
-declare -A texts
 for name in "${names[@]}"; do texts[$name]=$(text_of "$name"); done
 copy_repository "$room" "${names[@]}"
 # A gate calls `rt ci` without names, over what was copied.
 if [ "${CI-}" = true ]; then words=(); else words=("${names[@]}"); fi
-if [ -n "$alone" ]; then try=(try_alone "${names[@]}"); else try=(rt ci "${words[@]}"); fi
-(cd "$room" && "${try[@]}") </dev/null 2>&1 | tee "$room/log" || true
-refused=0
-for name in "${names[@]}"; do
-    if all_refused "$name" "$room/log"; then
-        echo "${texts[$name]}" >"crates/$name/more-edits/tried"
-        echo "more_edits: $name: all refused"
-        refused=$((refused + 1))
-    else
-        echo "more_edits: $name: not all refused"
-    fi
-done
+if [ "${#words[@]}" != 0 ] && ! takes_names; then alone=yes; fi
+if [ -n "$alone" ]; then
+    copy_kept "$room" "${names[@]}"
+    for name in "${names[@]}"; do
+        tools/try_edits.py "$room/crates/$name" "crates/$name/more-edits/"*.edit </dev/null 2>&1 | tee -a "$room/log" || true
+        conclude "$name" "$room/log"
+    done
+else
+    (cd "$room" && rt ci "${words[@]}") </dev/null 2>&1 | tee "$room/log" || true
+    for name in "${names[@]}"; do conclude "$name" "$room/log"; done
+fi
 left=$((${#names[@]} - refused))
 echo "more_edits: $refused crates with all edits refused, $left left"
 [ "$left" = 0 ]

@@ -247,13 +247,18 @@ def check_filled(checks, page, text):
 
 
 def check_toolchain(checks, pages):
-    """The pages name the toolchain that is here, if one is."""
+    """A page that names toolchains names the one that is here, if one is, and its logic. As `rattle-kit-1a and 1b, logic
+    0f`, it may name others besides."""
     if shutil.which("rt") is None:
         return
-    here = subprocess.run(["rt", "version"], capture_output=True, text=True).stdout.split()[:1]
+    kit, _, logic = subprocess.run(["rt", "version"], capture_output=True, text=True).stdout.strip().partition(" logic ")
     for page, text in pages.items():
-        for found in re.finditer(r"rattle-kit-\w+", text):
-            checks.check([found[0]] == here, page, line_of(text, found.start()), f"{found[0]}, and {here} is here")
+        found = list(re.finditer(r"rattle-kit-(\w+(?:(?:, | and )\d\w*)*)(?:,? logic (\w+))?", text))
+        names = [f"rattle-kit-{name}" for it in found for name in re.split(", | and ", it[1])]
+        for it in found:
+            line = line_of(text, it.start())
+            checks.check(kit in names, page, line, f"{it[0]}, and {kit} is here")
+            checks.check(it[2] in (None, logic), page, line, f"logic {it[2]}, and {logic} is here")
 
 
 def retired(plain, patterns):

@@ -2,8 +2,8 @@
 # Prints how many seconds each part of a crate's proof takes, the slowest first, and their sum: a check of the crate from
 # nothing by one job, in a copy of the repository, over the libraries that are built here. It goes by the times of the
 # files that the check keeps, one a module. Of a function F, F.Lts is what its borrows and drops cost, F.Proof its goals;
-# a page of proofs/ or specs/ has its own name. What rt takes from another copy's check is left out: it says so, and
-# where it does, that copy's out/ is to be removed first.
+# a page of proofs/ or specs/ has its own name. Where rt says that it takes something from another copy's check, that is
+# left out: remove that copy's out/ first.
 #   tools/slow_functions.sh NAME [--test]
 set -euo pipefail
 cd "$(dirname "$0")/.."

@@ -26,14 +26,16 @@ _dsheet() {
         explore)
             options='--crashes --stops --evictions --most --summary --json --show --trace --help'
             others='--most --show --trace'
+            takes_words=1
             ;;
         trace)
             options='--brief --help'
+            takes_words=1
             ;;
         connect)
-            options='--process --timeout --token-file --a1 --help'
+            options='--process --timeout --token-file --key --a1 --help'
             files='--token-file'
-            others='--process --timeout'
+            others='--process --timeout --key'
             takes_words=1
             ;;
         check)

@@ -6,7 +6,7 @@ complete -c dsheet -n __fish_use_subcommand -a run -d 'Runs a script, from a fil
 complete -c dsheet -n __fish_use_subcommand -a report -d 'Reads a grid of texts, from a file or standard input, and writes its values to standard output'
 complete -c dsheet -n __fish_use_subcommand -a serve -d 'Serves a sheet to clients, each a session of JSON lines over a connection'
 complete -c dsheet -n __fish_use_subcommand -a explore -d 'Goes through all orders of the steps of a script\'s calls'
-complete -c dsheet -n __fish_use_subcommand -a trace -d 'Draws the run of a script from standard input, as one SVG on standard output'
+complete -c dsheet -n __fish_use_subcommand -a trace -d 'Draws the run of a script, as one SVG on standard output'
 complete -c dsheet -n __fish_use_subcommand -a connect -d 'Speaks to a server: lines as set A1 =1+2, report and last in, answers as of run out'
 complete -c dsheet -n __fish_use_subcommand -a check -d 'Reads a store, and says what it has, or which line is unsound'
 complete -c dsheet -n __fish_use_subcommand -a log -d 'Lists the edits of a store, oldest first, or shows its sheet as it was'
@@ -50,10 +50,13 @@ complete -c dsheet -n '__fish_seen_subcommand_from explore' -l summary -d 'Write
 complete -c dsheet -n '__fish_seen_subcommand_from explore' -l json -d 'Writes the figures, and each outcome, as a line of JSON'
 complete -c dsheet -n '__fish_seen_subcommand_from explore' -l show -x -d 'Writes the outcome with this number alone; 0: all'
 complete -c dsheet -n '__fish_seen_subcommand_from explore' -l trace -x -d 'Draws the script of the outcome with this number, as SVG; 0: no picture'
+complete -c dsheet -n '__fish_seen_subcommand_from explore' -F
 complete -c dsheet -n '__fish_seen_subcommand_from trace' -l brief -d 'Draws no more than what decides, in at most 850 pixels: for a page of text'
+complete -c dsheet -n '__fish_seen_subcommand_from trace' -F
 complete -c dsheet -n '__fish_seen_subcommand_from connect' -l process -x -d 'The process that is joined, 0 to 7; without it any that nobody has'
 complete -c dsheet -n '__fish_seen_subcommand_from connect' -l timeout -x -d 'Seconds for which an answer is waited for; 0: for ever'
 complete -c dsheet -n '__fish_seen_subcommand_from connect' -l token-file -rF -d 'A join has to have the first line of this file as its token'
+complete -c dsheet -n '__fish_seen_subcommand_from connect' -l key -x -d 'Gives the sets the keys PREFIX-0, PREFIX-1 and so on: each counts once at most'
 complete -c dsheet -n '__fish_seen_subcommand_from connect' -l a1 -d 'Formulas are written as in Calc and Excel: =A1*2, =SUM(A1:B3,7)'
 complete -c dsheet -n '__fish_seen_subcommand_from connect' -F
 complete -c dsheet -n '__fish_seen_subcommand_from check' -F

@@ -9,6 +9,7 @@ OpenDocument are written as dsheet reads them; the first table of the document i
 """
 import csv
 import re
+import signal
 import sys
 import xml.etree.ElementTree as ET
 import zipfile
@@ -123,4 +124,6 @@ def main(command, document, *files):
 if __name__ == "__main__":
     if len(sys.argv) - 1 != {"grid": 2, "texts": 2, "values": 2, "fill": 4}.get("".join(sys.argv[1:2])):
         sys.exit(__doc__)
+    # Who reads no further, as `head`, ends it without a word.
+    signal.signal(signal.SIGPIPE, signal.SIG_DFL)
     main(*sys.argv[1:])

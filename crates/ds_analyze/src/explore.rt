@@ -1,25 +1,30 @@
 //! `dsheet explore`.
 
 use crate::form::{Unwritten, write_form};
+use crate::input::read_script;
 use crate::status::{explore_status, picture_status};
 use ds_batch::closing::Closing;
 use ds_batch::faults::show_line;
 use ds_batch::run::no_memory;
+use ds_batch::source::Source;
 use ds_batch::status::{CLOSED, STREAM_FAILED};
 use ds_cli::exploring::{ExploreForm, Exploring};
 use ds_explore::exploration::explored;
 use ds_explore::explore::{ExploreEnd, explore as explore_orders};
 use ds_explore::options::{Options, Watcher};
-use ds_script_io::input::{InputEnd, read_input};
-use ds_script_io::line::INPUT_LIMIT;
-use ds_script_io::streams::{Reading, Writing};
+use ds_script_io::streams::Writing;
+use std::fs::{File, Files};
 use std::io::{self, BufWriter, Write};
 
 // The status where the outcome that is asked for is none: wrong words on the command line.
 const NO_OUTCOME: u8 = 2;
 
-// How many states are found in well under a second.
+// How many states are found in well under a second; an unproved program takes longer, so powers of two are shown, too.
 const EACH: usize = 500;
+
+fn is_shown(states: usize) -> bool {
+    states.is_multiple_of(EACH) || states.is_power_of_two()
+}
 
 // Shows on standard error how many states were found, where that is asked for: one line, which is overwritten.
 #[derive(Drop)]
@@ -31,7 +36,7 @@ struct Counter<'a, R: Eprint> {
 
 impl<R: Eprint> Watcher for Counter<'_, R> {
     fn found(&mut self, states: usize) {
-        if self.shows && states.is_multiple_of(EACH) && states != self.shown {
+        if self.shows && is_shown(states) && states != self.shown {
             let _shown = eprint!(self.rt; "\rdsheet: {states} states");
             self.shown = states;
         }
@@ -83,7 +88,7 @@ fn unwritten<R: Eprint>(rt: &R, why: Unwritten) -> u8 {
 }
 
 // What the orders may have.
-fn options_of(exploring: Exploring) -> Options {
+fn options_of(exploring: Exploring<'_>) -> Options {
     Options {
         crashes: exploring.crashes,
         stops: exploring.stops,
@@ -96,7 +101,7 @@ fn options_of(exploring: Exploring) -> Options {
 fn explore_form<R: AllocGlobal + Eprint, W: Write>(
     rt: &R,
     script: &[u8],
-    exploring: Exploring,
+    exploring: Exploring<'_>,
     counter: &mut Counter<'_, R>,
     writer: &mut Writing<W>,
 ) -> Result<ExploreEnd, Unwritten> {
@@ -112,7 +117,7 @@ fn explore_form<R: AllocGlobal + Eprint, W: Write>(
 fn write_all_of<R: AllocGlobal + Eprint, W: Write>(
     rt: &R,
     script: &[u8],
-    exploring: Exploring,
+    exploring: Exploring<'_>,
     shows: bool,
     writer: &mut Writing<W>,
 ) -> Result<ExploreEnd, Unwritten> {
@@ -134,7 +139,7 @@ fn write_all_of<R: AllocGlobal + Eprint, W: Write>(
 fn explore_script<R: AllocGlobal + Print + Eprint>(
     rt: &R,
     script: &[u8],
-    exploring: Exploring,
+    exploring: Exploring<'_>,
     shows: bool,
 ) -> u8 {
     let mut closed = false;
@@ -158,20 +163,16 @@ fn explore_script<R: AllocGlobal + Print + Eprint>(
     }
 }
 
-/// `dsheet explore`: a script from standard input, what all orders of its calls' steps come to to standard output, in the
-/// form that is asked for, and why it ended, where it is not well, to standard error; gives the status.
-pub fn explore<R: AllocGlobal + Input + Print + Eprint>(
+/// `dsheet explore`: a script from its file or from standard input, what all orders of its calls' steps come to to standard
+/// output, in the form that is asked for, and why it ended, where it is not well, to standard error; gives the status, 3
+/// where the file cannot be opened.
+pub fn explore<R: AllocGlobal + Input + Print + Eprint + Files<File = File>>(
     rt: &R,
-    exploring: Exploring,
+    exploring: Exploring<'_>,
     shows: bool,
 ) -> u8 {
-    let mut reader = Reading::new(rt.reader());
-    let Ok(input) = read_input(rt.alloc(), &mut reader, INPUT_LIMIT) else {
-        return no_memory(rt);
-    };
-    if let InputEnd::Failed = input.end {
-        let _reported = eprintln!(rt; "dsheet: a read failed");
-        return STREAM_FAILED;
+    match read_script(rt, Source::of(exploring.file)) {
+        Ok(script) => explore_script(rt, &script, exploring, shows),
+        Err(status) => status,
     }
-    explore_script(rt, &input.bytes, exploring, shows)
 }

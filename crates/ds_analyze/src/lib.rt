@@ -3,5 +3,6 @@
 
 pub mod explore;
 pub mod form;
+mod input;
 pub mod status;
 pub mod trace;

@@ -23,7 +23,7 @@ impl<'a> Source<'a> {
 }
 
 /// Opens a file to be read. An error is the status, 3, when standard error has the reason.
-pub(crate) fn open<R: Eprint + Files<File = File>>(rt: &R, path: &str) -> Result<File, u8> {
+pub fn open<R: Eprint + Files<File = File>>(rt: &R, path: &str) -> Result<File, u8> {
     let _reported = match File::open(rt, path) {
         Ok(file) if file.metadata().is_ok_and(|data| data.is_dir()) => {
             eprintln!(rt; "dsheet: {path}: it is a folder")

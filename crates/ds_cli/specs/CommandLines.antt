@@ -1,5 +1,5 @@
 -- The command line of `dsheet`, and what its words ask for.
-use Rattle.std.specs.Prelude.{◌≡◌, ◌≢◌, ◌≤◌, ◌⊎◌, List, [], ◌∷◌, Option, Some, None, false, true, codes, pos}
+use Rattle.std.specs.Prelude.{◌≡◌, ◌≢◌, ◌⊎◌, List, [], ◌∷◌, Option, Some, None, false, true, codes, pos}
 use Rattle.clap.specs.Words.{App, app_of, Row, Rule, Text, HasKind, fault_of, first_of, kind_of, new_app, new_rule, one_of, subcommand_of, with_rule, with_subcommand}
 use Rattle.clap.specs.declared.error.kind.ErrorKind.TheVariants.{OutOfMemory}
 use Rattle.clap.specs.declared.builder.command.Command.{Command}
@@ -60,9 +60,9 @@ abbrev pub run_command : App
 run_command = with_rule (with_rule (with_rule (with_rule (with_rule (with_rule (with_rule (with_rule (new_app (codes "run")) input) stops) (given_number (codes "from")))
     (given_number (codes "to"))) (flag (codes "strict"))) (flag (codes "brief"))) (flag (codes "json"))) (flag (codes "a1"))
 
--- `dsheet explore [--crashes] [--stops] [--evictions] [--most N]`
+-- `dsheet explore [FILE] [--crashes] [--stops] [--evictions] [--most N]`
 abbrev pub orders_command : App
-orders_command = with_rule (with_rule (with_rule (with_rule (new_app (codes "explore")) (flag (codes "crashes"))) (flag (codes "stops")))
+orders_command = with_rule (with_rule (with_rule (with_rule (with_rule (new_app (codes "explore")) input) (flag (codes "crashes"))) (flag (codes "stops")))
     (flag (codes "evictions"))) (number_option (codes "most") (codes "1000"))
 
 -- the same, with `[--summary] [--json] [--show N] [--trace N]`
@@ -70,9 +70,9 @@ abbrev pub explore_command : App
 explore_command = with_rule (with_rule (with_rule (with_rule orders_command (flag (codes "summary"))) (flag (codes "json"))) (number_option (codes "show") (codes "0")))
     (number_option (codes "trace") (codes "0"))
 
--- `dsheet trace [--brief]`
+-- `dsheet trace [FILE] [--brief]`
 abbrev pub trace_command : App
-trace_command = with_rule (new_app (codes "trace")) (flag (codes "brief"))
+trace_command = with_rule (with_rule (new_app (codes "trace")) input) (flag (codes "brief"))
 
 -- `dsheet report [FILE] [--labels] [--json] [--a1]`
 abbrev pub report_command : App
@@ -117,10 +117,14 @@ serve_command = with_rule (with_rule (with_rule (with_rule guarded_command (numb
 abbrev pub file : Text → Rule
 file name = record (new_rule name) { value_names = 1; required = true }
 
--- `dsheet connect SERVER [--process N] [--timeout SECONDS] [--token-file FILE] [--a1]`
+-- the option `--key` with one value
+abbrev pub key : Rule
+key = record (new_rule (codes "key")) { long = Some (codes "key"); value_names = 1 }
+
+-- `dsheet connect SERVER [--process N] [--timeout SECONDS] [--token-file FILE] [--key PREFIX] [--a1]`
 abbrev pub connect_command : App
-connect_command = with_rule (with_rule (with_rule (with_rule (with_rule (new_app (codes "connect")) (file (codes "server"))) (given_number (codes "process")))
-    (number_option (codes "timeout") (codes "60"))) token_file) (flag (codes "a1"))
+connect_command = with_rule (with_rule (with_rule (with_rule (with_rule (with_rule (new_app (codes "connect")) (file (codes "server"))) (given_number (codes "process")))
+    (number_option (codes "timeout") (codes "60"))) token_file) key) (flag (codes "a1"))
 
 -- `dsheet COMMAND FILE`
 abbrev pub file_command : Text → App

@@ -6,6 +6,7 @@ use Rattle.ds_cli.specs.declared.connecting.Connecting.{Connecting}
 use Rattle.ds_cli.specs.declared.connecting.Stopping.{Stopping}
 use Rattle.ds_cli.specs.Explorings.{IsFlag}
 use Rattle.ds_cli.specs.Addresses.{IsAddressOf}
+use Rattle.ds_cli.specs.Prefixes.{IsPrefixOf}
 use Rattle.ds_cli.specs.Servings.{IsNumberOf, IsNumberOr, IsTextOf}
 
 -- the matches ask for this process, one that a sheet can have, or for none
@@ -19,6 +20,7 @@ pub record IsConnecting (rows : List Row) (c : Connecting) : Type 0 where
   pub process : IsProcessOf rows c.process
   pub timeout : IsNumberOf rows (codes "timeout") c.timeout
   pub token_file : IsTextOf rows (codes "token-file") (option_map (λ t. t.now) c.token_file)
+  pub prefix : IsPrefixOf rows (option_map (λ t. t.now) c.prefix)
 
 -- the matches of `dsheet run --stops` ask for these steps, and for no JSON
 pub record IsStopping (rows : List Row) (s : Stopping) : Type 0 where

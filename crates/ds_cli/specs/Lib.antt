@@ -1,6 +1,7 @@
 pub mod Numbers
 pub mod ExploreForms
 pub mod Addresses
+pub mod Prefixes
 pub mod Servings
 pub mod CommandLines
 pub mod Explorings

@@ -1,5 +1,5 @@
 -- What a server is asked for, by the options of `dsheet serve`.
-use Rattle.std.specs.Prelude.{◌≡◌, ◌⊎◌, ◌<◌, ◌≤◌, ℕ, zero, suc, List, Option, Some, None, codes, option_map}
+use Rattle.std.specs.Prelude.{◌≡◌, ◌<◌, ◌≤◌, ℕ, zero, suc, List, Option, Some, None, codes, option_map}
 use Rattle.log.specs.Level.{parse_filter}
 use Rattle.log.specs.declared.level.LevelFilter.{LevelFilter}
 use Rattle.clap.specs.Words.{Row, Text, first_of, one_of}
@@ -7,6 +7,7 @@ use Rattle.ds_formula.specs.Limits.{PROCESSES_MOST}
 use Rattle.ds_formula.specs.Shapes.{MayHave}
 use Rattle.ds_cli.specs.Addresses.{HasBadAddress, HasNoAddress, IsOpen, ListensAt}
 use Rattle.ds_cli.specs.ExploreForms.{AreManyForms}
+use Rattle.ds_cli.specs.Prefixes.{HasNoPrefix}
 pub use Rattle.ds_cli.specs.Numbers.{HasValue, IsNumberOf, IsNumberOr, IsWritten}
 use Rattle.ds_cli.specs.declared.serving.OutOfLimits.{OutOfLimits}
 use Rattle.ds_cli.specs.declared.serving.OutOfLimits.TheVariants as limits
@@ -103,6 +104,7 @@ IsOutOfLimits matches limits.Log = HasNoLevel matches (codes "log")
 IsOutOfLimits matches limits.Server = HasNoAddress matches (codes "server")
 IsOutOfLimits matches limits.Process = HasNoProcess matches (codes "process")
 IsOutOfLimits matches limits.Timeout = HasNoNumber matches (codes "timeout")
+IsOutOfLimits matches limits.Key = HasNoPrefix matches
 IsOutOfLimits matches limits.From = HasNone matches (codes "from")
 IsOutOfLimits matches limits.To = HasNoNumber matches (codes "to")
 IsOutOfLimits matches limits.Most = HasNone matches (codes "most")
@@ -129,13 +131,14 @@ usage_of limits.FromAlone = codes "dsheet run [OPTIONS] [FILE]"
 usage_of limits.ToAlone = codes "dsheet run [OPTIONS] [FILE]"
 usage_of limits.Brief = codes "dsheet run [OPTIONS] [FILE]"
 usage_of limits.JsonStops = codes "dsheet run [OPTIONS] [FILE]"
-usage_of limits.Most = codes "dsheet explore [OPTIONS]"
-usage_of limits.Show = codes "dsheet explore [OPTIONS]"
-usage_of limits.Trace = codes "dsheet explore [OPTIONS]"
-usage_of limits.Forms = codes "dsheet explore [OPTIONS]"
+usage_of limits.Most = codes "dsheet explore [OPTIONS] [FILE]"
+usage_of limits.Show = codes "dsheet explore [OPTIONS] [FILE]"
+usage_of limits.Trace = codes "dsheet explore [OPTIONS] [FILE]"
+usage_of limits.Forms = codes "dsheet explore [OPTIONS] [FILE]"
 usage_of limits.Server = codes "dsheet connect [OPTIONS] <SERVER>"
 usage_of limits.Process = codes "dsheet connect [OPTIONS] <SERVER>"
 usage_of limits.Timeout = codes "dsheet connect [OPTIONS] <SERVER>"
+usage_of limits.Key = codes "dsheet connect [OPTIONS] <SERVER>"
 usage_of limits.Until = codes "dsheet export [OPTIONS] <FILE>"
 usage_of limits.CsvJson = codes "dsheet export [OPTIONS] <FILE>"
 usage_of limits.At = codes "dsheet log [OPTIONS] <FILE>"

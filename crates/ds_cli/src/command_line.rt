@@ -4,7 +4,7 @@ ghost use Rattle.std.specs.Prelude.{◌≡◌, ◌↔◌, IfErr, IfOk, IsTrue, N
 ghost use Rattle.std.specs.String.{string_bytes};
 ghost use Rattle.clap.specs.Words.{App, Rule, app_of, fault_of, new_app, first_of, found_of, one_of, rows_of, rule_of, with_rule, with_subcommand};
 ghost use Rattle.ds_cli.specs.declared.command_line.OptionsFault.TheVariants.{CommandLine, NoFile};
-ghost use Rattle.ds_cli.specs.CommandLines.{Asks, AsksNothing, AsksOfStore, IsAskedBy, IsCommand, IsRefusedFor, IsWanting, Names, backup_command as backup_app, compact_command as compact_app, connect_command as connect_app, dsheet, dsheet_alone, explore_command as explore_app, orders_command as orders_app, export_command as export_app, file as file_rule, input as input_rule, flag as flag_rule, given_number as given_number_rule, http as http_rule, guarded_command as guarded_app, token_file as token_file_rule, file_command as file_app, import_command as import_app, log_command as log_app, cell as cell_rule, listen as listen_rule, log_option as log_rule, number_option as number_rule, report_command as report_app, run_command as run_app, serve_command as serve_app, shared_command as shared_app, sheet_command as sheet_app, store as store_rule, trace_command as trace_app, with_stores};
+ghost use Rattle.ds_cli.specs.CommandLines.{Asks, AsksNothing, AsksOfStore, IsAskedBy, IsCommand, IsRefusedFor, IsWanting, Names, backup_command as backup_app, compact_command as compact_app, connect_command as connect_app, dsheet, dsheet_alone, explore_command as explore_app, orders_command as orders_app, export_command as export_app, file as file_rule, input as input_rule, flag as flag_rule, given_number as given_number_rule, http as http_rule, guarded_command as guarded_app, token_file as token_file_rule, file_command as file_app, import_command as import_app, log_command as log_app, cell as cell_rule, key as key_rule, listen as listen_rule, log_option as log_rule, number_option as number_rule, report_command as report_app, run_command as run_app, serve_command as serve_app, shared_command as shared_app, sheet_command as sheet_app, store as store_rule, trace_command as trace_app, with_stores};
 
 use crate::connecting::{Connecting, Stopping, names_no_step, read_connecting, read_stopping};
 use crate::exploring::{Exploring, is_set, read_exploring};
@@ -31,9 +31,9 @@ pub enum Action<'a> {
     /// `dsheet report`: a grid.
     Report(Reporting<'a>),
     /// `dsheet explore`: all orders of the steps of a script's calls.
-    Explore(Exploring),
+    Explore(Exploring<'a>),
     /// `dsheet trace`: a picture of the run of a script.
-    Trace(Tracing),
+    Trace(Tracing<'a>),
     /// `dsheet serve`: sessions over connections.
     Serve(Serving<'a>),
     /// `dsheet serve --store FILE`: the same, over the sheet of a store.
@@ -158,8 +158,7 @@ fn run_command<'a>(alloc: Global) -> Result<Command<'a>, AllocError>
     ensures { IfOk result (IsCommand run_app) }
 {
     let stops_help = "Crashes the sheet after each step, and writes what is answered then";
-    let file = input_argument(alloc, "The file of the script; - or none: standard input");
-    let one = with_argument(Ok(run_alone(alloc)), file);
+    let one = with_argument(Ok(run_alone(alloc)), script_argument(alloc));
     let two = with_argument(one, flag(alloc, STOPS, stops_help));
     let from_help = "With --stops: the first step after which it is crashed, from 1";
     let three = with_argument(two, given_number(alloc, "from", from_help));
@@ -191,19 +190,27 @@ fn a1_flag<'a>(alloc: Global) -> Arg<'a>
     flag(alloc, "a1", help::A1_HELP)
 }
 
-// What may come between steps, and how many states are gone through.
+// The argument that names the file of a script.
+fn script_argument<'a>(alloc: Global) -> Arg<'a>
+    ensures rule { rule_of result ≡ input_rule }
+    ensures local { result.global ≡ false }
+{
+    input_argument(alloc, "The file of the script; - or none: standard input")
+}
+
+// Which script it is, what may come between steps, and how many states are gone through.
 fn orders_command<'a>(alloc: Global) -> Result<Command<'a>, AllocError>
     ensures { IfOk result (IsCommand orders_app) }
 {
+    let one = with_argument(Ok(explore_alone(alloc)), script_argument(alloc));
     let crashes_help = "A crash at each state, which ends the order";
-    let crashes = flag(alloc, "crashes", crashes_help);
-    let one = with_argument(Ok(explore_alone(alloc)), crashes);
+    let two = with_argument(one, flag(alloc, "crashes", crashes_help));
     let stops_help = "A stop of each process that is in a call, at each state";
-    let two = with_argument(one, flag(alloc, STOPS, stops_help));
+    let three = with_argument(two, flag(alloc, STOPS, stops_help));
     let evictions_help = "An eviction of each word whose sides differ";
-    let three = with_argument(two, flag(alloc, "evictions", evictions_help));
+    let four = with_argument(three, flag(alloc, "evictions", evictions_help));
     let most_help = "Thousands of states that are gone through at most";
-    with_argument(three, number_option(alloc, "most", "1000", most_help))
+    with_argument(four, number_option(alloc, "most", "1000", most_help))
 }
 
 fn explore_command<'a>(alloc: Global) -> Result<Command<'a>, AllocError>
@@ -216,13 +223,16 @@ fn explore_command<'a>(alloc: Global) -> Result<Command<'a>, AllocError>
     let show_help = "Writes the outcome with this number alone; 0: all";
     let three = with_argument(two, number_option(alloc, "show", "0", show_help));
     let trace_help = "Draws the script of the outcome with this number, as SVG; 0: no picture";
-    with_argument(three, number_option(alloc, "trace", "0", trace_help))
+    let four = with_argument(three, number_option(alloc, "trace", "0", trace_help));
+    called(four, "dsheet explore")
 }
 
 fn trace_command<'a>(alloc: Global) -> Result<Command<'a>, AllocError>
     ensures { IfOk result (IsCommand trace_app) }
 {
-    with_argument(Ok(trace_alone(alloc)), flag(alloc, BRIEF, help::BRIEF_HELP))
+    let one = with_argument(Ok(trace_alone(alloc)), script_argument(alloc));
+    let two = with_argument(one, flag(alloc, BRIEF, help::BRIEF_HELP));
+    called(two, "dsheet trace")
 }
 
 fn report_command<'a>(alloc: Global) -> Result<Command<'a>, AllocError>
@@ -307,6 +317,16 @@ fn token_file_option<'a>(alloc: Global) -> Arg<'a>
         .long("token-file")
         .value_name("FILE")
         .help("A join has to have the first line of this file as its token")
+}
+
+// The option of `connect` that has the prefix of its edits' keys.
+fn key_option<'a>(alloc: Global) -> Arg<'a>
+    ensures rule { rule_of result ≡ key_rule }
+    ensures local { result.global ≡ false }
+{
+    Arg::new(alloc, "key").long("key").value_name("PREFIX").help(
+        "Gives the sets the keys PREFIX-0, PREFIX-1 and so on: each counts once at most",
+    )
 }
 
 // The option of `serve` that has the level of the log.
@@ -493,7 +513,8 @@ fn connect_command<'a>(alloc: Global) -> Result<Command<'a>, AllocError>
     let timeout_help = "Seconds for which an answer is waited for; 0: for ever";
     let three = with_argument(two, number_option(alloc, "timeout", "60", timeout_help));
     let four = with_argument(three, token_file_option(alloc));
-    with_argument(four, a1_flag(alloc))
+    let five = with_argument(four, key_option(alloc));
+    with_argument(five, a1_flag(alloc))
 }
 
 // The program wants one of its subcommands, and prints its version.

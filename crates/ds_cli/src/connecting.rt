@@ -1,13 +1,15 @@
 //! What `dsheet connect` and `dsheet run --stops` are asked for.
 
-ghost use Rattle.std.specs.Prelude.{◌≡◌, ◌≤◌, IfErr, IfOk, None, Some, codes};
+ghost use Rattle.std.specs.Prelude.{◌≡◌, ◌≤◌, IfErr, IfOk, None, Some, codes, option_map};
 ghost use Rattle.clap.specs.Words.{first_of, found_of, one_of, rows_of};
 ghost use Rattle.ds_cli.specs.Servings.{IsNumberOr, IsOutOfLimits};
 ghost use Rattle.ds_cli.specs.Connectings.{IsConnecting, IsProcessOf, IsStopping};
+ghost use Rattle.ds_cli.specs.Prefixes.{IsPrefixOf, is_prefix};
 
 use crate::exploring::is_set;
 use crate::serving::{OutOfLimits, address, number, number_or, text};
 use clap::ArgMatches;
+use ds_key::key::is_key;
 use ds_layout::layout::PROCESS_LIMIT;
 use std::net::SocketAddr;
 
@@ -22,6 +24,8 @@ pub struct Connecting<'a> {
     pub timeout: usize,
     /// The file whose first line is the server's token, if it has one.
     pub token_file: Option<&'a str>,
+    /// The prefix of the keys that its edits get, 1 to 43 visible characters of ASCII; none: they get no keys.
+    pub prefix: Option<&'a str>,
 }
 
 /// The steps after which a script is crashed.
@@ -49,6 +53,28 @@ fn read_process(found: &ArgMatches<'_>) -> Result<Option<usize>, OutOfLimits>
     }
 }
 
+// The most characters of a prefix of keys.
+const PREFIX_LIMIT: usize = 43;
+
+// Whether a text is a prefix of keys.
+fn is_prefix(text: &str) -> bool
+    ensures { result ≡ is_prefix text.now }
+{
+    is_key(text.as_bytes()) && text.len() <= PREFIX_LIMIT
+}
+
+// The prefix of keys that they ask for, if any.
+fn read_prefix<'a>(found: &ArgMatches<'a>) -> Result<Option<&'a str>, OutOfLimits>
+    ensures prefix { IfOk result (λ prefix. IsPrefixOf (rows_of (found_of found.now)) (option_map (λ t. t.now) prefix)) }
+    ensures limit { IfErr result (IsOutOfLimits (rows_of (found_of found.now))) }
+{
+    match text(found, "key") {
+        None => Ok(None),
+        Some(prefix) if is_prefix(prefix) => Ok(Some(prefix)),
+        Some(_) => Err(OutOfLimits::Key),
+    }
+}
+
 /// The client that the arguments of `dsheet connect` ask for. An error names the first that is out of its limits.
 pub fn read_connecting<'a>(found: &ArgMatches<'a>) -> Result<Connecting<'a>, OutOfLimits>
     ensures connecting { IfOk result (IsConnecting (rows_of (found_of found.now))) }
@@ -61,11 +87,13 @@ pub fn read_connecting<'a>(found: &ArgMatches<'a>) -> Result<Connecting<'a>, Out
     let Some(timeout) = number(found, "timeout") else {
         return Err(OutOfLimits::Timeout);
     };
+    let prefix = read_prefix(found)?;
     Ok(Connecting {
         server,
         process,
         timeout,
         token_file: text(found, "token-file"),
+        prefix,
     })
 }
 

@@ -6,12 +6,15 @@ ghost use Rattle.ds_cli.specs.ExploreForms.{AreForms, IsExploreForm, asked_forms
 ghost use Rattle.ds_cli.specs.Explorings.{IsExploring};
 ghost use Rattle.ds_cli.specs.Servings.{IsNumberOf, IsOutOfLimits};
 
+use crate::inputs::input_of;
 use crate::serving::{OutOfLimits, number};
 use clap::ArgMatches;
 
 /// An exploration: what may come between the steps of calls, and how much is gone through.
 #[derive(Clone, Copy, Debug, PartialEq, Eq)]
-pub struct Exploring {
+pub struct Exploring<'a> {
+    /// The file of the script, or none: standard input.
+    pub file: Option<&'a str>,
     /// A crash at each state.
     pub crashes: bool,
     /// A stop of each process at each state.
@@ -128,11 +131,12 @@ fn read_most(found: &ArgMatches<'_>) -> Result<usize, OutOfLimits>
 
 /// The exploration that the options of `dsheet explore` ask for. An error says which number is none, or that two forms are
 /// asked for.
-pub fn read_exploring(found: &ArgMatches<'_>) -> Result<Exploring, OutOfLimits>
+pub fn read_exploring<'a>(found: &ArgMatches<'a>) -> Result<Exploring<'a>, OutOfLimits>
     ensures exploring { IfOk result (IsExploring (rows_of (found_of found.now))) }
     ensures limit { IfErr result (IsOutOfLimits (rows_of (found_of found.now))) }
 {
     Ok(Exploring {
+        file: input_of(found),
         crashes: is_set(found, "crashes"),
         stops: is_set(found, "stops"),
         evictions: is_set(found, "evictions"),

@@ -24,8 +24,7 @@ pub(crate) const EXPLORE_ABOUT: &str = "Goes through all orders of the steps of 
 pub(crate) const SUMMARY_HELP: &str =
     "Writes what may be reported after the orders, and how often, in place of the outcomes";
 
-pub(crate) const TRACE_ABOUT: &str =
-    "Draws the run of a script from standard input, as one SVG on standard output";
+pub(crate) const TRACE_ABOUT: &str = "Draws the run of a script, as one SVG on standard output";
 
 pub(crate) const BRIEF_STOPS_HELP: &str =
     "With --stops: one line for steps that follow each other and come to the same";
@@ -157,8 +156,8 @@ where an announcement or a mark changes on the side that a crash leaves. These w
 room; how many have none is said. A crash says whose edits it takes back.
 
 Examples:
-  dsheet trace < examples/taken_back > run.svg
-  dsheet trace --brief < examples/taken_back > brief.svg
+  dsheet trace examples/taken_back > run.svg
+  dsheet trace examples/taken_back --brief > brief.svg
 
 Exit status: 0 drawn; 1 a fault in a line, which is named; 2 wrong words on the command line; 3 a failed read or write,
 a script or a picture over 1048576 bytes, or more than 1000 events; 4 no memory. Nothing is written unless it is drawn.";
@@ -217,16 +216,19 @@ Each session that does not end with its client is one line on standard error, an
 
 pub(crate) const CONNECT_HELP: &str = "\
 Joins the process, and tells what became of its last edit, as recover does in a script. Then each line of standard
-input is one call: set CELL TEXT, undo CELL, report, view, get CELL, history FROM, or last. Without --process any process
-that nobody has is joined, by the first line that needs one: view, get and history need none. Empty lines and lines that
-begin with # are skipped. Where the connection breaks, the process is joined anew, and what is answered then says whether the edit under way counts; an edit is
-never sent twice. Where the server then has lost an edit that it had answered done, as with a file that was cut, this is
-said, and ends the client with status 3. With --a1 a text is written as in Calc and Excel, as =A1*2, and is sent as
-=[.A1]*2. On a terminal there are prompts, help lists the lines, quit ends, values stand in a table, and a line that is no
-call ends nothing.
+input is one call: set CELL TEXT, undo CELL, report, view, get CELL, history FROM, outcome KEY, or last. Without --process
+any process that nobody has is joined, by the first line that needs one: view, get, history and outcome need none. Empty
+lines and lines that begin with # are skipped. Where the connection breaks, the process is joined anew, and what is
+answered then says whether the edit under way counts; an edit without a key is never sent twice. Where the server then has
+lost an edit that it had answered done, as with a file that was cut, this is said, and ends the client with status 3.
+With --key PREFIX the sets of the input get the keys PREFIX-0, PREFIX-1 and so on, by their order. An edit with a key
+counts once at most: where the connection breaks, it is sent again, and the same input may be given again to finish it.
+With --a1 a text is written as in Calc and Excel, as =A1*2, and is sent as =[.A1]*2. On a terminal there are prompts, help
+lists the lines, quit ends, values stand in a table, and a line that is no call ends nothing.
 
-Example:
+Examples:
   printf 'set A1 =1+2\\nreport\\n' | dsheet connect 127.0.0.1:8080 --process 1
+  printf 'set A1 7\\noutcome week-48-0\\n' | dsheet connect 127.0.0.1:8080 --key week-48
 
 Exit status: 0 ended; 1 a line that is no call, or a join that is refused; 2 wrong words on the command line;
 3 no connection, a failed read or write, no answer in time, none that a server gives, or a lost edit; 4 no memory.";

@@ -116,6 +116,9 @@ pub enum OutOfLimits {
     /// The time for which an answer is waited for is none.
     #[error("--timeout: from 0 to 65535 seconds")]
     Timeout,
+    /// The prefix of the edits' keys is none.
+    #[error("--key: 1 to 43 visible ASCII characters")]
+    Key,
     /// The first step after which a script is crashed is none.
     #[error("--from: from 1 to 65535")]
     From,
@@ -165,11 +168,10 @@ impl OutOfLimits {
             | OutOfLimits::Brief
             | OutOfLimits::JsonStops => "dsheet run [OPTIONS] [FILE]",
             OutOfLimits::Most | OutOfLimits::Show | OutOfLimits::Trace | OutOfLimits::Forms => {
-                "dsheet explore [OPTIONS]"
+                "dsheet explore [OPTIONS] [FILE]"
             }
-            OutOfLimits::Server | OutOfLimits::Process | OutOfLimits::Timeout => {
-                "dsheet connect [OPTIONS] <SERVER>"
-            }
+            OutOfLimits::Server | OutOfLimits::Process | OutOfLimits::Timeout | OutOfLimits::Key =>
+                "dsheet connect [OPTIONS] <SERVER>",
             OutOfLimits::Until | OutOfLimits::CsvJson => "dsheet export [OPTIONS] <FILE>",
             OutOfLimits::At | OutOfLimits::NoAt => "dsheet log [OPTIONS] <FILE>",
             _ => "dsheet serve [OPTIONS]",

@@ -1,3 +1,4 @@
 pub mod Floats
 pub mod Understood
+pub mod Drawn
 pub mod Rows

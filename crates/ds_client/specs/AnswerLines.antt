@@ -16,12 +16,10 @@ use Rattle.ds_server.specs.declared.desk.CallRefusal.{CallRefusal}
 use Rattle.ds_server.specs.declared.desk.CallRefusal.TheVariants as refusal
 use Rattle.ds_server.specs.declared.request.LineFault.{LineFault}
 use Rattle.ds_server.specs.declared.request.LineFault.TheVariants as fault
-use Rattle.ds_eval.specs.declared.value.Value.{Value}
 use Rattle.ds_eval.specs.Numbers.{value_text}
 use Rattle.ds_formula.specs.Bytes.{is_space}
 use Rattle.ds_formula.specs.Names.{cell_text}
-use Rattle.ds_formula.specs.declared.cells.Cell.{Cell}
-use Rattle.ds_server.specs.Replies.{Said, EditEntry, Joined, JoinedLost, Done, Overtaken, Settled, Unsettled, Tells, GotCell, Listed, Left, Refused, Faulted}
+use Rattle.ds_server.specs.Replies.{Said, EditEntry, Joined, JoinedLost, Done, Overtaken, Settled, Unsettled, Tells, GotCell, Listed, Resolved, Left, Refused, Faulted}
 use Rattle.ds_server.specs.SessionTexts.{name_of_fault, text_by}
 
 -- the last edit of a process as a recovery of a script reports it
@@ -40,6 +38,7 @@ refusal_lines p (refusal.Text at) = refused_text p (state.Text at)
 refusal_lines p refusal.Stopped = refused_text p state.Stopped
 refusal_lines p refusal.RecordsFull = refused_text p state.RecordsFull
 refusal_lines p refusal.NoMemory = refused_text p state.NoMemory
+refusal_lines p refusal.KeyReused = named_lines p (codes "key-reused")
 refusal_lines p refusal.NoEdit = named_lines p (codes "no-edit")
 refusal_lines p refusal.NoHistory = named_lines p (codes "no-history")
 
@@ -91,24 +90,31 @@ entry_line process number cell text = entry_front process number cell ++ ending 
 abbrev pub line_of_entry : EditEntry → List ℕ
 line_of_entry e = entry_line e.process e.number (cell_text e.cell) e.text
 
+-- what became of the edit with this key: which it is, or that none has it, for good
+abbrev pub outcome_line : List ℕ → Option (List ℕ) → List ℕ
+outcome_line key None = codes "outcome " ++ (key ++ codes " never\n")
+outcome_line key (Some edit) = codes "outcome " ++ (key ++ (codes " done " ++ edit))
+
 -- the line before the edits of a list: from which place on, and how many there are
 abbrev pub heading : ℕ → ℕ → List ℕ
 heading from of = codes "edits " ++ (decimal from ++ (codes " of " ++ (decimal of ++ codes "\n")))
 
--- what a client of this process shows of what is said to it; that a process is given back is said to nobody
-abbrev pub said_lines : ℕ → Shape → Said → List ℕ
-said_lines p shape (Joined process last) = last_lines shape p last
-said_lines p shape (JoinedLost process last) = last_lines shape p last
-said_lines p shape (Done number) = done_text p number
-said_lines p shape (Overtaken number by) = overtaken_text p number by
-said_lines p shape (Settled values) = settled_text shape values
-said_lines p shape (Unsettled place word) = unsettled_text shape place word
-said_lines p shape (Tells last) = last_lines shape p last
-said_lines p shape (GotCell cell value edit) = got_line (cell_text cell) (value_text value) (edit_or_none edit) (text_by edit)
-said_lines p shape (Listed from edits of) = heading from of ++ concat (map line_of_entry edits)
-said_lines p shape Left = []
-said_lines p shape (Refused why) = refusal_lines p why
-said_lines p shape (Faulted fault) = fault_lines p fault
+-- what a client of this process shows of what is said to it, where it has asked for the edit with this key, if for one; that a
+-- process is given back is said to nobody
+abbrev pub said_lines : ℕ → List ℕ → Shape → Said → List ℕ
+said_lines p key shape (Joined process last) = last_lines shape p last
+said_lines p key shape (JoinedLost process last) = last_lines shape p last
+said_lines p key shape (Done number) = done_text p number
+said_lines p key shape (Overtaken number by) = overtaken_text p number by
+said_lines p key shape (Settled values) = settled_text shape values
+said_lines p key shape (Unsettled place word) = unsettled_text shape place word
+said_lines p key shape (Tells last) = last_lines shape p last
+said_lines p key shape (GotCell cell value edit) = got_line (cell_text cell) (value_text value) (edit_or_none edit) (text_by edit)
+said_lines p key shape (Listed from edits of) = heading from of ++ concat (map line_of_entry edits)
+said_lines p key shape (Resolved edit) = outcome_line key (option_map line_of_entry edit)
+said_lines p key shape Left = []
+said_lines p key shape (Refused why) = refusal_lines p why
+said_lines p key shape (Faulted fault) = fault_lines p fault
 
 -- ---- of the JSON of an answer
 
@@ -178,6 +184,15 @@ listed_shown value =
     number_at (codes "from") value >>= λ from. number_at (codes "of") value >>= λ of. (get (codes "edits") value >>= as_array) >>= λ edits.
     option_map (λ lines. heading from of ++ lines) (entries_in edits)
 
+-- what the field `edit` says of the edit with this key, where the field `outcome` says this
+abbrev pub outcome_by : List ℕ → List ℕ → Data → Option (List ℕ)
+outcome_by key outcome null = if bytes_eq outcome (codes "never") then Some (outcome_line key None) else None
+outcome_by key outcome edit = if bytes_eq outcome (codes "done") then option_map (λ line. outcome_line key (Some line)) (entry_shown edit) else None
+
+-- the line of what became of the edit with this key
+abbrev pub outcome_shown : List ℕ → Data → Option (List ℕ)
+outcome_shown key value = text_at (codes "outcome") value >>= λ outcome. get (codes "edit") value >>= outcome_by key outcome
+
 -- a text with a fault
 abbrev pub text_fault_shown : ℕ → Data → Option (List ℕ)
 text_fault_shown p value = text_at (codes "fault") value >>= λ fault. number_at (codes "offset") value >>= λ offset.
@@ -222,25 +237,27 @@ line_shown p value name =
     else None))))
 
 -- an answer by its name
-abbrev pub ok_shown : ℕ → Data → List ℕ → Option (List ℕ)
-ok_shown p value name =
+abbrev pub ok_shown : ℕ → List ℕ → Data → List ℕ → Option (List ℕ)
+ok_shown p key value name =
     if bytes_eq name (codes "settled") then settled_shown value
     else (if bytes_eq name (codes "history") then listed_shown value
     else (if bytes_eq name (codes "got") then got_shown value
-    else line_shown p value name))
+    else (if bytes_eq name (codes "outcome") then outcome_shown key value
+    else line_shown p value name)))
 
 -- an error by its name, if it is one
 abbrev pub refused_shown : ℕ → Data → Option (List ℕ)
 refused_shown p value = text_at (codes "error") value >>= error_shown p value
 
 -- the lines of an answer, by its name or that of its error; none where it has neither
-abbrev pub shown_by : ℕ → Data → Option (List ℕ) → Option (List ℕ)
-shown_by p value (Some name) = ok_shown p value name
-shown_by p value None = refused_shown p value
+abbrev pub shown_by : ℕ → List ℕ → Data → Option (List ℕ) → Option (List ℕ)
+shown_by p key value (Some name) = ok_shown p key value name
+shown_by p key value None = refused_shown p value
 
--- what a client of this process shows of an answer; nothing where it is none of a server's
-abbrev pub shown : ℕ → Data → Option (List ℕ)
-shown p value = shown_by p value (text_at (codes "ok") value)
+-- what a client of this process, which has asked for the edit with this key, if for one, shows of an answer; nothing where it is
+-- none of a server's
+abbrev pub shown : ℕ → List ℕ → Data → Option (List ℕ)
+shown p key value = shown_by p key value (text_at (codes "ok") value)
 
 -- an answer that is said to a client
 abbrev pub IsSaid : Said → Type 0

@@ -1,3 +1,4 @@
 pub mod Asks
 pub mod Requests
+pub mod DrawnKeys
 pub mod AnswerLines

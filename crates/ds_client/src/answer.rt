@@ -1,11 +1,11 @@
 //! Answers of a server, as a client shows them.
 
-ghost use Rattle.std.specs.Prelude.{◌≡◌, ◌++◌, map, Some, IfOk, OnOk, option_map, string_bytes, codes};
+ghost use Rattle.std.specs.Prelude.{◌≡◌, ◌++◌, map, None, Some, IfOk, OnOk, option_map, string_bytes, codes};
 ghost use Rattle.csv.specs.Records.{fields_of};
 ghost use Rattle.csv.specs.Writing.{default_writer, row_text};
 ghost use Rattle.serde_json.specs.View.{items_view, view};
 ghost use Rattle.ds_script_io.specs.Csv.{IsReady, text_of};
-ghost use Rattle.ds_client.specs.AnswerLines.{byte_in_line, done_shown, edit_shown, ending, entries_in, entry_front, entry_line, entry_shown, error_shown, got_front, got_line, got_shown, heading, last_shown, line_shown, listed_shown, or_blank, number_at, ok_shown, overtaken_shown, place_shown, refused_shown, says_lost, row_in, rows_in, settled_shown, shown, text_at, text_fault_shown, texts_in, told_shown, unsettled_shown};
+ghost use Rattle.ds_client.specs.AnswerLines.{byte_in_line, done_shown, edit_shown, ending, entries_in, entry_front, entry_line, entry_shown, error_shown, got_front, got_line, got_shown, heading, last_shown, line_shown, listed_shown, or_blank, number_at, ok_shown, outcome_by, outcome_line, outcome_shown, overtaken_shown, place_shown, refused_shown, says_lost, row_in, rows_in, settled_shown, shown, text_at, text_fault_shown, texts_in, told_shown, unsettled_shown};
 
 use csv::{ByteRecord, Writer, WriterBuilder};
 use ds_script_io::answer::refused_line;
@@ -342,6 +342,57 @@ fn listed(alloc: Global, value: &Json) -> Result<Option<Vec<u8>>, AllocError>
     with_entries(alloc, heading(alloc, from, of)?, edits)
 }
 
+// `outcome KEY never`.
+fn never(alloc: Global, key: &str) -> Result<Vec<u8>, AllocError>
+    ensures { IfOk result (λ line. line.items ≡ outcome_line key.now None) }
+{
+    let line = format!(in alloc; "outcome {key} never\n")?;
+    Ok(line.into_bytes())
+}
+
+// `outcome KEY done P NUMBER C TEXT`: the line of the edit is there already.
+fn done_by(alloc: Global, key: &str, edit: &[u8]) -> Result<Vec<u8>, AllocError>
+    ensures { IfOk result (λ line. line.items ≡ outcome_line key.now (Some edit.now)) }
+{
+    let mut line = format!(in alloc; "outcome {key} done ")?.into_bytes();
+    line.extend_from_slice(edit)?;
+    Ok(line)
+}
+
+// The same, of this edit, if there is one, where this is the outcome.
+fn outcome_by(
+    alloc: Global,
+    key: &str,
+    outcome: &str,
+    edit: &Json,
+) -> Result<Option<Vec<u8>>, AllocError>
+    ensures { IfOk result (λ lines. option_map (λ l. l.items) lines ≡ outcome_by key.now outcome.now (view edit.now)) }
+{
+    if let Json::Null = edit {
+        return match outcome == "never" {
+            true => Ok(Some(never(alloc, key)?)),
+            false => Ok(None),
+        };
+    }
+    if outcome != "done" {
+        return Ok(None);
+    }
+    match entry(alloc, edit)? {
+        Some(line) => Ok(Some(done_by(alloc, key, &line)?)),
+        None => Ok(None),
+    }
+}
+
+// What became of the edit with this key.
+fn outcome(alloc: Global, key: &str, value: &Json) -> Result<Option<Vec<u8>>, AllocError>
+    ensures { IfOk result (λ lines. option_map (λ l. l.items) lines ≡ outcome_shown key.now (view value.now)) }
+{
+    let (Some(outcome), Some(edit)) = (text_at(value, "outcome"), value.get("edit")) else {
+        return Ok(None);
+    };
+    outcome_by(alloc, key, outcome, edit)
+}
+
 // `P refused 1 FAULT OFFSET`.
 fn text_fault(alloc: Global, process: usize, value: &Json) -> Result<Option<String>, AllocError>
     ensures { IfOk result (λ lines. option_map string_bytes lines ≡ text_fault_shown process (view value.now)) }
@@ -404,10 +455,11 @@ fn bytes_of(lines: Option<String>) -> Option<Vec<u8>>
 fn answered(
     alloc: Global,
     process: usize,
+    key: &str,
     value: &Json,
     name: &str,
 ) -> Result<Option<Vec<u8>>, AllocError>
-    ensures { IfOk result (λ lines. option_map (λ l. l.items) lines ≡ ok_shown process (view value.now) name.now) }
+    ensures { IfOk result (λ lines. option_map (λ l. l.items) lines ≡ ok_shown process key.now (view value.now) name.now) }
 {
     if name == "settled" {
         return settled(alloc, value);
@@ -417,6 +469,9 @@ fn answered(
     }
     if name == "got" {
         return got(alloc, value);
+    }
+    if name == "outcome" {
+        return outcome(alloc, key, value);
     }
     Ok(bytes_of(named(alloc, process, value, name)?))
 }
@@ -442,16 +497,18 @@ pub fn is_lost(answer: &Json) -> bool
 }
 
 /// What a client of a process shows of an answer: lines as a script's answers are, those of a settled report with its
-/// values as CSV, those of a list of edits with a line for each. None where it is no answer of a server. An error means that an allocation failed.
+/// values as CSV, those of a list of edits with a line for each. The key is the one of whose edit was asked; it stands in the
+/// line of its outcome alone. None where it is no answer of a server. An error means that an allocation failed.
 pub fn answer_lines(
     alloc: Global,
     process: usize,
+    key: &str,
     answer: &Json,
 ) -> Result<Option<Vec<u8>>, AllocError>
-    ensures { IfOk result (λ lines. option_map (λ l. l.items) lines ≡ shown process (view answer.now)) }
+    ensures { IfOk result (λ lines. option_map (λ l. l.items) lines ≡ shown process key.now (view answer.now)) }
 {
     match text_at(answer, "ok") {
-        Some(name) => answered(alloc, process, answer, name),
+        Some(name) => answered(alloc, process, key, answer, name),
         None => refused(alloc, process, answer),
     }
 }

@@ -2,7 +2,7 @@
 
 ghost use Rattle.std.specs.Prelude.{◌≡◌, ◌^◌, Some, None, IfOk, IfErr, IsUtf8, option_map};
 ghost use Rattle.ds_script_io.specs.Fields.{number_below};
-ghost use Rattle.ds_client.specs.Asks.{AsksNothing, Undo, bearing, get_of, history_of, one_word, place_of, set_of, wish_of, wish_view};
+ghost use Rattle.ds_client.specs.Asks.{AsksNothing, Undo, bearing, get_of, history_of, keyed, one_word, outcome_of, place_of, set_of, wish_of, wish_view};
 ghost use Rattle.ds_client.specs.declared.ask.AskFault.TheVariants.{NoText};
 
 use ds_formula::decimal::digits;
@@ -23,6 +23,8 @@ pub enum Ask<'a> {
         cell: &'a str,
         /// The text that the cell gets.
         text: &'a str,
+        /// The key by which the edit counts once at most, if it is to have one.
+        key: Option<&'a str>,
     },
     /// To edit the cell of this name to the text that it had before its last edit.
     Undo(&'a str),
@@ -34,6 +36,8 @@ pub enum Ask<'a> {
     Get(&'a str, Option<&'a str>),
     /// The edits that count, from this place on, where the first has place 0; the same.
     History(usize, Option<&'a str>),
+    /// What became of the edit with this key; the same.
+    Outcome(&'a str, Option<&'a str>),
     /// To report the process's last edit.
     Last,
 }
@@ -51,7 +55,7 @@ impl fmt::Display for AskFault {
     fn fmt<W: fmt::Write>(&self, f: &mut fmt::Formatter<W>) -> fmt::Result {
         f.write_str(match self {
             AskFault::NoLine => {
-                "expected: set CELL TEXT, undo CELL, report, view, get CELL, history [FROM] or last"
+                "expected: set CELL TEXT, undo CELL, report, view, get CELL, history [FROM], outcome KEY or last"
             }
             AskFault::NoText => "the line is not UTF-8",
         })
@@ -67,6 +71,17 @@ impl<'a> Ask<'a> {
             Ask::View(_) => Ask::View(token),
             Ask::Get(cell, _) => Ask::Get(cell, token),
             Ask::History(from, _) => Ask::History(from, token),
+            Ask::Outcome(key, _) => Ask::Outcome(key, token),
+            other => other,
+        }
+    }
+
+    /// The same with this key, if any, where it is an edit to a text.
+    pub fn keyed(self, key: Option<&'a str>) -> Ask<'a>
+        ensures { wish_view result ≡ keyed (option_map (λ k. k.now) key.entry) (wish_view self.entry) }
+    {
+        match self {
+            Ask::Set { cell, text, key: _ } => Ask::Set { cell, text, key },
             other => other,
         }
     }
@@ -94,6 +109,7 @@ fn read_set(words: Option<&[u8]>) -> Result<Ask<'_>, AskFault>
     Ok(Ask::Set {
         cell: text_of(cell)?,
         text: text_of(text.unwrap_or(&[]))?,
+        key: None,
     })
 }
 
@@ -125,6 +141,17 @@ fn read_get(words: Option<&[u8]>) -> Result<Ask<'_>, AskFault>
 {
     match one_word(words) {
         Some(cell) => Ok(Ask::Get(text_of(cell)?, None)),
+        None => Err(AskFault::NoLine),
+    }
+}
+
+// The question that the words after `outcome` ask.
+fn read_outcome(words: Option<&[u8]>) -> Result<Ask<'_>, AskFault>
+    ensures ask { IfOk result (λ ask. option_map outcome_of (one_word (option_map (λ w. w.now) words.entry)) ≡ Some (wish_view ask)) }
+    ensures fault { IfErr result (AsksNothing (option_map outcome_of (one_word (option_map (λ w. w.now) words.entry)))) }
+{
+    match one_word(words) {
+        Some(key) => Ok(Ask::Outcome(text_of(key)?, None)),
         None => Err(AskFault::NoLine),
     }
 }
@@ -179,6 +206,8 @@ pub fn read_ask(line: &[u8]) -> Result<Ask<'_>, AskFault>
         read_get(words)
     } else if name == b"history".as_slice() {
         read_history(words)
+    } else if name == b"outcome".as_slice() {
+        read_outcome(words)
     } else if name == b"view".as_slice() && words.is_none() {
         Ok(Ask::View(None))
     } else if name == b"report".as_slice() && words.is_none() {

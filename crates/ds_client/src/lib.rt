@@ -3,5 +3,6 @@
 
 pub mod answer;
 pub mod ask;
+pub mod keys;
 pub mod laws;
 pub mod request;

@@ -4,7 +4,7 @@ ghost use Rattle.std.specs.Prelude.{◌≡◌, IfOk, Some, codes, option_map, st
 ghost use Rattle.serde_json.specs.Data.{member, no_members, object};
 ghost use Rattle.serde_json.specs.View.{view};
 ghost use Rattle.serde_json.specs.Written.{compact_text};
-ghost use Rattle.ds_client.specs.Asks.{Join, JoinAny, History, Set, View, wish_view};
+ghost use Rattle.ds_client.specs.Asks.{Join, JoinAny, History, Outcome, Set, View, wish_view};
 ghost use Rattle.ds_server.specs.SessionTexts.{text_data};
 ghost use Rattle.ds_client.specs.Requests.{of_cell_data, wish_data, wish_text};
 
@@ -53,10 +53,13 @@ fn join_any_value(alloc: Global, token: Option<&str>) -> Result<Json, AllocError
     }
 }
 
-fn set_value(alloc: Global, cell: &str, text: &str) -> Result<Json, AllocError>
-    ensures { IfOk result (λ v. view v ≡ wish_data (Set cell.now text.now)) }
+fn set_value(alloc: Global, cell: &str, text: &str, key: Option<&str>) -> Result<Json, AllocError>
+    ensures { IfOk result (λ v. view v ≡ wish_data (Set cell.now text.now (option_map (λ k. k.now) key.entry))) }
 {
-    json!(in alloc; {"cell": cell, "op": "set", "text": text})
+    match key {
+        None => json!(in alloc; {"cell": cell, "op": "set", "text": text}),
+        Some(key) => json!(in alloc; {"cell": cell, "key": key, "op": "set", "text": text}),
+    }
 }
 
 // A request that has this name, of the cell of that one.
@@ -83,6 +86,15 @@ fn history_value(alloc: Global, from: usize, token: Option<&str>) -> Result<Json
     }
 }
 
+fn outcome_value(alloc: Global, key: &str, token: Option<&str>) -> Result<Json, AllocError>
+    ensures { IfOk result (λ v. view v ≡ wish_data (Outcome key.now (option_map (λ t. t.now) token.entry))) }
+{
+    match token {
+        None => json!(in alloc; {"key": key, "op": "outcome"}),
+        Some(token) => json!(in alloc; {"key": key, "op": "outcome", "token": token}),
+    }
+}
+
 fn view_value(alloc: Global, token: Option<&str>) -> Result<Json, AllocError>
     ensures { IfOk result (λ v. view v ≡ wish_data (View (option_map (λ t. t.now) token.entry))) }
 {
@@ -104,11 +116,12 @@ fn request_value(alloc: Global, ask: Ask<'_>) -> Result<Json, AllocError>
 {
     match ask {
         Ask::Join(process, done, token) => join_value(alloc, process, done, token),
-        Ask::Set { cell, text } => set_value(alloc, cell, text),
+        Ask::Set { cell, text, key } => set_value(alloc, cell, text, key),
         Ask::JoinAny(token) => join_any_value(alloc, token),
         Ask::Undo(cell) => of_cell_value(alloc, "undo", cell, None),
         Ask::Get(cell, token) => of_cell_value(alloc, "get", cell, token),
         Ask::History(from, token) => history_value(alloc, from, token),
+        Ask::Outcome(key, token) => outcome_value(alloc, key, token),
         Ask::View(token) => view_value(alloc, token),
         Ask::Report => named_value(alloc, "report"),
         Ask::Last => named_value(alloc, "last"),

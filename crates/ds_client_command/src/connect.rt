@@ -12,6 +12,7 @@ use ds_batch::token::{read_token, text_of};
 use ds_cli::connecting::Connecting;
 use ds_client::answer::{answer_lines, is_lost};
 use ds_client::ask::{Ask, read_ask};
+use ds_client::keys::drawn_key;
 use ds_client::request::request_line;
 use ds_script_io::fields::is_skipped;
 use serde_json::Value as Json;
@@ -42,8 +43,11 @@ struct Joined {
     said: Option<Json>,
 }
 
+// How often a call that may be made again is begun anew, each on a new connection.
+const AGAIN: u32 = 10;
+
 // A client at work: what it was asked for, the server's token, if it has one, the process that it joins or has joined, if any,
-// and the number of the last edit of which it was answered that it is done, if any.
+// the number of the last edit of the process of which it was answered that it is done, if any, and how many sets it has read.
 #[derive(Clone, Copy)]
 struct Client<'a> {
     connecting: Connecting<'a>,
@@ -51,6 +55,7 @@ struct Client<'a> {
     token: Option<&'a str>,
     process: Option<usize>,
     done: Option<u64>,
+    sets: u64,
 }
 
 impl Client<'_> {
@@ -59,8 +64,12 @@ impl Client<'_> {
         Some(Ask::Join(self.process?, self.done, self.token))
     }
 
-    // It is answered so: keeps the number of an edit that is done.
-    fn note(&mut self, said: &Json) {
+    // What it asked is answered so: keeps the number of an edit that is done, but not of one with a key, which another process
+    // may have made.
+    fn note(&mut self, ask: Ask<'_>, said: &Json) {
+        if has_key(ask) {
+            return;
+        }
         let edit = match said.get("last") {
             Some(last) => last,
             None => said,
@@ -68,6 +77,25 @@ impl Client<'_> {
         let outcome = edit.get("outcome").or(edit.get("ok"));
         if outcome.and_then(Json::as_str) == Some("done") {
             self.done = edit.get("number").and_then(Json::as_u64).or(self.done);
+        }
+    }
+
+    // The key of this, where it is a set and sets get keys: that of the next number.
+    fn draw_key(&mut self, alloc: Global, ask: Ask<'_>) -> Result<Option<String>, AllocError> {
+        match (ask, self.connecting.prefix) {
+            (
+                Ask::Set {
+                    cell: _,
+                    text: _,
+                    key: _,
+                },
+                Some(prefix),
+            ) => {
+                let key = drawn_key(alloc, prefix, self.sets)?;
+                self.sets = self.sets.saturating_add(1);
+                Ok(Some(key))
+            }
+            _ => Ok(None),
         }
     }
 
@@ -138,10 +166,16 @@ fn fits(ask: Ask<'_>, said: &Json) -> bool {
     };
     match ask {
         Ask::Join(_, _, _) | Ask::JoinAny(_) => name == "join",
-        Ask::Set { cell: _, text: _ } | Ask::Undo(_) => name == "done" || name == "overtaken",
+        Ask::Set {
+            cell: _,
+            text: _,
+            key: _,
+        }
+        | Ask::Undo(_) => name == "done" || name == "overtaken",
         Ask::Report | Ask::View(_) => name == "settled" || name == "unsettled",
         Ask::Get(_, _) => name == "got" || name == "unsettled",
         Ask::History(_, _) => name == "history",
+        Ask::Outcome(_, _) => name == "outcome",
         Ask::Last => name == "last",
     }
 }
@@ -149,18 +183,50 @@ fn fits(ask: Ask<'_>, said: &Json) -> bool {
 // Whether this is asked by a process.
 fn wants_process(ask: Ask<'_>) -> bool {
     match ask {
-        Ask::Set { cell: _, text: _ } | Ask::Undo(_) | Ask::Report | Ask::Last => true,
-        Ask::Join(_, _, _) | Ask::JoinAny(_) | Ask::View(_) | Ask::Get(_, _) | Ask::History(_, _) =>
-            false,
+        Ask::Set {
+            cell: _,
+            text: _,
+            key: _,
+        }
+        | Ask::Undo(_)
+        | Ask::Report
+        | Ask::Last => true,
+        Ask::Join(_, _, _)
+        | Ask::JoinAny(_)
+        | Ask::View(_)
+        | Ask::Get(_, _)
+        | Ask::History(_, _)
+        | Ask::Outcome(_, _) => false,
     }
 }
 
-// Whether this only reads, so that it may be asked again.
-fn only_reads(ask: Ask<'_>) -> bool {
-    matches!(
-        ask,
-        Ask::Report | Ask::View(_) | Ask::Get(_, _) | Ask::History(_, _)
-    )
+// Whether this is an edit with a key, which counts once at most.
+fn has_key(ask: Ask<'_>) -> bool {
+    match ask {
+        Ask::Set {
+            cell: _,
+            text: _,
+            key,
+        } => key.is_some(),
+        _ => false,
+    }
+}
+
+// Whether this may be asked again: it only reads, it asks what became of an edit, or it is an edit that counts once at most.
+fn may_repeat(ask: Ask<'_>) -> bool {
+    has_key(ask)
+        || matches!(
+            ask,
+            Ask::Report | Ask::View(_) | Ask::Get(_, _) | Ask::History(_, _) | Ask::Outcome(_, _)
+        )
+}
+
+// The key of whose edit it is asked; empty where it is asked for something else.
+fn asked_key(ask: Ask<'_>) -> &str {
+    match ask {
+        Ask::Outcome(key, _) => key,
+        _ => "",
+    }
 }
 
 // Asks the server, and reads what it says.
@@ -239,6 +305,21 @@ fn join_anew<R: AllocGlobal + Clock + Net<Stream = TcpStream>>(
     Err(io::Error::from(ErrorKind::ConnectionRefused))
 }
 
+// Joins at first: a server that does not listen yet is waited for, as long as one whose connection has broken.
+fn join_first<R: AllocGlobal + Clock + Net<Stream = TcpStream>>(
+    rt: &R,
+    client: &Client<'_>,
+) -> io::Result<Joined> {
+    for _ in 0..TRIES {
+        match join(rt, client) {
+            Err(error) if error.kind() == ErrorKind::ConnectionRefused => {}
+            joined => return joined,
+        }
+        thread::sleep(rt, Duration::from_millis(REST));
+    }
+    join(rt, client)
+}
+
 // Whether lines are shown as they are: none has a control character, and an answer without values is one line, and one more
 // for each edit of a list.
 fn is_plain(lines: &str, said: &Json) -> bool {
@@ -289,22 +370,25 @@ fn print_answer<R: AllocGlobal + Print + Eprint>(
 fn lines_of(
     alloc: Global,
     client: &Client<'_>,
+    ask: Ask<'_>,
     said: &Json,
 ) -> Result<Option<Vec<u8>>, AllocError> {
+    let key = asked_key(ask);
     match (client.process, said.get("error").and_then(Json::as_str)) {
-        (Some(process), _) => answer_lines(alloc, process, said),
+        (Some(process), _) => answer_lines(alloc, process, key, said),
         (None, Some(name)) => Ok(Some(format!(in alloc; "refused {name}\n")?.into_bytes())),
-        (None, None) => answer_lines(alloc, 0, said),
+        (None, None) => answer_lines(alloc, 0, key, said),
     }
 }
 
-// Shows what the server says. An error is the status.
+// Shows what the server says to this. An error is the status.
 fn show<R: AllocGlobal + Print + Eprint>(
     rt: &R,
     client: &Client<'_>,
+    ask: Ask<'_>,
     said: &Json,
 ) -> Result<(), u8> {
-    let Ok(lines) = lines_of(rt.alloc(), client, said) else {
+    let Ok(lines) = lines_of(rt.alloc(), client, ask, said) else {
         return Err(no_memory(rt));
     };
     let Some(lines) = lines else {
@@ -344,7 +428,7 @@ fn show_joined<R: AllocGlobal + Print + Eprint>(
     client: &mut Client<'_>,
     said: &Json,
 ) -> Result<(), u8> {
-    show(rt, client, said)?;
+    show(rt, client, Ask::JoinAny(None), said)?;
     match client.done {
         Some(number) if is_lost(said) => {
             let _reported = eprintln!(rt;
@@ -353,7 +437,7 @@ fn show_joined<R: AllocGlobal + Print + Eprint>(
             Err(STREAM_FAILED)
         }
         _ => {
-            client.note(said);
+            client.note(Ask::JoinAny(None), said);
             Ok(())
         }
     }
@@ -377,34 +461,30 @@ fn reconnect<R: AllocGlobal + Print + Eprint + Clock + Net<Stream = TcpStream>>(
     }
 }
 
-// The same question, on a new connection. An error is the status.
-fn ask_again<R: AllocGlobal + Print + Eprint>(
-    rt: &R,
-    client: &Client<'_>,
-    stream: &mut TcpStream,
-    ask: Ask<'_>,
-) -> Result<(), u8> {
-    match exchange(rt.alloc(), stream, ask) {
-        Ok(said) => show(rt, client, &said),
-        Err(error) => Err(tell_error(rt, client.connecting, &error)),
-    }
-}
-
-// A call whose connection is broken: what the join of a new one says is shown, and what only reads is asked for again, but
-// no edit. An error is the status.
+// A call whose connection is broken: what the join of a new one says is shown, and what may be asked again is asked until it is
+// answered: the answer. None where it may not. An error is the status.
 fn call_anew<R: AllocGlobal + Print + Eprint + Clock + Net<Stream = TcpStream>>(
     rt: &R,
     client: &mut Client<'_>,
     stream: &mut TcpStream,
     ask: Ask<'_>,
-) -> Result<(), u8> {
-    let _reported = eprintln!(rt; "dsheet: the connection is broken; joining anew");
-    reconnect(rt, client, stream)?;
-    if only_reads(ask) {
-        ask_again(rt, client, stream, ask)
-    } else {
-        Ok(())
+) -> Result<Option<Json>, u8> {
+    for _ in 0..AGAIN {
+        let _reported = eprintln!(rt; "dsheet: the connection is broken; joining anew");
+        reconnect(rt, client, stream)?;
+        if !may_repeat(ask) {
+            return Ok(None);
+        }
+        match exchange(rt.alloc(), stream, ask) {
+            Ok(said) => return Ok(Some(said)),
+            Err(error) if is_final(&error) => {
+                return Err(tell_error(rt, client.connecting, &error));
+            }
+            Err(_) => {}
+        }
     }
+    let error = io::Error::from(ErrorKind::UnexpectedEof);
+    Err(tell_error(rt, client.connecting, &error))
 }
 
 // A client without a process joins any; what the server says is shown. An error is the status.
@@ -418,7 +498,7 @@ fn join_any<R: AllocGlobal + Print + Eprint + Clock + Net<Stream = TcpStream>>(
         Err(error) => return Err(tell_error(rt, client.connecting, &error)),
     };
     if is_refusal(&said) {
-        show(rt, client, &said)?;
+        show(rt, client, Ask::JoinAny(None), &said)?;
         return Err(REFUSED);
     }
     client.note_process(&said);
@@ -426,7 +506,7 @@ fn join_any<R: AllocGlobal + Print + Eprint + Clock + Net<Stream = TcpStream>>(
 }
 
 // One call, that of a line in this notation, on this connection, or on a new one where it is broken: what the new join says
-// is shown then, and an edit is not sent again. An error is the status.
+// is shown then, and an edit without a key is not sent again. An error is the status.
 fn call<R: AllocGlobal + Print + Eprint + Clock + Net<Stream = TcpStream>>(
     rt: &R,
     client: &mut Client<'_>,
@@ -443,10 +523,13 @@ fn call<R: AllocGlobal + Print + Eprint + Clock + Net<Stream = TcpStream>>(
         Err(error) if is_final(&error) => {
             return Err(tell_error(rt, client.connecting, &error));
         }
-        Err(_) => return call_anew(rt, client, stream, ask),
+        Err(_) => match call_anew(rt, client, stream, ask)? {
+            Some(said) => said,
+            None => return Ok(()),
+        },
     };
-    show(rt, client, &said)?;
-    client.note(&said);
+    show(rt, client, ask, &said)?;
+    client.note(ask, &said);
     show_note(rt, notation, line, &said);
     Ok(())
 }
@@ -468,7 +551,14 @@ fn obey<R: AllocGlobal + Print + Eprint + Clock + Net<Stream = TcpStream>>(
     let open = opened_line(rt, notation, Commands::OfClient, line.number, line.text)?;
     match read_ask(open.as_bytes()) {
         Ok(ask) => {
-            let ask = ask.bearing(client.token);
+            let Ok(key) = client.draw_key(rt.alloc(), ask) else {
+                return Err(no_memory(rt));
+            };
+            let key = match &key {
+                Some(key) => Some(key.as_str()),
+                None => None,
+            };
+            let ask = ask.bearing(client.token).keyed(key);
             call(rt, client, notation, stream, line.text, ask)
         }
         Err(fault) => {
@@ -571,7 +661,7 @@ fn converse<R: AllocGlobal + Input + Print + Eprint + Clock + Net<Stream = TcpSt
     client: &mut Client<'_>,
     notation: Notation,
 ) -> Result<(), u8> {
-    let Joined { mut stream, said } = match join(rt, client) {
+    let Joined { mut stream, said } = match join_first(rt, client) {
         Ok(joined) => joined,
         Err(error) => return Err(tell_error(rt, client.connecting, &error)),
     };
@@ -585,8 +675,10 @@ fn converse<R: AllocGlobal + Input + Print + Eprint + Clock + Net<Stream = TcpSt
 }
 
 /// `dsheet connect`: joins a process of a server, any where it is asked for none, and then by the first line that needs one,
-/// and makes a call for each line of standard input, with formulas in this notation; what the server says goes to standard output as the lines of a script's answers. Where lines are typed, there are
-/// prompts on standard error, and a line with a fault ends nothing. Gives the status.
+/// and makes a call for each line of standard input, with formulas in this notation; what the server says goes to standard
+/// output as the lines of a script's answers. Where the edits get keys, each counts once at most, and is sent again after a
+/// broken connection. Where lines are typed, there are prompts on standard error, and a line with a fault ends nothing. Gives the
+/// status.
 pub fn connect<R: AllocGlobal + Input + Print + Eprint + Clock + Files + Net<Stream = TcpStream>>(
     rt: &R,
     connecting: Connecting<'_>,
@@ -603,6 +695,7 @@ pub fn connect<R: AllocGlobal + Input + Print + Eprint + Clock + Files + Net<Str
         token: text_of(&token),
         process: connecting.process,
         done: None,
+        sets: 0,
     };
     match converse(rt, &mut client, notation) {
         Ok(()) => 0,

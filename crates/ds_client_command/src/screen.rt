@@ -20,6 +20,7 @@ report          shows all values
 view            shows all values, also without a process
 get CELL        shows the value of a cell, its last edit that counts, and its text
 history [FROM]  shows the edits that count, from a place on, at most 100
+outcome KEY     shows the edit with a key; where none has it, none ever will
 last            reports what became of the last edit of the process
 help            shows these lines
 quit            ends, as the end of the input does

@@ -13,6 +13,8 @@ abbrev pub media_type : Kind → List ℕ
 media_type kinds.Json = codes "application/json"
 media_type kinds.Lines = codes "application/x-ndjson"
 media_type kinds.Text = codes "text/plain; charset=utf-8"
+media_type kinds.Metrics = codes "text/plain; version=0.0.4; charset=utf-8"
+media_type kinds.Events = codes "text/event-stream"
 media_type kinds.Page = codes "text/html; charset=utf-8"
 
 -- what the page may do: it has all of its code and style, and speaks to its own server alone (Content Security Policy 3)

@@ -2,6 +2,7 @@ pub mod Resources
 pub mod Problems
 pub mod Origins
 pub mod Tokens
+pub mod MetricTexts
 pub mod Bodies
 pub mod Handshakes
 pub mod Statuses
@@ -9,4 +10,5 @@ pub mod Taking
 pub mod Edits
 pub mod Lines
 pub mod Reading
+pub mod Events
 pub mod Sites

@@ -6,7 +6,7 @@ use Rattle.ds_server.specs.declared.request.LineFault.{LineFault}
 use Rattle.ds_server.specs.declared.request.LineFault.TheVariants as fault
 use Rattle.ds_server.specs.declared.session.SessionEnd.{SessionEnd}
 use Rattle.ds_server.specs.declared.session.SessionEnd.TheVariants as ends
-use Rattle.ds_server.specs.Replies.{Said, Joined, JoinedLost, Done, Overtaken, Settled, Unsettled, Tells, GotCell, Listed, Left, Refused, Faulted}
+use Rattle.ds_server.specs.Replies.{Said, Joined, JoinedLost, Done, Overtaken, Settled, Unsettled, Tells, GotCell, Listed, Resolved, Left, Refused, Faulted}
 
 -- where the desk refuses the call
 abbrev pub status_of_refusal : CallRefusal → ℕ
@@ -15,6 +15,7 @@ status_of_refusal (refusal.Text at) = 422
 status_of_refusal refusal.Stopped = 503
 status_of_refusal refusal.RecordsFull = 507
 status_of_refusal refusal.NoMemory = 500
+status_of_refusal refusal.KeyReused = 422
 status_of_refusal refusal.NoEdit = 409
 status_of_refusal refusal.NoHistory = 501
 
@@ -40,6 +41,7 @@ status_of (Unsettled place word) = 503
 status_of (Tells last) = 200
 status_of (GotCell cell value edit) = 200
 status_of (Listed from edits of) = 200
+status_of (Resolved edit) = 200
 status_of Left = 200
 status_of (Refused why) = status_of_refusal why
 status_of (Faulted fault) = status_of_fault fault

@@ -1,11 +1,11 @@
 -- One call by a process that nobody has, which is taken for as long as the call lasts.
-use Rattle.std.specs.Prelude.{◌≢◌, ◌⊎◌, ℕ, ◌+◌, ◌-◌, ◌≤◌, List, Option, Result, Ok, Err}
+use Rattle.std.specs.Prelude.{◌≢◌, ◌⊎◌, ℕ, ◌+◌, ◌-◌, ◌≤◌, List, Option, Some, None, Result, Ok, Err}
 use Rattle.ds_formula.specs.declared.cells.Cell.{Cell}
 use Rattle.ds_formula.specs.Cells.{IsInside}
 use Rattle.ds_state.specs.declared.recovery.LastEdit.{LastEdit}
 use Rattle.ds_server.specs.declared.desk.CallRefusal.{CallRefusal}
 use Rattle.ds_server.specs.declared.desk.CallRefusal.TheVariants as refusal
-use Rattle.ds_server.specs.DeskCalls.{Join, Set, Leave}
+use Rattle.ds_server.specs.DeskCalls.{Call, Join, Set, SetOnce, Leave}
 use Rattle.ds_server.specs.Replies.{Said, Joined, Left, Refused}
 use Rattle.ds_server.specs.Desks.{Rules}
 
@@ -40,7 +40,12 @@ pub data Visits {B : Type 0} (rules : Rules B) (first : B) (does : ℕ → B →
   visits : (process : ℕ) (said : Said) (old mid new : B) → Takes rules first (Ok process) old
       → does process old said mid → rules.does mid (Leave process) Left new → Visits rules first does said new
 
+-- the edit of a cell to a text by the process, with its key, if it is to have one
+abbrev pub edit_call : Cell → List ℕ → Option (List ℕ) → ℕ → Call
+edit_call cell text None process = Set process cell text
+edit_call cell text (Some key) process = SetOnce process cell text key
+
 -- a whole edit by the process of a cell that the sheet has; or, since the sheet has it no more, nothing
-pub data Sets {B : Type 0} (rules : Rules B) (cell : Cell) (text : List ℕ) (process : ℕ) (old : B) : Said → B → Type 0 where
-  sets : (said : Said) (new : B) → IsInside (rules.shape old) cell → rules.does old (Set process cell text) said new → Sets rules cell text process old said new
-  outside : ¬ (IsInside (rules.shape old) cell) → Sets rules cell text process old (Refused refusal.ProcessTaken) old
+pub data Sets {B : Type 0} (rules : Rules B) (cell : Cell) (text : List ℕ) (key : Option (List ℕ)) (process : ℕ) (old : B) : Said → B → Type 0 where
+  sets : (said : Said) (new : B) → IsInside (rules.shape old) cell → rules.does old (edit_call cell text key process) said new → Sets rules cell text key process old said new
+  outside : ¬ (IsInside (rules.shape old) cell) → Sets rules cell text key process old (Refused refusal.ProcessTaken) old

@@ -2,9 +2,11 @@
 #![tactic(auto)]
 
 mod edits;
+mod events;
 mod handshake;
 mod lines;
 pub mod messages;
+pub mod metrics;
 mod origin;
 pub mod page;
 mod problem;

@@ -27,6 +27,10 @@ pub(crate) enum Kind {
     Lines,
     /// A text for people.
     Text,
+    /// Numbers, in the text format of Prometheus.
+    Metrics,
+    /// Server-sent events.
+    Events,
     /// The page.
     Page,
 }
@@ -44,6 +48,8 @@ impl Kind {
             Kind::Json => "application/json",
             Kind::Lines => "application/x-ndjson",
             Kind::Text => "text/plain; charset=utf-8",
+            Kind::Metrics => "text/plain; version=0.0.4; charset=utf-8",
+            Kind::Events => "text/event-stream",
             Kind::Page => "text/html; charset=utf-8",
         })
     }
@@ -84,7 +90,7 @@ pub(crate) fn begin(response: &mut Response, kind: Kind) -> Result<(), AllocErro
     add_common(response, kind)?;
     match kind {
         Kind::Page => add_policy(response),
-        Kind::Json | Kind::Lines | Kind::Text => Ok(()),
+        Kind::Json | Kind::Lines | Kind::Text | Kind::Metrics | Kind::Events => Ok(()),
     }
 }
 

@@ -1,7 +1,22 @@
 //! What a request names, and how it may be asked for.
 
 ghost use Rattle.std.specs.Prelude.{◌≡◌};
-ghost use Rattle.ds_http.specs.Resources.{allows, methods_of, resource_at};
+ghost use Rattle.ds_http.specs.Resources.{allows, methods_of, part_allows, part_at, part_methods, resource_at};
+
+/// What of the sheet a path names. Where there is a token, a request for it has to have it.
+#[derive(Clone, Copy, Debug, PartialEq, Eq)]
+pub(crate) enum Part {
+    /// The values of the sheet.
+    Values,
+    /// A cell: its value and its last edit.
+    Cell,
+    /// The list of edits; a new one, by a request of its own.
+    Edits,
+    /// What became of the edit with a key.
+    Outcome,
+    /// The list of edits, as events.
+    Events,
+}
 
 /// What a path names.
 #[derive(Clone, Copy, Debug, PartialEq, Eq)]
@@ -10,16 +25,28 @@ pub(crate) enum Resource {
     Page,
     /// Whether the server answers.
     Health,
-    /// The values of the sheet.
-    Sheet,
-    /// A cell: its value and its last edit.
-    Cell,
-    /// The list of edits; a new one, by a request of its own.
-    Edits,
+    /// The numbers of the server. Where there is a token, a request for them has to have it.
+    Metrics,
+    /// This of the sheet.
+    OfSheet(Part),
     /// Sessions, each by a request of its own.
     Lines,
     /// A session over a WebSocket.
     Session,
+}
+
+// What of the sheet a path names, if anything.
+fn part_at(path: &str) -> Option<Part>
+    ensures { result ≡ part_at path.now }
+{
+    match path {
+        "/sheet" => Some(Part::Values),
+        "/edits" => Some(Part::Edits),
+        "/events" => Some(Part::Events),
+        _ if path.as_bytes().starts_with(b"/cells/") => Some(Part::Cell),
+        _ if path.as_bytes().starts_with(b"/edits/") => Some(Part::Outcome),
+        _ => None,
+    }
 }
 
 /// What a path names, if anything.
@@ -29,12 +56,34 @@ pub(crate) fn resource_at(path: &str) -> Option<Resource>
     match path {
         "/" => Some(Resource::Page),
         "/healthz" => Some(Resource::Health),
-        "/sheet" => Some(Resource::Sheet),
-        "/edits" => Some(Resource::Edits),
+        "/metrics" => Some(Resource::Metrics),
         "/lines" => Some(Resource::Lines),
         "/session" => Some(Resource::Session),
-        _ if path.as_bytes().starts_with(b"/cells/") => Some(Resource::Cell),
-        _ => None,
+        _ => Some(Resource::OfSheet(part_at(path)?)),
+    }
+}
+
+impl Part {
+    // Whether it may be asked for by this method (RFC 9110, section 9).
+    fn allows(self, method: &str) -> bool
+        ensures { result ≡ part_allows self method.now }
+    {
+        match self {
+            Part::Values | Part::Cell | Part::Outcome | Part::Events => {
+                method == "GET" || method == "HEAD"
+            }
+            Part::Edits => method == "GET" || method == "HEAD" || method == "POST",
+        }
+    }
+
+    // By which methods it may be asked for.
+    fn methods(self) -> &'static str
+        ensures { result.now ≡ part_methods self }
+    {
+        match self {
+            Part::Values | Part::Cell | Part::Outcome | Part::Events => "GET, HEAD",
+            Part::Edits => "GET, HEAD, POST",
+        }
     }
 }
 
@@ -44,10 +93,10 @@ impl Resource {
         ensures { result ≡ allows self method.now }
     {
         match self {
-            Resource::Page | Resource::Health | Resource::Sheet | Resource::Cell => {
+            Resource::Page | Resource::Health | Resource::Metrics => {
                 method == "GET" || method == "HEAD"
             }
-            Resource::Edits => method == "GET" || method == "HEAD" || method == "POST",
+            Resource::OfSheet(part) => part.allows(method),
             Resource::Session => method == "GET",
             Resource::Lines => method == "POST",
         }
@@ -58,8 +107,8 @@ impl Resource {
         ensures { result.now ≡ methods_of self }
     {
         match self {
-            Resource::Page | Resource::Health | Resource::Sheet | Resource::Cell => "GET, HEAD",
-            Resource::Edits => "GET, HEAD, POST",
+            Resource::Page | Resource::Health | Resource::Metrics => "GET, HEAD",
+            Resource::OfSheet(part) => part.methods(),
             Resource::Session => "GET",
             Resource::Lines => "POST",
         }

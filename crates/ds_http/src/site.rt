@@ -2,68 +2,86 @@
 
 ghost use Rattle.std.specs.Prelude.{◌≡◌, None, OnOk, OnErr, IsTrue, bytes_eq, codes, option_map};
 ghost use Rattle.http.specs.Request.{head_of, body_of};
+ghost use Rattle.http_header.specs.HeaderMap.{get as value_of};
 ghost use Rattle.http_server.specs.Response.{IsBlank};
 ghost use Rattle.http_uri.specs.Uri.{uri_path};
 ghost use Rattle.ds_http.specs.Resources.{allows, resource_at};
 ghost use Rattle.ds_server.specs.DeskCalls.{View};
 ghost use Rattle.ds_server.specs.LineAnswers.{response_view};
-ghost use Rattle.ds_http.specs.Reading.{cell_in, from_in};
-ghost use Rattle.ds_http.specs.Sites.{AnswersCall, AnswersCell, AnswersEdit, AnswersEdits, AnswersLines, AnswersList, AnswersOfIf, ListsFrom, Obeys, ObeysAt};
+ghost use Rattle.ds_http.specs.Events.{events_from};
+ghost use Rattle.ds_http.specs.Reading.{cell_in, from_in, key_in};
+ghost use Rattle.ds_http.specs.Sites.{AnswersCall, AnswersCell, AnswersEdit, AnswersEdits, AnswersEvents, AnswersLines, AnswersList, AnswersMetricsIf, AnswersOfIf, AnswersOutcome, ListsFrom, Obeys, ObeysAt};
 
 use crate::edits::post_edit;
+use crate::events::{events_from, say_event};
 use crate::handshake::shake;
 use crate::lines::{play_lines, whole_lines};
+use crate::metrics::{Counts, metrics_text};
 use crate::origin::is_own;
 use crate::problem::Problem;
-use crate::reading::{cell_in, from_in};
+use crate::reading::{cell_in, from_in, key_in};
 use crate::reply::{Kind, begin, deny, end, refuse, refuse_method, say, tell};
-use crate::resource::{Resource, resource_at};
+use crate::resource::{Part, Resource, resource_at};
 use crate::status::status_at;
 use crate::token::may_act;
 use bytes::Bytes;
 use ds_server::answer::Response as Answer;
 use ds_server::desk::Desk;
 use ds_server::request::LineFault;
-use ds_server::session::{get, history, view};
-use http::Request;
+use ds_server::session::{get, history, resolve, view};
+use http::{HeaderMap, HeaderValue, Request, StatusCode};
 use http_server::{Response, Service};
 use std::alloc::{AllocError, Global};
 
-/// A sheet as one connection of HTTP sees it: a desk, the address that is served, and the page for people.
+/// A sheet as one connection of HTTP sees it: a desk, who counts what the server does, the address that is served, and the
+/// page for people.
 #[derive(Drop)]
-pub struct Site<'a, B: Desk> {
+pub struct Site<'a, B: Desk, C: Counts> {
     alloc: Global,
     address: &'a str,
     page: &'a str,
     desk: B,
+    counts: C,
 }
 
-impl<'a, B: Desk> Site<'a, B> {
-    /// Over this desk. Requests for another host than loopback or this address, as `192.168.1.5:8080`, are refused.
-    pub fn new(alloc: Global, address: &'a str, page: &'a str, desk: B) -> Site<'a, B> {
+impl<'a, B: Desk, C: Counts> Site<'a, B, C> {
+    /// Over this desk, with the numbers that `counts` gives. Requests for another host than loopback or this address, as
+    /// `192.168.1.5:8080`, are refused.
+    pub fn new(
+        alloc: Global,
+        address: &'a str,
+        page: &'a str,
+        desk: B,
+        counts: C,
+    ) -> Site<'a, B, C> {
         Site {
             alloc,
             address,
             page,
             desk,
+            counts,
         }
     }
 }
+
+// The field by which a request gives its edit a key.
+const KEY_FIELD: &str = "idempotency-key";
 
 // One edit.
 fn answer_edit<B: Desk>(
     alloc: Global,
     desk: &mut B,
+    headers: &HeaderMap<HeaderValue>,
     body: &[u8],
     response: &mut Response,
 ) -> Result<(), AllocError>
     requires { IsBlank response.old }
-    ensures answers { OnOk result (AnswersEdit B.rules desk.old body.now response.new desk.new) }
+    ensures answers { OnOk result (AnswersEdit B.rules desk.old (value_of headers.now (codes "idempotency-key")) body.now response.new desk.new) }
     ensures kept { OnErr result (desk.new ≡ desk.old) }
 {
     begin(response, Kind::Json)?;
     let shape = desk.shape();
-    let answer = post_edit(alloc, desk, body);
+    let answer = post_edit(alloc, desk, headers.get(KEY_FIELD), body);
     say(alloc, response, &shape, &answer);
     Ok(())
 }
@@ -106,6 +124,27 @@ fn answer_cell<B: Desk>(
     Ok(())
 }
 
+// What became of the edit with a key, where the path names one.
+fn answer_outcome<B: Desk>(
+    alloc: Global,
+    desk: &mut B,
+    path: &str,
+    response: &mut Response,
+) -> Result<(), AllocError>
+    requires { IsBlank response.old }
+    ensures answers { OnOk result (AnswersOutcome B.rules desk.old (key_in path.now) response.new desk.new) }
+    ensures kept { OnErr result (desk.new ≡ desk.old) }
+{
+    let Some(key) = key_in(path) else {
+        return refuse(response, Problem::NotFound);
+    };
+    begin(response, Kind::Json)?;
+    let shape = desk.shape();
+    let answer = resolve(alloc, desk, None, key);
+    say(alloc, response, &shape, &answer);
+    Ok(())
+}
+
 // What a query for the list of edits is answered.
 fn listed<B: Desk>(alloc: Global, desk: &mut B, from: Option<usize>) -> Answer
     ensures { ListsFrom B.rules desk.old from (response_view result) desk.new }
@@ -134,6 +173,29 @@ fn answer_list<B: Desk>(
     Ok(())
 }
 
+// The field by which a request says what events it has.
+const EVENT_FIELD: &str = "last-event-id";
+
+// A part of the list of edits, as an event.
+fn answer_events<B: Desk>(
+    alloc: Global,
+    desk: &mut B,
+    headers: &HeaderMap<HeaderValue>,
+    query: Option<&str>,
+    response: &mut Response,
+) -> Result<(), AllocError>
+    requires { IsBlank response.old }
+    ensures answers { OnOk result (AnswersEvents B.rules desk.old (events_from (value_of headers.now (codes "last-event-id")) (option_map (λ q. q.now) query.entry)) response.new desk.new) }
+    ensures kept { OnErr result (desk.new ≡ desk.old) }
+{
+    begin(response, Kind::Events)?;
+    let shape = desk.shape();
+    let from = events_from(headers.get(EVENT_FIELD), query);
+    let answer = listed(alloc, desk, from);
+    say_event(alloc, response, &shape, &answer);
+    Ok(())
+}
+
 // The list of edits, or a new one.
 fn answer_edits<B: Desk>(
     alloc: Global,
@@ -146,31 +208,45 @@ fn answer_edits<B: Desk>(
     ensures kept { OnErr result (desk.new ≡ desk.old) }
 {
     match request.method().as_str() == "POST" {
-        true => answer_edit(alloc, desk, request.body().as_slice(), response),
+        true => answer_edit(
+            alloc,
+            desk,
+            request.headers(),
+            request.body().as_slice(),
+            response,
+        ),
         false => answer_list(alloc, desk, request.uri().query(), response),
     }
 }
 
-// What the sheet has, where the request may act.
+// What is asked of the sheet, where the request may act.
 fn answer_of_if<B: Desk>(
     alloc: Global,
     desk: &mut B,
     may: bool,
-    resource: Resource,
+    part: Part,
     request: &Request<Bytes>,
     response: &mut Response,
 ) -> Result<(), AllocError>
     requires { IsBlank response.old }
-    ensures answers { OnOk result (AnswersOfIf B.rules desk.old may resource request.now response.new desk.new) }
+    ensures answers { OnOk result (AnswersOfIf B.rules desk.old may part request.now response.new desk.new) }
     ensures kept { OnErr result (desk.new ≡ desk.old) }
 {
     if !may {
         return deny(response);
     }
-    match resource {
-        Resource::Cell => answer_cell(alloc, desk, request.uri().path(), response),
-        Resource::Edits => answer_edits(alloc, desk, request, response),
-        _ => answer_sheet(alloc, desk, response),
+    match part {
+        Part::Values => answer_sheet(alloc, desk, response),
+        Part::Cell => answer_cell(alloc, desk, request.uri().path(), response),
+        Part::Edits => answer_edits(alloc, desk, request, response),
+        Part::Outcome => answer_outcome(alloc, desk, request.uri().path(), response),
+        Part::Events => answer_events(
+            alloc,
+            desk,
+            request.headers(),
+            request.uri().query(),
+            response,
+        ),
     }
 }
 
@@ -192,25 +268,49 @@ fn answer_lines<B: Desk>(
     Ok(())
 }
 
+// The numbers of the server, where the request may act.
+fn answer_metrics_if<C: Counts>(
+    alloc: Global,
+    counts: &C,
+    may: bool,
+    response: &mut Response,
+) -> Result<(), AllocError>
+    requires { IsBlank response.old }
+    ensures { OnOk result (AnswersMetricsIf (C.gives counts.now) may response.new) }
+{
+    if !may {
+        return deny(response);
+    }
+    begin(response, Kind::Metrics)?;
+    let metrics = counts.metrics();
+    end(response, StatusCode::OK, metrics_text(alloc, &metrics));
+    Ok(())
+}
+
 // What is answered to a request for a resource, by a method that it allows.
-fn obey<B: Desk>(
+fn obey<B: Desk, C: Counts>(
     alloc: Global,
     desk: &mut B,
+    counts: &C,
     page: &str,
     resource: Resource,
     request: &Request<Bytes>,
     response: &mut Response,
 ) -> Result<(), AllocError>
     requires { IsBlank response.old }
-    ensures obeys { OnOk result (Obeys B.rules page.now desk.old resource request.now response.new desk.new) }
+    ensures obeys { OnOk result (Obeys B.rules (C.gives counts.now) page.now desk.old resource request.now response.new desk.new) }
     ensures kept { OnErr result (desk.new ≡ desk.old) }
 {
     match resource {
         Resource::Page => tell(response, Kind::Page, page.as_bytes()),
         Resource::Health => tell(response, Kind::Text, b"ok\n"),
-        Resource::Sheet | Resource::Cell | Resource::Edits => {
+        Resource::Metrics => {
             let may = may_act(desk, request.headers());
-            answer_of_if(alloc, desk, may, resource, request, response)
+            answer_metrics_if(alloc, counts, may, response)
+        }
+        Resource::OfSheet(part) => {
+            let may = may_act(desk, request.headers());
+            answer_of_if(alloc, desk, may, part, request, response)
         }
         Resource::Lines => answer_lines(alloc, desk, request.body().as_slice(), response),
         Resource::Session => shake(alloc, request.headers(), response),
@@ -218,30 +318,31 @@ fn obey<B: Desk>(
 }
 
 // What is answered to a request that may be answered.
-fn answer<B: Desk>(
+fn answer<B: Desk, C: Counts>(
     alloc: Global,
     desk: &mut B,
+    counts: &C,
     page: &str,
     request: &Request<Bytes>,
     response: &mut Response,
 ) -> Result<(), AllocError>
     requires { IsBlank response.old }
-    ensures obeys { OnOk result (ObeysAt B.rules page.now desk.old (resource_at (uri_path (head_of request.now).uri)) request.now response.new desk.new) }
+    ensures obeys { OnOk result (ObeysAt B.rules (C.gives counts.now) page.now desk.old (resource_at (uri_path (head_of request.now).uri)) request.now response.new desk.new) }
     ensures kept { OnErr result (desk.new ≡ desk.old) }
 {
     match resource_at(request.uri().path()) {
         None => refuse(response, Problem::NotFound),
         Some(resource) if resource.allows(request.method().as_str()) => {
-            obey(alloc, desk, page, resource, request, response)
+            obey(alloc, desk, counts, page, resource, request, response)
         }
         Some(resource) => refuse_method(response, resource),
     }
 }
 
-impl<B: Desk> Service for Site<'_, B> {
+impl<B: Desk, C: Counts> Service for Site<'_, B, C> {
     ghost use Rattle.ds_http.specs.Sites.{Answers};
 
-    ghost answers = { λ old request response new. Answers B.rules old.address.now old.page.now old.desk request response new.desk × (new.address ≡ old.address) × (new.page ≡ old.page) };
+    ghost answers = { λ old request response new. Answers B.rules (C.gives old.counts) old.address.now old.page.now old.desk request response new.desk × (new.address ≡ old.address) × (new.page ≡ old.page) × (new.counts ≡ old.counts) };
 
     fn call(
         &mut self,
@@ -251,6 +352,13 @@ impl<B: Desk> Service for Site<'_, B> {
         if !is_own(request.headers(), self.address) {
             return refuse(response, Problem::ForeignOrigin);
         }
-        answer(self.alloc, &mut self.desk, self.page, request, response)
+        answer(
+            self.alloc,
+            &mut self.desk,
+            &self.counts,
+            self.page,
+            request,
+            response,
+        )
     }
 }

@@ -18,7 +18,7 @@ fn status_of_refusal(why: CallRefusal) -> StatusCode
         CallRefusal::ProcessTaken | CallRefusal::Stopped => StatusCode::SERVICE_UNAVAILABLE,
         CallRefusal::NoEdit => StatusCode::CONFLICT,
         CallRefusal::NoHistory => StatusCode::NOT_IMPLEMENTED,
-        CallRefusal::Text(_) => StatusCode::UNPROCESSABLE_ENTITY,
+        CallRefusal::Text(_) | CallRefusal::KeyReused => StatusCode::UNPROCESSABLE_ENTITY,
         CallRefusal::RecordsFull => StatusCode::INSUFFICIENT_STORAGE,
         CallRefusal::NoMemory => StatusCode::INTERNAL_SERVER_ERROR,
     }
@@ -51,7 +51,8 @@ pub(crate) fn status_of(response: &Response) -> StatusCode
         | Response::Settled(_)
         | Response::Tells(_)
         | Response::GotCell(_, _, _)
-        | Response::Listed(_, _) => StatusCode::OK,
+        | Response::Listed(_, _)
+        | Response::Resolved(_) => StatusCode::OK,
         Response::Overtaken(_, _) => StatusCode::CONFLICT,
         Response::Unsettled(_, _) => StatusCode::SERVICE_UNAVAILABLE,
         Response::Refused(why) => status_of_refusal(*why),

@@ -15,6 +15,7 @@ fn is_taken(why: CallRefusal) -> bool
         CallRefusal::Text(_)
         | CallRefusal::Stopped
         | CallRefusal::RecordsFull
+        | CallRefusal::KeyReused
         | CallRefusal::NoEdit
         | CallRefusal::NoHistory
         | CallRefusal::NoMemory => false,

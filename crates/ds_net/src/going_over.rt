@@ -7,11 +7,12 @@ ghost use Rattle.ds_net_desks.specs.SeatsOfStores.{AreSeatsOf};
 use ds_net_desks::listing::listed_in;
 use ds_net_desks::numbered_seat::{NumberedSeat, seats_of};
 use ds_net_desks::seat_pool::SeatPool;
-use ds_net_floor::keeping::Keeping;
+use ds_net_floor::keeping::{Backlog, Batch, Keeping};
 use ds_server::desk::ListedEdit;
 use ds_shared_seats::sheet::OpenSheet;
 use ds_store::fault::StoreFault;
 use ds_store::store::Store;
+use ds_store_keys::table::KeyTable;
 use sqlite::Alter;
 use std::alloc::Global;
 use std::sync::Wait;
@@ -24,12 +25,30 @@ pub(crate) struct ServedSheet<'a> {
     epoch: u64,
 }
 
-// A sheet to which a store has gone over: the seats of its processes that may be joined, and its edits that count.
+// A sheet to which a store has gone over: the seats of its processes that may be joined, its edits that count, and the keys that
+// the store has.
 #[derive(Drop)]
 struct NextSheet {
     sheet: OpenSheet,
     seats: Vec<NumberedSeat>,
     edits: Vec<ListedEdit>,
+    keys: KeyTable,
+}
+
+// Keeps what the keeper has heard of and not taken yet, if there is anything.
+fn keep_rest<S: Alter + Drop>(
+    alloc: Global,
+    backlog: &mut Backlog,
+    store: &mut Store<S>,
+) -> Result<(), StoreFault> {
+    let batch = backlog.take(alloc);
+    if batch.is_empty() {
+        return Ok(());
+    }
+    let Batch { edits, keys } = batch;
+    let committed = store.keep_all(alloc, edits, keys)?;
+    backlog.keep(&committed);
+    Ok(())
 }
 
 // The store goes over to a new sheet, the one of this epoch. Nobody edits meanwhile.
@@ -38,17 +57,20 @@ fn next_sheet<S: Alter + Drop>(
     store: &mut Store<S>,
     epoch: u64,
 ) -> Result<NextSheet, StoreFault>
-    ensures { IfOk result (λ next. AreSeatsOf store.new.layout store.new.joins store.new.counts.counts.items store.new.sums epoch next.seats.items (map entry_view next.edits.items)) }
+    ensures { IfOk result (λ next. AreSeatsOf store.new.layout store.new.joins store.new.counts.counts.items store.new.sums epoch next.seats.items (map entry_view next.edits.items) next.keys) }
 {
     let held = store.lines(alloc)?;
     let next = store.go_over(alloc, &held)?;
     let (sheet, seats) = next.sheet.into_parts();
     let seats = seats_of(alloc, store, &next.lines, seats, epoch)?;
-    let edits = listed_in(alloc, &store.layout(), store.joins(), &next.lines)?;
+    let layout = store.layout();
+    let edits = listed_in(alloc, &layout, store.joins(), &next.lines)?;
+    let keys = KeyTable::of_lines(alloc, &layout, &next.lines)?;
     Ok(NextSheet {
         sheet,
         seats,
         edits,
+        keys,
     })
 }
 
@@ -72,19 +94,16 @@ impl<'a> ServedSheet<'a> {
         store: &mut Store<S>,
     ) -> Result<(), StoreFault> {
         let mut backlog = keeping.take_turn(rt);
-        let edits = backlog.take(alloc);
-        if !edits.is_empty() {
-            let committed = store.keep_all(alloc, edits)?;
-            backlog.keep(&committed);
-        }
+        keep_rest(alloc, &mut backlog, store)?;
         let epoch = self.epoch.saturating_add(1);
         let NextSheet {
             sheet,
             seats,
             edits,
+            keys,
         } = next_sheet(alloc, store, epoch)?;
         self.pool.go_over(rt, seats, epoch);
-        backlog.go_over(edits, store.joins());
+        backlog.go_over(edits, store.joins(), keys);
         self.sheet = sheet;
         self.epoch = epoch;
         keeping.wake_all();

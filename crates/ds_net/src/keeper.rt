@@ -2,13 +2,14 @@
 
 use crate::going_over::ServedSheet;
 use ds_net_floor::door::Door;
-use ds_net_floor::keeping::{Drained, Keeping, News};
+use ds_net_floor::keeping::{Batch, Drained, Keeping, News};
+use ds_store::committed::Committed;
 use ds_store::fault::StoreFault;
 use ds_store::store::Store;
 use sqlite::Alter;
 use std::alloc::Global;
 use std::sync::Wait;
-use std::time::Clock;
+use std::time::{Clock, Instant};
 
 /// What the thread that keeps does beside: between two commits, and four times a second at least. It may not wait.
 pub trait Attendant {
@@ -16,12 +17,32 @@ pub trait Attendant {
     fn attend(&mut self);
 }
 
-// Keeps the edits that it hears of, as many at once as have come, until no more come and all are kept. Where a process has
+// Commits what was heard, and counts how long that took.
+fn commit<S: Alter + Drop, R: Clock>(
+    rt: &R,
+    alloc: Global,
+    door: &Door,
+    store: &mut Store<S>,
+    batch: Batch,
+) -> Result<Committed, StoreFault> {
+    let Batch { edits, keys } = batch;
+    let begun = Instant::now(rt).ok();
+    let committed = store.keep_all(alloc, edits, keys)?;
+    if let Some(begun) = begun
+        && let Ok(took) = begun.elapsed(rt)
+    {
+        door.count_commit(took);
+    }
+    Ok(committed)
+}
+
+// Keeps the edits and the keys that it hears of, as many at once as have come, until no more come and all are kept. Where a process has
 // few left, it goes over to a new sheet.
 fn keep_on<S: Alter + Drop, R: Wait + Clock, T: Attendant>(
     rt: &R,
     alloc: Global,
     keeping: &Keeping,
+    door: &Door,
     store: &mut Store<S>,
     served_sheet: &mut ServedSheet<'_>,
     attendant: &mut T,
@@ -29,8 +50,8 @@ fn keep_on<S: Alter + Drop, R: Wait + Clock, T: Attendant>(
     for _ in rt.forever() {
         attendant.attend();
         match keeping.take(rt, alloc) {
-            News::Edits(edits) => {
-                let committed = store.keep_all(alloc, edits)?;
+            News::Some(batch) => {
+                let committed = commit(rt, alloc, door, store, batch)?;
                 keeping.count(rt, &committed);
                 if store.is_short() {
                     served_sheet.go_over(rt, alloc, keeping, store)?;
@@ -57,7 +78,7 @@ pub(crate) fn keep<S: Alter + Drop, R: Wait + Clock, T: Attendant>(
     served_sheet: &mut ServedSheet<'_>,
     attendant: &mut T,
 ) -> Result<Drained, StoreFault> {
-    let kept = keep_on(rt, alloc, keeping, store, served_sheet, attendant);
+    let kept = keep_on(rt, alloc, keeping, door, store, served_sheet, attendant);
     if kept.is_err() {
         keeping.fail(rt);
         door.tell();

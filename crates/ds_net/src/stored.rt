@@ -4,6 +4,8 @@ ghost use Rattle.std.specs.Prelude.{◌≡◌, IfErr, IfOk, IfSome, map};
 ghost use Rattle.std.specs.String.{string_bytes};
 ghost use Rattle.ds_server.specs.Replies.{entry_view};
 ghost use Rattle.ds_net_desks.specs.Listings.{listed_in};
+ghost use Rattle.ds_store_keys.specs.Keys.{keys_of};
+ghost use Rattle.ds_store_keys.specs.Tables.{AreKeys};
 ghost use Rattle.ds_net_connections.specs.Accepting.{IsLasting, IsServed, IsStoredLasting};
 
 use crate::going_over::ServedSheet;
@@ -24,6 +26,7 @@ use ds_shared_seats::sheet::OpenSheet;
 use ds_store::seated::SeatedSheet;
 use ds_store::store::{Opened, Store};
 use ds_store_journal::journal::read_edit;
+use ds_store_keys::table::KeyTable;
 use log::{Log, error, info};
 use sqlite::Alter;
 use std::alloc::Global;
@@ -170,13 +173,14 @@ fn references(alloc: Global, sheet: &SeatedSheet, lines: &[String]) -> Option<Kn
     Some(references)
 }
 
-// The sheet of a store, the pool of its seats, what is known of its references, and its edits that count.
+// The sheet of a store, the pool of its seats, what is known of its references, its edits that count, and its keys.
 #[derive(Drop)]
 struct OpenedSheet {
     sheet: OpenSheet,
     pool: SeatPool,
     references: KnownReferences,
     edits: Vec<ListedEdit>,
+    keys: KeyTable,
 }
 
 // So of the sheet that the store's edits have made. None where an allocation fails.
@@ -187,12 +191,13 @@ fn opened_with<S: Alter + Drop, R: Wait>(
     sheet: SeatedSheet,
     lines: &[String],
 ) -> Option<OpenedSheet>
-    ensures { IfSome result (λ opened. map entry_view opened.edits.items ≡ listed_in store.now.layout store.now.joins (map string_bytes lines.now)) }
+    ensures edits { IfSome result (λ opened. map entry_view opened.edits.items ≡ listed_in store.now.layout store.now.joins (map string_bytes lines.now)) }
+    ensures keys { IfSome result (λ opened. AreKeys opened.keys (keys_of store.now.layout (map string_bytes lines.now))) }
 {
     let references = references(alloc, &sheet, lines)?;
-    let Ok(edits) = listed_in(alloc, &store.layout(), store.joins(), lines) else {
-        return None;
-    };
+    let layout = store.layout();
+    let edits = listed_in(alloc, &layout, store.joins(), lines).ok()?;
+    let keys = KeyTable::of_lines(alloc, &layout, lines).ok()?;
     let (sheet, seats) = sheet.into_parts();
     let seats = seats_of(alloc, store, lines, seats, 0).ok()?;
     let pool = SeatPool::new(rt, alloc, seats).ok()?;
@@ -201,6 +206,7 @@ fn opened_with<S: Alter + Drop, R: Wait>(
         pool,
         references,
         edits,
+        keys,
     })
 }
 
@@ -234,6 +240,7 @@ pub fn serve<S: Alter + Drop, T: Attendant, R: Threads + Wait + Clock + Log + Sy
             pool,
             references,
             edits,
+            keys,
         },
     ) = opened_with(rt, alloc, &store, sheet, &lines)
     else {
@@ -241,7 +248,7 @@ pub fn serve<S: Alter + Drop, T: Attendant, R: Threads + Wait + Clock + Log + Sy
     };
     drop(lines);
     let mut served_sheet = ServedSheet::new(sheet, &pool);
-    let keeping = Keeping::new(alloc, edits, store.joins());
+    let keeping = Keeping::new(alloc, edits, store.joins(), keys);
     let floor = StoredFloor::new(&references, &pool, service.workers, token, &keeping);
     let ended = serve_beside(
         rt,

@@ -1,4 +1,5 @@
 pub mod Crossing
+mod Keys
 mod Listed
 mod Reading
 mod Sharing

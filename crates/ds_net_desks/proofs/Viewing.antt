@@ -10,8 +10,8 @@ use Rattle.ds_net_desks.specs.StoredDesks.{Notes, StoredDeals}
 
 -- a view, whatever seat the session has
 pub views : (shape : Shape) (old new : Option NumberedSeat) (before after : Notes) (joined : Option ℕ) (what : Said) → (HasViewed old what new × (after.seen ≡ before.seen)) ⊎ (HasNoSeat old new × HasComputed shape before.seen what after.seen)
-    → after.heard ≡ before.heard → StoredDeals shape old before (View joined) what new after
-views shape (Some old) (Some new) before after joined what h e = (h, e)
-views shape (Some old) None before after joined what h e = (h, e)
-views shape None (Some new) before after joined what h e = (h, e)
-views shape None None before after joined what h e = (h, e)
+    → after.heard ≡ before.heard → after.keyed ≡ before.keyed → StoredDeals shape old before (View joined) what new after
+views shape (Some old) (Some new) before after joined what h e k = (h, e, k)
+views shape (Some old) None before after joined what h e k = (h, e, k)
+views shape None (Some new) before after joined what h e k = (h, e, k)
+views shape None None before after joined what h e k = (h, e, k)

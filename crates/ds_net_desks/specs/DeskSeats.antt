@@ -3,7 +3,7 @@ use Rattle.std.specs.Prelude.{◌≡◌, ◌⊎◌, ℕ, Option, Some, None}
 use Rattle.ds_state.specs.declared.recovery.LastEdit.{LastEdit}
 use Rattle.ds_shared_seats.specs.declared.seat.Seat.{Seat}
 use Rattle.ds_server.specs.declared.desk.CallRefusal.TheVariants as refusals
-use Rattle.ds_server.specs.DeskCalls.{Call, Get, Join, JoinAny, Last, Leave, Listing, Report, Set, Undo, View}
+use Rattle.ds_server.specs.DeskCalls.{Call, Get, Join, JoinAny, Last, Leave, Listing, Report, Resolve, Set, SetOnce, Undo, View}
 use Rattle.ds_server.specs.Replies as said
 use Rattle.ds_net_desks.specs.NumberedSeats.{CatchesUp, ChangesSeatAlone, seen_at}
 use Rattle.ds_net_desks.specs.SharedDesks.{HasRecovered, HasReported, HasSet}
@@ -66,8 +66,10 @@ SeatDeals (Some old) (Set p cell text) what (Some new) = Uses (λ seat plain aft
 SeatDeals (Some old) (Report p) what (Some new) = Uses HasReported old what new
 SeatDeals old (View joined) what new = HasViewed old what new ⊎ (HasNoSeat old new × (what ≡ said.Refused refusals.ProcessTaken))
 SeatDeals (Some old) (Last p) what (Some new) = Uses HasRecovered old what new
+SeatDeals old (SetOnce p cell text key) what new = HasNoList old what new
 SeatDeals old (Undo p cell) what new = HasNoList old what new
 SeatDeals old (Get joined cell) what new = HasNoList old what new
 SeatDeals old (Listing from most) what new = HasNoList old what new
+SeatDeals old (Resolve key) what new = HasNoList old what new
 SeatDeals old (Leave p) said.Left new = new ≡ None
 SeatDeals old call what new = ⊥

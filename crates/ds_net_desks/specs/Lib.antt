@@ -1,6 +1,7 @@
 pub mod CellQuestions
 pub mod Counting
 pub mod DeskSeats
+pub mod Keyings
 pub mod Listings
 pub mod NumberedSeats
 pub mod Numberings

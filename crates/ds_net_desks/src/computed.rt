@@ -6,6 +6,7 @@ ghost use Rattle.ds_server.specs.Replies.{got_view, report_view};
 ghost use Rattle.ds_net_desks.specs.CellQuestions.{HasComputed, HasComputedCell, SaysValues, look};
 
 use crate::cell_question::got_of;
+use crate::seat_pool::NoneFree;
 use ds_formula::cells::{Cell, Shape};
 use ds_net_floor::edit_list::EditList;
 use ds_net_floor::keeping::Keeping;
@@ -50,21 +51,25 @@ fn cell_of(
     }
 }
 
-/// The values of the sheet, while nobody edits.
+/// The values of the sheet, while nobody edits; for a reader for whom no process is free.
 pub fn computed_values<R: Wait>(
     rt: &R,
     alloc: Global,
     shape: Shape,
     keeping: &Keeping,
     seen: &mut Log<usize, EditList>,
+    none: &NoneFree,
 ) -> Result<Reported, CallRefusal>
+    requires { none.now.from ≡ 0 }
     ensures { HasComputed shape seen.old.items (report_view result) seen.new.items }
 {
+    // The body does not use it: a clause names it.
+    let _none = none;
     let backlog = keeping.take_turn(rt);
     values_of(alloc, shape, &backlog.list, seen)
 }
 
-/// The value of the cell and its last edit that counts, while nobody edits.
+/// The value of the cell and its last edit that counts, while nobody edits; for a reader for whom no process is free.
 pub fn computed_cell<R: Wait>(
     rt: &R,
     alloc: Global,
@@ -72,10 +77,14 @@ pub fn computed_cell<R: Wait>(
     keeping: &Keeping,
     seen: &mut Log<usize, EditList>,
     cell: Cell,
+    none: &NoneFree,
 ) -> Result<Got, CallRefusal>
-    requires { IsInside shape cell }
+    requires inside { IsInside shape cell }
+    requires none { none.now.from ≡ 0 }
     ensures { HasComputedCell shape cell seen.old.items (got_view cell result) seen.new.items }
 {
+    // The body does not use it: a clause names it.
+    let _none = none;
     let backlog = keeping.take_turn(rt);
     cell_of(alloc, shape, &backlog.list, seen, cell)
 }

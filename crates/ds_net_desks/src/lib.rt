@@ -3,6 +3,8 @@
 
 mod cell_question;
 mod computed;
+mod counts;
+pub mod keyed;
 pub mod listing;
 pub mod numbered_seat;
 pub mod numbering;

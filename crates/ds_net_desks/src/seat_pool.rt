@@ -1,7 +1,7 @@
 //! The numbered seats of a server that nobody has.
 
-ghost use Rattle.std.specs.Prelude.{◌≡◌, ◌<◌, IfSome};
-ghost use Rattle.ds_net_desks.specs.PoolSizes.{count_of};
+ghost use Rattle.std.specs.Prelude.{◌≡◌, ◌<◌, ◌+◌, IfErr, IfOk, IfSome};
+ghost use Rattle.ds_net_desks.specs.PoolSizes.{NoneIsFree, count_of};
 ghost use Rattle.ds_net_desks.specs.NumberedSeats.{CatchesUp};
 
 use crate::numbered_seat::NumberedSeat;
@@ -18,6 +18,38 @@ pub struct SeatPool {
     resting: Vec<ArrayQueue<NumberedSeat>>,
     fresh: Vec<ArrayQueue<NumberedSeat>>,
     epoch: AtomicU64,
+}
+
+/// That the seat of this process was looked for, and somebody has it.
+#[derive(Debug, Drop)]
+pub struct Missed {
+    process: usize,
+}
+
+/// That the seat of each of the first processes, this number of them, was looked for, and somebody has it: from the last one down
+/// to the one of this number.
+#[derive(Debug, Drop)]
+pub struct NoneFree {
+    from: usize,
+    count: usize,
+}
+
+impl NoneFree {
+    // Of this number of processes, before one is looked for.
+    fn new(count: usize) -> NoneFree
+        ensures { (result.from ≡ count) × (result.count ≡ count) }
+    {
+        NoneFree { from: count, count }
+    }
+
+    // The seat of the next process was missed, too.
+    fn add(&mut self, missed: Missed)
+        requires { self.old.from ≡ missed.process + 1 }
+        ensures { (self.new.from ≡ missed.process) × (self.new.count ≡ self.old.count) }
+    {
+        let Missed { process } = missed;
+        self.from = process;
+    }
 }
 
 // As many queues, each for one seat.
@@ -92,32 +124,41 @@ impl SeatPool {
         }
     }
 
-    /// Takes the seat of the process, in the newest sheet. None where somebody has it.
-    pub fn take<R: Wait>(&self, rt: &R, process: usize) -> Option<NumberedSeat>
-        ensures { IfSome result (λ numbered. numbered.seat.pass.process ≡ process) }
+    // What lies where the seat of the process rests, if anything.
+    fn rest_of<R: Wait>(&self, rt: &R, process: usize) -> Option<NumberedSeat> {
+        self.resting.get(process)?.pop(rt)
+    }
+
+    /// Takes the seat of the process, in the newest sheet. An error is that somebody has it.
+    pub fn take<R: Wait>(&self, rt: &R, process: usize) -> Result<NumberedSeat, Missed>
+        ensures taken { IfOk result (λ numbered. numbered.seat.pass.process ≡ process) }
+        ensures missed { IfErr result (λ missed. missed.process ≡ process) }
     {
-        let mut numbered = self.resting.get(process)?.pop(rt)?;
+        let Some(mut numbered) = self.rest_of(rt, process) else {
+            return Err(Missed { process });
+        };
         if numbered.process() != process {
-            return None;
+            return Err(Missed { process });
         }
         self.catch_up(rt, &mut numbered);
-        Some(numbered)
+        Ok(numbered)
     }
 
     /// Takes a seat that nobody has, in the newest sheet: of the last process that has one, among the first processes, this
-    /// number of them. None where somebody has each.
-    pub fn take_any<R: Wait>(&self, rt: &R, joins: usize) -> Option<NumberedSeat>
-        ensures some { IfSome result (λ numbered. numbered.seat.pass.process < joins) }
-        ensures there { IfSome result (λ numbered. numbered.seat.pass.process < count_of self.now) }
+    /// number of them. An error is that each was looked for, and somebody has it.
+    pub fn take_any<R: Wait>(&self, rt: &R, joins: usize) -> Result<NumberedSeat, NoneFree>
+        ensures some { IfOk result (λ numbered. numbered.seat.pass.process < joins) }
+        ensures there { IfOk result (λ numbered. numbered.seat.pass.process < count_of self.now) }
+        ensures none { IfErr result (NoneIsFree self.now joins) }
     {
-        let mut left = joins.min(self.len());
-        while left > 0 {
-            left -= 1;
-            if let Some(numbered) = self.take(rt, left) {
-                return Some(numbered);
+        let mut none = NoneFree::new(joins.min(self.len()));
+        while none.from > 0 {
+            match self.take(rt, none.from - 1) {
+                Ok(numbered) => return Ok(numbered),
+                Err(missed) => none.add(missed),
             }
         }
-        None
+        Err(none)
     }
 
     /// The seat may be taken again.
@@ -130,7 +171,7 @@ impl SeatPool {
     /// Gives back the seats of the newest sheet that nobody has.
     pub fn give_back<R: Wait>(&self, rt: &R) {
         for process in 0..self.len() {
-            if let Some(numbered) = self.take(rt, process) {
+            if let Ok(numbered) = self.take(rt, process) {
                 numbered.give_back();
             }
         }

@@ -1,17 +1,18 @@
 //! A desk that is a sheet which threads share, with no lock.
 
-ghost use Rattle.std.specs.Prelude.{◌≡◌, IfSome, None, ℕ};
+ghost use Rattle.std.specs.Prelude.{◌≡◌, IfErr, IfOk, ℕ};
 ghost use Rattle.ds_formula.specs.Cells.{IsInside};
 ghost use Rattle.ds_shared_seats.specs.Sheets.{IsSeatOf};
 ghost use Rattle.ds_server.specs.Replies.{got_view, last_view, set_view, report_view};
 ghost use Rattle.ds_net_desks.specs.SharedDesks.{HasSet, HasReported, HasRecovered, set_said, last_said, report_said, sheet_of};
 ghost use Rattle.ds_net_desks.specs.CellQuestions.{HasAsked};
 ghost use Rattle.ds_net_desks.specs.DeskSeats.{HasNoSeat, HasTaken, HasViewed, IsSeatedAt, Uses};
+ghost use Rattle.ds_net_desks.specs.PoolSizes.{NoneIsFree};
 
 use crate::cell_question::CellQuestion;
 use crate::computed::computed_cell;
 use crate::numbered_seat::NumberedSeat;
-use crate::seat_pool::SeatPool;
+use crate::seat_pool::{NoneFree, SeatPool};
 use crate::shared_settle::{STEPS_MOST, shared_settle};
 use ds_formula::cells::{Cell, Shape};
 use ds_net_floor::edit_list::EditList;
@@ -19,7 +20,7 @@ use ds_net_floor::keeping::Keeping;
 use ds_net_floor::visit::Visit;
 use ds_order::course::Course;
 use ds_order::known::KnownReferences;
-use ds_server::desk::{CallRefusal, Desk, Got, History, Reported};
+use ds_server::desk::{CallRefusal, Desk, Got, History, ListedEdit, Reported};
 use ds_shared::ended::Ended;
 use ds_shared_seats::seat::Seat;
 use ds_state::answer::EditEnd;
@@ -37,7 +38,7 @@ pub struct SharedDesk<'a, R: Wait + Clock> {
     pub rt: &'a R,
     pub shape: Shape,
     pub pool: &'a SeatPool,
-    open: usize,
+    pub joins: usize,
     pub token: Option<&'a [u8]>,
     visit: &'a Visit<'a>,
     references: &'a KnownReferences,
@@ -54,7 +55,7 @@ impl<'a, R: Wait + Clock> SharedDesk<'a, R> {
         alloc: Global,
         shape: Shape,
         pool: &'a SeatPool,
-        open: usize,
+        joins: usize,
         token: Option<&'a [u8]>,
         visit: &'a Visit<'a>,
         references: &'a KnownReferences,
@@ -63,7 +64,7 @@ impl<'a, R: Wait + Clock> SharedDesk<'a, R> {
             rt,
             shape,
             pool,
-            open,
+            joins,
             token,
             visit,
             references,
@@ -113,25 +114,26 @@ impl<'a, R: Wait + Clock> SharedDesk<'a, R> {
         }
     }
 
-    /// A report by the seat of the process that the session has joined, else by any that nobody has; none, and nothing is
-    /// done, where there is none.
-    pub fn viewed(&mut self, alloc: Global) -> Option<Result<Reported, CallRefusal>>
-        ensures viewed { IfSome result (λ end. HasViewed self.old.numbered (report_view end) self.new.numbered) }
-        ensures none { result ≡ None → HasNoSeat self.old.numbered self.new.numbered }
+    /// A report by the seat of the process that the session has joined, else by any that nobody has. An error is that there is
+    /// none, and nothing is done.
+    pub fn viewed(&mut self, alloc: Global) -> Result<Result<Reported, CallRefusal>, NoneFree>
+        ensures viewed { IfOk result (λ end. HasViewed self.old.numbered (report_view end) self.new.numbered) }
+        ensures none { IfErr result (λ none. HasNoSeat self.old.numbered self.new.numbered × NoneIsFree self.old.pool.now self.old.joins none) }
         ensures process { (process : ℕ) → IsSeatedAt self.old.numbered process → IsSeatedAt self.new.numbered process }
         ensures rest { (self.new.shape ≡ self.old.shape) × (self.new.pool ≡ self.old.pool) × (self.new.token ≡ self.old.token) }
     {
         self.course.renew(alloc, self.references);
         let (rt, pool, visit) = (self.rt, self.pool, self.visit);
         if let Some(numbered) = &mut self.numbered {
-            return Some(seat_report(rt, alloc, pool, numbered, &self.course, visit));
+            return Ok(seat_report(rt, alloc, pool, numbered, &self.course, visit));
         }
-        let Some(mut numbered) = pool.take_any(rt, self.open) else {
-            return None;
+        let mut numbered = match pool.take_any(rt, self.joins) {
+            Ok(numbered) => numbered,
+            Err(none) => return Err(none),
         };
         let end = seat_report(rt, alloc, pool, &mut numbered, &self.course, visit);
         pool.put_back(rt, numbered);
-        Some(end)
+        Ok(end)
     }
 
     /// Counts what a report has come to.
@@ -154,7 +156,7 @@ impl<'a, R: Wait + Clock> SharedDesk<'a, R> {
         ensures rest { (self.new.shape ≡ self.old.shape) × (self.new.pool ≡ self.old.pool) × (self.new.token ≡ self.old.token) }
     {
         self.course.renew(alloc, self.references);
-        let (rt, pool, open) = (self.rt, self.pool, self.open);
+        let (rt, pool, joins) = (self.rt, self.pool, self.joins);
         let question = CellQuestion {
             rt,
             pool,
@@ -167,8 +169,9 @@ impl<'a, R: Wait + Clock> SharedDesk<'a, R> {
         if let Some(numbered) = &mut self.numbered {
             return question.answer(alloc, seen, numbered);
         }
-        let Some(mut numbered) = pool.take_any(rt, open) else {
-            return computed_cell(rt, alloc, self.shape, keeping, seen, cell);
+        let mut numbered = match pool.take_any(rt, joins) {
+            Ok(numbered) => numbered,
+            Err(none) => return computed_cell(rt, alloc, self.shape, keeping, seen, cell, &none),
         };
         let got = question.answer(alloc, seen, &mut numbered);
         pool.put_back(rt, numbered);
@@ -330,12 +333,12 @@ impl<'a, R: Wait + Clock> Desk for SharedDesk<'a, R> {
     }
 
     fn join(&mut self, alloc: Global, process: usize) -> Result<Option<LastEdit>, CallRefusal> {
-        if self.numbered.is_some() || process >= self.open {
+        if self.numbered.is_some() || process >= self.joins {
             return Err(CallRefusal::ProcessTaken);
         }
         match self.pool.take(self.rt, process) {
-            Some(numbered) => self.take_seat(alloc, numbered),
-            None => Err(CallRefusal::ProcessTaken),
+            Ok(numbered) => self.take_seat(alloc, numbered),
+            Err(_missed) => Err(CallRefusal::ProcessTaken),
         }
     }
 
@@ -343,7 +346,7 @@ impl<'a, R: Wait + Clock> Desk for SharedDesk<'a, R> {
         if self.numbered.is_some() {
             return Err(CallRefusal::ProcessTaken);
         }
-        let Some(numbered) = self.pool.take_any(self.rt, self.open) else {
+        let Ok(numbered) = self.pool.take_any(self.rt, self.joins) else {
             return Err(CallRefusal::ProcessTaken);
         };
         let process = numbered.process();
@@ -369,6 +372,17 @@ impl<'a, R: Wait + Clock> Desk for SharedDesk<'a, R> {
         end
     }
 
+    fn set_once(
+        &mut self,
+        _alloc: Global,
+        _process: usize,
+        _cell: Cell,
+        _text: &[u8],
+        _key: &[u8],
+    ) -> Result<EditEnd, CallRefusal> {
+        Err(CallRefusal::NoHistory)
+    }
+
     fn undo(
         &mut self,
         _alloc: Global,
@@ -391,8 +405,8 @@ impl<'a, R: Wait + Clock> Desk for SharedDesk<'a, R> {
 
     fn view(&mut self, alloc: Global, _joined: Option<usize>) -> Result<Reported, CallRefusal> {
         let end = match self.viewed(alloc) {
-            Some(end) => end,
-            None => Err(CallRefusal::ProcessTaken),
+            Ok(end) => end,
+            Err(_none) => Err(CallRefusal::ProcessTaken),
         };
         self.counted(&end);
         end
@@ -413,6 +427,10 @@ impl<'a, R: Wait + Clock> Desk for SharedDesk<'a, R> {
         _from: usize,
         _most: usize,
     ) -> Result<History, CallRefusal> {
+        Err(CallRefusal::NoHistory)
+    }
+
+    fn resolve(&mut self, _alloc: Global, _key: &[u8]) -> Result<Option<ListedEdit>, CallRefusal> {
         Err(CallRefusal::NoHistory)
     }
 

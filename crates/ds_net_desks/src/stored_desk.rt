@@ -5,11 +5,12 @@ ghost use Rattle.ds_server.specs.Replies.{Done, set_view};
 ghost use Rattle.ds_net_floor.specs.Entries.{entries};
 ghost use Rattle.ds_net_floor.specs.declared.keeping.Phase.TheVariants as Phase;
 ghost use Rattle.ds_net_desks.specs.DeskSeats.{Uses};
-ghost use Rattle.ds_net_desks.specs.StoredDesks.{HasListed, HasUndone, SaysBefore, SaysPart, StoredSet, listed_of, notes};
+ghost use Rattle.ds_net_desks.specs.StoredDesks.{HasListed, HasUndone, Keyed, SaysBefore, SaysPart, StoredSet, listed_of, notes};
 ghost use Rattle.ds_net_desks.specs.CellQuestions.{look};
 ghost use Rattle.ds_net_desks.specs.Counting.{number_seen};
 
 use crate::computed::computed_values;
+use crate::keyed::{Once, resolved, seat_edit_once};
 use crate::numbered_seat::{NumberedSeat, number_seen};
 use crate::numbering::Numbering;
 use crate::seat_pool::SeatPool;
@@ -17,24 +18,27 @@ use crate::shared_desk::{SharedDesk, edited};
 use ds_formula::cells::{Cell, Shape};
 use ds_net_floor::edit_list::EditList;
 use ds_net_floor::keeping::{Backlog, Keeping};
-use ds_server::desk::{CallRefusal, Desk, Got, History, Reported};
+use ds_server::desk::{CallRefusal, Desk, Got, History, ListedEdit, Reported};
 use ds_shared_seats::seat::Seat;
 use ds_state::answer::EditEnd;
 use ds_state::recovery::LastEdit;
 use ds_store_journal::edit::AnsweredEdit;
+use ds_store_keys::note::KeyNote;
 use http_server::Log;
 use std::alloc::{AllocError, Global};
 use std::sync::Wait;
 use std::time::Clock;
 
 /// What one session sees of a shared sheet with a store: what it sees of the sheet, what is shared with the keeper of the
-/// store, and, for proofs alone, each edit of which the keeper has heard and each list of edits that the session was shown.
+/// store, and, for proofs alone, each edit and each key of which the keeper has heard and each list of edits that the session was
+/// shown.
 #[derive(Drop)]
 pub struct StoredDesk<'a, R: Wait + Clock> {
     shared: SharedDesk<'a, R>,
     keeping: &'a Keeping,
     heard: Log<usize, AnsweredEdit>,
     seen: Log<usize, EditList>,
+    keyed: Log<usize, KeyNote>,
 }
 
 impl<'a, R: Wait + Clock> StoredDesk<'a, R> {
@@ -45,6 +49,7 @@ impl<'a, R: Wait + Clock> StoredDesk<'a, R> {
             keeping,
             heard: Log::new(),
             seen: Log::new(),
+            keyed: Log::new(),
         }
     }
 }
@@ -135,8 +140,8 @@ fn copies(alloc: Global, text: &[u8]) -> Result<(Vec<u8>, Vec<u8>), AllocError>
     Ok((kept, listed))
 }
 
-// The same of this text, where there is room for copies of it.
-fn edited_as(
+/// The same of this text, where there is room for copies of it.
+pub(crate) fn edited_as(
     alloc: Global,
     backlog: &mut Backlog,
     heard: &mut Log<usize, AnsweredEdit>,
@@ -204,7 +209,7 @@ fn seat_undo<R: Wait>(
     numbered: &mut NumberedSeat,
     cell: Cell,
 ) -> (Result<EditEnd, CallRefusal>, Vec<u8>)
-    ensures undone { HasUndone cell numbered.old (notes heard.old.items seen.old.items) (set_view result.0) numbered.new (notes heard.new.items seen.new.items) }
+    ensures undone { (keyed : Keyed) → HasUndone cell numbered.old (notes heard.old.items seen.old.items keyed) (set_view result.0) numbered.new (notes heard.new.items seen.new.items keyed) }
     ensures process { numbered.new.seat.pass.process ≡ numbered.old.seat.pass.process }
 {
     let mut backlog = keeping.take_turn(rt);
@@ -264,7 +269,7 @@ impl<'a, R: Wait + Clock> Desk for StoredDesk<'a, R> {
       processes = λ d. count_of d.shared.pool.now;
       token = λ d. option_map (λ t. t.now) d.shared.token;
       sits = λ d p. IsSeatedAt d.shared.numbered p;
-      does = λ old call said new. StoredDeals old.shared.shape old.shared.numbered (notes old.heard.items old.seen.items) call said new.shared.numbered (notes new.heard.items new.seen.items);
+      does = λ old call said new. StoredDeals old.shared.shape old.shared.numbered (notes old.heard.items old.seen.items old.keyed.items) call said new.shared.numbered (notes new.heard.items new.seen.items new.keyed.items);
     } };
 
     fn shape(&self) -> Shape {
@@ -312,6 +317,37 @@ impl<'a, R: Wait + Clock> Desk for StoredDesk<'a, R> {
         end
     }
 
+    fn set_once(
+        &mut self,
+        alloc: Global,
+        _process: usize,
+        cell: Cell,
+        text: &[u8],
+        key: &[u8],
+    ) -> Result<EditEnd, CallRefusal> {
+        let (rt, pool, keeping) = (self.shared.rt, self.shared.pool, self.keeping);
+        let Some(numbered) = &mut self.shared.numbered else {
+            return Err(CallRefusal::ProcessTaken);
+        };
+        let once = seat_edit_once(
+            rt,
+            alloc,
+            pool,
+            keeping,
+            &mut self.heard,
+            &mut self.seen,
+            &mut self.keyed,
+            numbered,
+            cell,
+            text,
+            key,
+        );
+        if let Once::Made(end) = &once {
+            self.shared.noted(alloc, cell, text, end);
+        }
+        once.end()
+    }
+
     fn undo(&mut self, alloc: Global, _process: usize, cell: Cell) -> Result<EditEnd, CallRefusal> {
         let (rt, pool, keeping) = (self.shared.rt, self.shared.pool, self.keeping);
         let Some(numbered) = &mut self.shared.numbered else {
@@ -337,13 +373,14 @@ impl<'a, R: Wait + Clock> Desk for StoredDesk<'a, R> {
 
     fn view(&mut self, alloc: Global, _joined: Option<usize>) -> Result<Reported, CallRefusal> {
         let end = match self.shared.viewed(alloc) {
-            Some(end) => end,
-            None => computed_values(
+            Ok(end) => end,
+            Err(none) => computed_values(
                 self.shared.rt,
                 alloc,
                 self.shared.shape,
                 self.keeping,
                 &mut self.seen,
+                &none,
             ),
         };
         self.shared.counted(&end);
@@ -367,6 +404,17 @@ impl<'a, R: Wait + Clock> Desk for StoredDesk<'a, R> {
             &mut self.seen,
             from,
             most,
+        )
+    }
+
+    fn resolve(&mut self, alloc: Global, key: &[u8]) -> Result<Option<ListedEdit>, CallRefusal> {
+        resolved(
+            self.shared.rt,
+            alloc,
+            self.keeping,
+            &mut self.seen,
+            &mut self.keyed,
+            key,
         )
     }
 

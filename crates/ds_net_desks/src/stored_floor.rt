@@ -1,5 +1,6 @@
 //! A sheet that threads share, with a store, as a server serves it.
 
+use crate::counts::DoorCounts;
 use crate::numbered_seat::NumberedSeat;
 use crate::seat_pool::SeatPool;
 use crate::shared_desk::SharedDesk;
@@ -146,12 +147,13 @@ impl<'a> Floor for StoredFloor<'a> {
         visit: &Visit<'_>,
     ) -> io::Result<()> {
         let desk = self.desk(rt, alloc, visit);
-        let mut site = Site::new(alloc, address, PAGE, desk);
+        let counts = DoorCounts { door: visit.door() };
+        let mut site = Site::new(alloc, address, PAGE, desk, counts);
         serve(connection, &mut site, reader, writer)
     }
 
     fn work<R: Wait + Clock>(&self, rt: &R, alloc: Global, process: usize, stop: &Mutex<bool>) {
-        let Some(mut numbered) = self.pool.take(rt, process) else {
+        let Ok(mut numbered) = self.pool.take(rt, process) else {
             return;
         };
         go_round(rt, alloc, self.pool, &mut numbered, self.references, stop);

@@ -1,6 +1,7 @@
 //! What the threads of a server share beside its sheet.
 
 use std::sync::atomic::{AtomicBool, AtomicU64, Ordering};
+use std::time::Duration;
 
 /// The door of a server: whether it is to stop, how many sessions it has, and what they have come to. It is shared by
 /// the threads of the server and by whoever tells it to stop.
@@ -17,6 +18,8 @@ pub struct Door {
     overtaken: AtomicU64,
     refused: AtomicU64,
     reports: AtomicU64,
+    commits: AtomicU64,
+    commit_microseconds: AtomicU64,
 }
 
 /// What the sessions of a server have come to.
@@ -34,6 +37,15 @@ pub struct SessionTotals {
     pub reports: u64,
 }
 
+/// What the commits of a server's store have come to.
+#[derive(Clone, Copy, Debug, PartialEq, Eq)]
+pub struct CommitTotals {
+    /// How many there were.
+    pub count: u64,
+    /// How long they took in all, in microseconds.
+    pub microseconds: u64,
+}
+
 impl Door {
     /// Of a server that has not begun.
     pub fn new() -> Door {
@@ -49,6 +61,8 @@ impl Door {
             overtaken: AtomicU64::new(0),
             refused: AtomicU64::new(0),
             reports: AtomicU64::new(0),
+            commits: AtomicU64::new(0),
+            commit_microseconds: AtomicU64::new(0),
         }
     }
 
@@ -137,6 +151,22 @@ impl Door {
     /// A report was answered.
     pub fn count_report(&self) {
         self.reports.fetch_add(1, Ordering::SeqCst);
+    }
+
+    /// A commit took so long.
+    pub fn count_commit(&self, took: Duration) {
+        let microseconds = u64::try_from(took.as_micros()).unwrap_or(u64::MAX);
+        self.commits.fetch_add(1, Ordering::SeqCst);
+        self.commit_microseconds
+            .fetch_add(microseconds, Ordering::SeqCst);
+    }
+
+    /// What the commits have come to so far.
+    pub fn commits(&self) -> CommitTotals {
+        CommitTotals {
+            count: self.commits.load(Ordering::SeqCst),
+            microseconds: self.commit_microseconds.load(Ordering::SeqCst),
+        }
     }
 
     /// Whether nobody else is writing a line of the log, which is the caller's to write then, until `give_log`.

@@ -1,17 +1,24 @@
 //! The edits that count, as clients know them.
 
-ghost use Rattle.std.specs.Prelude.{◌≡◌, ◌≤◌, ◌++◌, ◌∷◌, [], IfOk, IfSome, None, OnOk, drop, length, map, option_map, true};
+ghost use Rattle.std.specs.Prelude.{◌≡◌, ◌≤◌, ◌++◌, ◌∷◌, [], List, ℕ, IfOk, IfSome, None, OnErr, OnOk, Some, drop, if◌then◌else◌, length, map, option_map, true};
+ghost use Rattle.std.specs.Str.{bytes_eq};
+ghost use Rattle.ds_store_keys.specs.Keys.{edit_of};
+ghost use Rattle.ds_store_keys.specs.Tables.{found};
 ghost use Rattle.ds_server.specs.Replies.{entry_view};
 ghost use Rattle.ds_net_floor.specs.EditLists.{HadBefore, HasNoEdit, HasText, IsLastOf, NoneOf, TellsLast, part_of, told_as};
 
 use ds_formula::cells::Cell;
 use ds_server::desk::{History, ListedEdit};
 use ds_store_journal::edit::AnsweredEdit;
+use ds_store_journal::fault::JournalFault;
+use ds_store_keys::note::{KeyNote, KeyUse};
+use ds_store_keys::table::KeyTable;
 use http_server::Log;
 use std::alloc::{AllocError, Global};
 
 /// The edits of the newest sheet of a server that count, in the order in which they count, as clients know them: those that
-/// the lines of its store list when the sheet is opened, and then each one of which the keeper of the store has heard since.
+/// the lines of its store list when the sheet is opened, and then each one of which the keeper of the store has heard since; and
+/// what the keys that clients gave their edits are of.
 #[derive(Drop)]
 pub struct EditList {
     edits: Vec<ListedEdit>,
@@ -19,6 +26,8 @@ pub struct EditList {
     nobody: usize,
     // How many edits were listed when the sheet was opened.
     begun: usize,
+    // What each key is of, by the numbers that clients know.
+    pub keys: KeyTable,
     // For proofs alone: the edits that were heard of since, each with the number by which clients know it.
     since: Log<usize, AnsweredEdit>,
     ghost few: { begun ≤ length edits.items },
@@ -133,15 +142,17 @@ pub fn is_same(one: &Option<ListedEdit>, other: &Option<ListedEdit>) -> bool
 }
 
 impl EditList {
-    // Of a sheet that is opened, with these edits. Texts that it began with are as of this process, which is none of it.
-    pub(crate) fn of(edits: Vec<ListedEdit>, nobody: usize) -> EditList
-        ensures { (result.edits ≡ edits) × (result.nobody ≡ nobody) × (result.begun ≡ length edits.items) × (result.since.items ≡ []) }
+    // Of a sheet that is opened, with these edits and these keys. Texts that it began with are as of this process, which is none
+    // of it.
+    pub(crate) fn of(edits: Vec<ListedEdit>, nobody: usize, keys: KeyTable) -> EditList
+        ensures { (result.edits ≡ edits) × (result.nobody ≡ nobody) × (result.keys ≡ keys) × (result.begun ≡ length edits.items) × (result.since.items ≡ []) }
     {
         let begun = edits.len();
         EditList {
             edits,
             nobody,
             begun,
+            keys,
             since: Log::new(),
         }
     }
@@ -149,7 +160,7 @@ impl EditList {
     // Room for one edit more.
     pub(crate) fn reserve(&mut self) -> Result<(), AllocError>
         ensures edits { self.new.edits.items ≡ self.old.edits.items }
-        ensures rest { (self.new.nobody ≡ self.old.nobody) × (self.new.begun ≡ self.old.begun) × (self.new.since ≡ self.old.since) }
+        ensures rest { (self.new.nobody ≡ self.old.nobody) × (self.new.begun ≡ self.old.begun) × (self.new.keys ≡ self.old.keys) × (self.new.since ≡ self.old.since) }
     {
         self.edits.reserve(1)
     }
@@ -165,7 +176,7 @@ impl EditList {
         requires { text.items ≡ edit.now.text }
         ensures listed { OnOk result (map entry_view self.new.edits.items ≡ map entry_view self.old.edits.items ++ told_as (number, edit.now) ∷ []) }
         ensures since { OnOk result (self.new.since.items ≡ self.old.since.items ++ (number, edit.now) ∷ []) }
-        ensures rest { (self.new.nobody ≡ self.old.nobody) × (self.new.begun ≡ self.old.begun) }
+        ensures rest { (self.new.nobody ≡ self.old.nobody) × (self.new.begun ≡ self.old.begun) × (self.new.keys ≡ self.old.keys) }
     {
         let listed = ListedEdit {
             process: edit.process,
@@ -176,6 +187,23 @@ impl EditList {
         self.edits.push(listed)?;
         self.since = self.since.and(&number, edit);
         Ok(())
+    }
+
+    // A key is of this from now on. The fault is `KeyAgain` where it is known, and `NoMemory`: then each key is of what it was of.
+    pub(crate) fn note(&mut self, note: KeyNote) -> Result<(), JournalFault>
+        ensures added { OnOk result ((key : List ℕ) → found self.new.keys key ≡ (if bytes_eq key note.key then Some note.edit else found self.old.keys key)) }
+        ensures unchanged { OnErr result ((key : List ℕ) → found self.new.keys key ≡ found self.old.keys key) }
+        ensures edits { self.new.edits ≡ self.old.edits }
+        ensures rest { (self.new.nobody ≡ self.old.nobody) × (self.new.begun ≡ self.old.begun) × (self.new.since ≡ self.old.since) }
+    {
+        self.keys.add(note)
+    }
+
+    /// What a key is of; none where no edit has it, and it is not known to be of none.
+    pub fn use_of(&self, key: &[u8]) -> Option<&KeyUse>
+        ensures { option_map (λ of. edit_of of.now) result ≡ found self.now.keys key.now }
+    {
+        self.keys.find(key)
     }
 
     /// The part of the list from this place on, where the first edit has place 0, of at most this number of edits.

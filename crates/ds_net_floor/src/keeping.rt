@@ -1,6 +1,8 @@
 //! What the sessions of a server tell the keeper of its store, and wait for.
 
-ghost use Rattle.std.specs.Prelude.{◌≡◌, ◌+◌, ◌++◌, ◌∷◌, ◌≤◌, ◌⊎◌, [], length, IfSome};
+ghost use Rattle.std.specs.Prelude.{◌≡◌, ◌≢◌, ◌+◌, ◌++◌, ◌∷◌, ◌≤◌, ◌⊎◌, ◌↔◌, [], List, ℕ, Some, if◌then◌else◌, length, IfSome, IsTrue};
+ghost use Rattle.std.specs.Str.{bytes_eq};
+ghost use Rattle.ds_store_keys.specs.Tables.{found};
 ghost use Rattle.ds_net_floor.specs.EditLists.{told_as};
 ghost use Rattle.ds_net_floor.specs.Entries.{entries};
 
@@ -8,6 +10,8 @@ use crate::edit_list::EditList;
 use ds_server::desk::ListedEdit;
 use ds_store::committed::Committed;
 use ds_store_journal::edit::AnsweredEdit;
+use ds_store_keys::note::KeyNote;
+use ds_store_keys::table::KeyTable;
 use http_server::Log;
 use std::alloc::{AllocError, Global};
 use std::mem;
@@ -28,24 +32,42 @@ enum Phase {
 // For how long the keeper waits for edits before it does something else, in milliseconds.
 const TICK: u64 = 250;
 
+/// What is to be kept in one commit.
+#[derive(Drop)]
+pub struct Batch {
+    /// Edits, in the order in which they were made.
+    pub edits: Vec<AnsweredEdit>,
+    /// Keys, in the order in which they were heard of: each comes with the edit that it is of.
+    pub keys: Vec<KeyNote>,
+}
+
+impl Batch {
+    /// Whether there is nothing to keep.
+    pub fn is_empty(&self) -> bool
+        ensures { IsTrue result ↔ ((self.now.edits.items ≡ []) × (self.now.keys.items ≡ [])) }
+    {
+        self.edits.is_empty() && self.keys.is_empty()
+    }
+}
+
 /// What a keeper has heard.
 #[derive(Drop)]
 pub enum News {
-    /// Edits that are to be kept, one at least.
-    Edits(Vec<AnsweredEdit>),
+    /// What is to be kept: one edit or key at least.
+    Some(Batch),
     /// Nothing for a tick.
     Nothing,
     /// Nothing any more: no more edits are made, or the keeper could not hear of one.
     Over,
 }
 
-// How many edits are kept. It grows by commits alone, by as many as each has kept.
+// How many edits and keys are kept. It grows by commits alone, by as many as each has kept.
 #[derive(Drop)]
 struct KeptCount {
     count: u64,
 }
 
-/// That all edits are kept of which the keeper had heard at some moment: what a session has to say after that moment may
+/// That all edits and keys are kept of which the keeper had heard at some moment: what a session has to say after that moment may
 /// leave. Only `Keeping` makes one, where as many are kept.
 #[derive(Drop)]
 pub struct AllKept {
@@ -54,7 +76,7 @@ pub struct AllKept {
     pub ghost all: { heard ≤ kept },
 }
 
-/// That all edits are kept of which the keeper has heard, and that no more come.
+/// That all edits and keys are kept of which the keeper has heard, and that no more come.
 #[derive(Drop)]
 pub struct Drained {
     heard: u64,
@@ -63,16 +85,16 @@ pub struct Drained {
 }
 
 impl KeptCount {
-    // Counts the edits of a commit. None where 2^64 - 1 would be passed: then nothing is counted.
+    // Counts what a commit has kept. None where 2^64 - 1 would be passed: then nothing is counted.
     fn add(&mut self, committed: &Committed) -> Option<()>
-        ensures some { IfSome result (λ _. self.new.count ≡ self.old.count + length committed.now.edits.items) }
+        ensures some { IfSome result (λ _. self.new.count ≡ self.old.count + (length committed.now.edits.items + length committed.now.keys.items)) }
         ensures none { result ≡ None → self.new ≡ self.old }
     {
         self.count = self.count.checked_add(committed.count() as u64)?;
         Some(())
     }
 
-    // The permit for what is said after this number of edits was heard of, if they are kept.
+    // The permit for what is said after this number of edits and keys was heard of, if they are kept.
     fn permit(&self, heard: u64) -> Option<AllKept>
         ensures { IfSome result (λ permit. (permit.heard ≡ heard) × (permit.kept ≡ self.now.count)) }
     {
@@ -86,20 +108,21 @@ impl KeptCount {
     }
 }
 
-/// What the keeper has heard of, what of it is kept, and the edits that count in the newest sheet.
+/// What the keeper has heard of, what of it is kept, and the edits that count in the newest sheet, with their keys.
 #[derive(Drop)]
 pub struct Backlog {
     /// The edits that count.
     pub list: EditList,
-    // The edits that the keeper has not taken yet, in the order in which they were made.
+    // The edits and the keys that the keeper has not taken yet, in the order in which they were made.
     edits: Vec<AnsweredEdit>,
-    // How many edits the keeper has taken, and has not kept yet.
+    keys: Vec<KeyNote>,
+    // How many edits and keys the keeper has taken, and has not kept yet.
     taken: u64,
-    // How many edits the keeper has heard of, and how many of them are kept.
+    // How many edits and keys the keeper has heard of, and how many of them are kept.
     heard: u64,
     kept: KeptCount,
     phase: Phase,
-    ghost counted: { heard ≡ kept.count + taken + length edits.items },
+    ghost counted: { heard ≡ kept.count + taken + (length edits.items + length keys.items) },
 }
 
 impl Backlog {
@@ -108,6 +131,7 @@ impl Backlog {
         Backlog {
             list,
             edits: Vec::new(alloc),
+            keys: Vec::new(alloc),
             taken: 0,
             heard: 0,
             kept: KeptCount { count: 0 },
@@ -115,15 +139,17 @@ impl Backlog {
         }
     }
 
-    /// Room for one edit more, before it is made. An error is that an allocation failed, or that no more can be counted.
+    /// Room for one edit more, and a key, before it is made. An error is that an allocation failed, or that no more can be
+    /// counted.
     pub fn make_room(&mut self) -> Result<(), AllocError>
-        ensures edits { self.new.edits.items ≡ self.old.edits.items }
-        ensures list { entries self.new.list ≡ entries self.old.list }
+        ensures edits { (self.new.edits.items ≡ self.old.edits.items) × (self.new.keys.items ≡ self.old.keys.items) }
+        ensures list { (entries self.new.list ≡ entries self.old.list) × (self.new.list.keys ≡ self.old.list.keys) }
     {
-        if self.heard == u64::MAX {
+        if self.heard >= u64::MAX - 1 {
             return Err(AllocError);
         }
         self.list.reserve()?;
+        self.keys.reserve(1)?;
         self.edits.reserve(1)
     }
 
@@ -141,6 +167,7 @@ impl Backlog {
         ensures log { heard.new.items ≡ heard.old.items ++ (edit.process, edit) ∷ [] }
         ensures heard { (self.new.edits.items ≡ self.old.edits.items ++ edit ∷ []) ⊎ (self.new.phase ≡ Phase.Failed) }
         ensures listed { (entries self.new.list ≡ entries self.old.list ++ told_as (number, edit) ∷ []) ⊎ (self.new.phase ≡ Phase.Failed) }
+        ensures keys { (self.new.keys ≡ self.old.keys) × (self.new.list.keys ≡ self.old.list.keys) }
     {
         *heard = heard.and(&edit.process, &edit);
         let Some(count) = self.heard.checked_add(1) else {
@@ -157,32 +184,62 @@ impl Backlog {
         }
     }
 
-    /// The server goes over to a new sheet, of which these are the edits that count; texts that it began with are as of this
-    /// process, which is none of it.
-    pub fn go_over(&mut self, edits: Vec<ListedEdit>, nobody: usize)
-        ensures list { (self.new.list.edits ≡ edits) × (self.new.list.nobody ≡ nobody) }
-        ensures begun { (self.new.list.begun ≡ length edits.items) × (self.new.list.since.items ≡ []) }
-        ensures rest { (self.new.edits ≡ self.old.edits) × (self.new.heard ≡ self.old.heard) × (self.new.kept ≡ self.old.kept) }
+    /// The keeper hears of a key, which stands then in this history of what it has heard, too, and is known from then on, by a
+    /// copy of it. Where there is no room for it, or it is known already, nothing is kept any more.
+    pub fn hear_key(&mut self, keyed: &mut Log<usize, KeyNote>, note: KeyNote, copy: KeyNote)
+        requires { copy ≡ note }
+        ensures log { keyed.new.items ≡ keyed.old.items ++ (0, note) ∷ [] }
+        ensures heard { (self.new.keys.items ≡ self.old.keys.items ++ note ∷ []) ⊎ (self.new.phase ≡ Phase.Failed) }
+        ensures known { ((key : List ℕ) → found self.new.list.keys key ≡ (if bytes_eq key note.key then Some note.edit else found self.old.list.keys key)) ⊎ (self.new.phase ≡ Phase.Failed) }
+        ensures rest { (self.new.edits ≡ self.old.edits) × (entries self.new.list ≡ entries self.old.list) }
     {
-        self.list = EditList::of(edits, nobody);
+        *keyed = keyed.and(&0, &note);
+        let Some(more) = self.heard.checked_add(1) else {
+            self.phase = Phase::Failed;
+            return;
+        };
+        if self.list.note(copy).is_err() {
+            self.phase = Phase::Failed;
+            return;
+        }
+        match self.keys.push(note) {
+            Ok(()) => self.heard = more,
+            Err(_) => self.phase = Phase::Failed,
+        }
     }
 
-    /// All edits that have come, which the keeper has in hand then.
-    pub fn take(&mut self, alloc: Global) -> Vec<AnsweredEdit>
-        ensures edits { result.items ≡ self.old.edits.items }
-        ensures taken { self.new.taken ≡ self.old.taken + length self.old.edits.items }
+    /// The server goes over to a new sheet, of which these are the edits that count, and these the keys; texts that it began
+    /// with are as of this process, which is none of it.
+    pub fn go_over(&mut self, edits: Vec<ListedEdit>, nobody: usize, keys: KeyTable)
+        ensures list { (self.new.list.edits ≡ edits) × (self.new.list.nobody ≡ nobody) × (self.new.list.keys ≡ keys) }
+        ensures begun { (self.new.list.begun ≡ length edits.items) × (self.new.list.since.items ≡ []) }
+        ensures rest { (self.new.edits ≡ self.old.edits) × (self.new.keys ≡ self.old.keys) × (self.new.heard ≡ self.old.heard) × (self.new.kept ≡ self.old.kept) }
+    {
+        self.list = EditList::of(edits, nobody, keys);
+    }
+
+    /// All edits and keys that have come, which the keeper has in hand then.
+    pub fn take(&mut self, alloc: Global) -> Batch
+        ensures edits { (result.edits.items ≡ self.old.edits.items) × (result.keys.items ≡ self.old.keys.items) }
+        ensures taken { self.new.taken ≡ self.old.taken + (length self.old.edits.items + length self.old.keys.items) }
         ensures heard { (self.new.heard ≡ self.old.heard) × (self.new.kept ≡ self.old.kept) }
     {
         let edits = mem::replace(&mut self.edits, Vec::new(alloc));
-        self.taken += edits.len() as u64;
-        edits
+        let keys = mem::replace(&mut self.keys, Vec::new(alloc));
+        self.taken += edits.len() as u64 + keys.len() as u64;
+        Batch { edits, keys }
     }
 
-    /// The edits of a commit are kept. Where they are more than the keeper has in hand, nothing is kept any more.
+    // Whether nothing waits for the keeper.
+    fn is_empty(&self) -> bool {
+        self.edits.is_empty() && self.keys.is_empty()
+    }
+
+    /// What a commit has kept is kept. Where it is more than the keeper has in hand, nothing is kept any more.
     pub fn keep(&mut self, committed: &Committed)
-        ensures kept { (self.new.kept.count ≡ self.old.kept.count + length committed.now.edits.items) ⊎ (self.new.phase ≡ Phase.Failed) }
-        ensures at_most { self.new.kept.count ≤ self.old.kept.count + length committed.now.edits.items }
-        ensures heard { (self.new.heard ≡ self.old.heard) × (self.new.edits ≡ self.old.edits) }
+        ensures kept { (self.new.kept.count ≡ self.old.kept.count + (length committed.now.edits.items + length committed.now.keys.items)) ⊎ (self.new.phase ≡ Phase.Failed) }
+        ensures at_most { self.new.kept.count ≤ self.old.kept.count + (length committed.now.edits.items + length committed.now.keys.items) }
+        ensures heard { (self.new.heard ≡ self.old.heard) × (self.new.edits ≡ self.old.edits) × (self.new.keys ≡ self.old.keys) }
     {
         let Some(left) = self.taken.checked_sub(committed.count() as u64) else {
             self.phase = Phase::Failed;
@@ -192,6 +249,17 @@ impl Backlog {
             Some(()) => self.taken = left,
             None => self.phase = Phase::Failed,
         }
+    }
+
+    // The permit for what is said after this number of edits and keys was heard of, if they are kept, and the keeper keeps still.
+    fn permit(&self, heard: u64) -> Option<AllKept>
+        ensures permit { IfSome result (λ permit. (permit.heard ≡ heard) × (permit.kept ≡ self.now.kept.count)) }
+        ensures keeps { IfSome result (λ _. self.now.phase ≢ Phase.Failed) }
+    {
+        if self.phase == Phase::Failed {
+            return None;
+        }
+        self.kept.permit(heard)
     }
 
     // That all is kept, if it is, and no more comes.
@@ -219,10 +287,10 @@ pub struct Keeping {
 }
 
 impl Keeping {
-    /// Of a server that has not begun, of whose sheet these edits count; texts that it began with are as of this process,
-    /// which is none of it.
-    pub fn new(alloc: Global, edits: Vec<ListedEdit>, nobody: usize) -> Keeping {
-        let list = EditList::of(edits, nobody);
+    /// Of a server that has not begun, of whose sheet these edits count, and these are the keys; texts that it began with are
+    /// as of this process, which is none of it.
+    pub fn new(alloc: Global, edits: Vec<ListedEdit>, nobody: usize, keys: KeyTable) -> Keeping {
+        let list = EditList::of(edits, nobody, keys);
         Keeping {
             backlog: Mutex::new(Backlog::new(alloc, list)),
             news: Condvar::new(),
@@ -245,15 +313,15 @@ impl Keeping {
         self.done.notify_all();
     }
 
-    /// Waits until all edits are kept that the keeper has heard of, also that which is being made. None where they cannot
-    /// be.
+    /// Waits until all edits and keys are kept that the keeper has heard of, also those that are being made. None where they
+    /// cannot be.
     pub fn wait_for_all<R: Wait>(&self, rt: &R) -> Option<AllKept> {
         let backlog = self.backlog.lock(rt);
         let heard = backlog.heard;
         let backlog = self.done.wait_while(rt, backlog, |backlog| {
             backlog.kept.count < heard && backlog.phase != Phase::Failed
         });
-        backlog.kept.permit(heard)
+        backlog.permit(heard)
     }
 
     /// No more edits come.
@@ -265,18 +333,18 @@ impl Keeping {
         self.news.notify_one();
     }
 
-    /// Waits for edits, for a tick at most, and takes those that have come.
+    /// Waits for edits and keys, for a tick at most, and takes those that have come.
     pub fn take<R: Wait + Clock>(&self, rt: &R, alloc: Global) -> News {
         let backlog = self.backlog.lock(rt);
         let tick = Duration::from_millis(TICK);
         let (mut backlog, _) = self.news.wait_timeout_while(rt, backlog, tick, |backlog| {
-            backlog.edits.is_empty() && backlog.phase == Phase::Keeps
+            backlog.is_empty() && backlog.phase == Phase::Keeps
         });
         if backlog.phase == Phase::Failed {
             return News::Over;
         }
-        if !backlog.edits.is_empty() {
-            return News::Edits(backlog.take(alloc));
+        if !backlog.is_empty() {
+            return News::Some(backlog.take(alloc));
         }
         match backlog.phase {
             Phase::Keeps => News::Nothing,
@@ -284,7 +352,7 @@ impl Keeping {
         }
     }
 
-    /// The edits of a commit are kept: whoever waits for them may go on.
+    /// What a commit has kept is kept: whoever waits for it may go on.
     pub fn count<R: Wait>(&self, rt: &R, committed: &Committed) {
         self.backlog.lock(rt).keep(committed);
         self.done.notify_all();

@@ -30,6 +30,11 @@ impl<'a> Visit<'a> {
         }
     }
 
+    /// The door of its server.
+    pub fn door(&self) -> &'a Door {
+        self.door
+    }
+
     /// The process that the session has joined, if it has.
     pub fn process(&self) -> Option<u64> {
         match self.joined.load(Ordering::SeqCst) {

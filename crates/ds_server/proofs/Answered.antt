@@ -6,7 +6,7 @@ use Rattle.ds_formula.specs.declared.cells.Shape.{Shape}
 use Rattle.ds_server.specs.declared.request.LineFault.{LineFault}
 use Rattle.ds_server.specs.declared.request.LineFault.TheVariants as faults
 use Rattle.ds_server.specs.DeskCalls.{Call}
-use Rattle.ds_server.specs.Replies.{Said, Joined, JoinedLost, Done, Overtaken, Settled, Unsettled, Tells, GotCell, Listed, Left, Refused, Faulted, has_lost, said_to}
+use Rattle.ds_server.specs.Replies.{Said, Joined, JoinedLost, Done, Overtaken, Settled, Unsettled, Tells, GotCell, Listed, Resolved, Left, Refused, Faulted, has_lost, said_to}
 use Rattle.ds_server.specs.Desks.{Rules, joined_after}
 use Rattle.ds_server.specs.LineRequests.{call_of, number_field}
 use Rattle.ds_server.specs.Asked.{ReadsJson}
@@ -36,6 +36,7 @@ joined_alike (Some done) joined (Unsettled place word) = refl
 joined_alike (Some done) joined (Tells last) = refl
 joined_alike (Some done) joined (GotCell cell value edit) = refl
 joined_alike (Some done) joined (Listed from edits of) = refl
+joined_alike (Some done) joined (Resolved edit) = refl
 joined_alike (Some done) joined Left = refl
 joined_alike (Some done) joined (Refused why) = refl
 joined_alike (Some done) joined (Faulted fault) = refl

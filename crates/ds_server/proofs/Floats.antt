@@ -6,7 +6,7 @@ use Rattle.ds_formula.specs.declared.cells.Shape.{Shape}
 use Rattle.ds_eval.specs.declared.value.Value.{Value}
 use Rattle.ds_server.specs.declared.desk.CallRefusal.{CallRefusal}
 use Rattle.ds_server.specs.declared.desk.CallRefusal.TheVariants as refusal
-use Rattle.ds_server.specs.Replies.{Said, Joined, JoinedLost, Done, Overtaken, Settled, Unsettled, Tells, GotCell, Listed, Left, Refused, Faulted, EditEntry}
+use Rattle.ds_server.specs.Replies.{Said, Joined, JoinedLost, Done, Overtaken, Settled, Unsettled, Tells, GotCell, Listed, Resolved, Left, Refused, Faulted, EditEntry}
 use Rattle.ds_server.specs.SessionTexts.{value_data, row_data, entry_data, rows_of, said_data, refusal_data}
 
 row_no_float : (values : List Value) → items_have_float (items_of (map value_data values)) ≡ false
@@ -27,6 +27,7 @@ refusal_no_float (refusal.Text at) = refl
 refusal_no_float refusal.Stopped = refl
 refusal_no_float refusal.RecordsFull = refl
 refusal_no_float refusal.NoMemory = refl
+refusal_no_float refusal.KeyReused = refl
 refusal_no_float refusal.NoEdit = refl
 refusal_no_float refusal.NoHistory = refl
 
@@ -45,6 +46,8 @@ said_no_float shape (Tells (Some told)) = refl
 said_no_float shape (GotCell cell value None) = refl
 said_no_float shape (GotCell cell value (Some edit)) = refl
 said_no_float shape (Listed from edits of) = rw (entries_no_float edits) refl
+said_no_float shape (Resolved None) = refl
+said_no_float shape (Resolved (Some edit)) = refl
 said_no_float shape Left = refl
 said_no_float shape (Refused why) = refusal_no_float why
 said_no_float shape (Faulted fault) = refl

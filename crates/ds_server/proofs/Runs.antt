@@ -18,7 +18,7 @@ use Rattle.ds_server.specs.declared.desk.Reported.{Reported}
 use Rattle.ds_server.specs.DeskCalls.{Call, Join, JoinAny, Set, View, Leave}
 use Rattle.ds_server.specs.Replies.{Said, Joined, Refused, Left, report_view}
 use Rattle.ds_server.specs.Desks.{Leaves}
-use Rattle.ds_server.specs.WorldDesks.{TakesSnapshot, reports, is_refused, lacks, Does, joins, sets, snapshots, tells, leaves, joins_any, has_none, undoes, has_no_edit, views, views_by_any, has_no_view, gets, lists, world_rules}
+use Rattle.ds_server.specs.WorldDesks.{TakesSnapshot, reports, is_refused, lacks, Does, joins, sets, snapshots, tells, leaves, joins_any, has_none, undoes, has_no_edit, views, views_by_any, has_no_view, gets, sets_no_key, has_no_keys, lists, world_rules}
 use Rattle.ds_server.specs.Session.{Obeys, refuses, calls, Answers, no_json, no_memory, reads, Turns, short, long, Session, begins, turns, Broken, Ran, Outcome}
 use Rattle.ds_server.specs.SessionTraces.{snapshot_trace, does_trace, obeys_trace, answers_trace, turns_trace, session_trace, broken_trace, ran_trace, leaves_trace, outcome_trace}
 
@@ -45,6 +45,8 @@ does_leads old new call said (views_by_any p last end mid n taken takes) =
     both_lead (does_trace old mid JoinAny (Joined p last) taken) (snapshot_trace p mid new end takes) old mid new (does_leads old mid JoinAny (Joined p last) taken) (snapshot_leads p mid new end takes)
 does_leads old new call said (has_no_view why n does) = does_leads old new JoinAny (Refused why) does
 does_leads old new call said (gets joined cell seen found n does is) = does_leads old new (View joined) (report_view seen) does
+does_leads old new call said (sets_no_key p cell text key) = refl
+does_leads old new call said (has_no_keys key) = refl
 does_leads old new call said (lists from most found is) = refl
 
 -- what a settle and a report do to a world is a run

@@ -7,7 +7,7 @@ use Rattle.ds_server.specs.declared.request.Request.TheVariants as request
 use Rattle.ds_server.specs.declared.request.LineFault.{LineFault}
 use Rattle.ds_server.specs.declared.request.LineFault.TheVariants.{NotJson, NoMemory}
 use Rattle.ds_server.specs.SessionLimits.{HISTORY_MOST}
-use Rattle.ds_server.specs.DeskCalls.{Call, Join, JoinAny, Set, Undo, Report, View, Get, Listing, Last}
+use Rattle.ds_server.specs.DeskCalls.{Call, Join, JoinAny, Set, SetOnce, Undo, Report, View, Get, Listing, Resolve, Last}
 use Rattle.ds_server.specs.LineRequests.{IsJson, IsNoJson}
 
 -- the call of a request
@@ -15,10 +15,12 @@ abbrev pub request_view : Request → Call
 request_view (request.Join process) = Join process
 request_view request.JoinAny = JoinAny
 request_view (request.Set process cell text) = Set process cell text.now
+request_view (request.SetOnce process cell text key) = SetOnce process cell text.now key.now
 request_view (request.Undo process cell) = Undo process cell
 request_view (request.View joined) = View joined
 request_view (request.Get joined cell) = Get joined cell
 request_view (request.History from) = Listing from HISTORY_MOST
+request_view (request.Resolve key) = Resolve key.now
 request_view (request.Report process) = Report process
 request_view (request.Last process) = Last process
 

@@ -9,7 +9,7 @@ use Rattle.ds_server.specs.declared.session.Hindrance.{Hindrance}
 use Rattle.ds_server.specs.declared.session.Hindrance.TheVariants as hindrances
 use Rattle.ds_server.specs.declared.session.SessionEnd.{SessionEnd}
 use Rattle.ds_server.specs.declared.session.SessionEnd.TheVariants as ends
-use Rattle.ds_server.specs.Replies.{Said, Joined, JoinedLost, Done, Overtaken, Settled, Unsettled, Tells, GotCell, Listed, Refused, Faulted, entry_view}
+use Rattle.ds_server.specs.Replies.{Said, Joined, JoinedLost, Done, Overtaken, Settled, Unsettled, Tells, GotCell, Listed, Resolved, Refused, Faulted, entry_view}
 use Rattle.ds_server.specs.Desks.{Rules, Seated, joined_after}
 use Rattle.ds_server.specs.SessionTexts.{said_text}
 use Rattle.ds_server.specs.Session.{Answers}
@@ -25,6 +25,7 @@ response_view (response.Unsettled place word) = Unsettled place word
 response_view (response.Tells last) = Tells last
 response_view (response.GotCell cell value edit) = GotCell cell value (option_map entry_view edit)
 response_view (response.Listed from history) = Listed from (map entry_view history.edits.items) history.of
+response_view (response.Resolved edit) = Resolved (option_map entry_view edit)
 response_view (response.Refused why) = Refused why
 response_view (response.Faulted fault) = Faulted fault
 

@@ -4,16 +4,18 @@ use Rattle.std.specs.Str.{bytes_eq, IsUtf8}
 use Rattle.serde_json.specs.Data.{Data}
 use Rattle.serde_json.specs.Read.{read}
 use Rattle.serde_json.specs.Find.{get, as_str, as_number, as_u64}
+use Rattle.ds_formula.specs.declared.cells.Cell.{Cell}
 use Rattle.ds_formula.specs.declared.cells.Shape.{Shape}
 use Rattle.ds_formula.specs.Cells.{IsInside}
 use Rattle.ds_formula.specs.Names.{cell_named}
+use Rattle.ds_key.specs.Keys.{is_key}
 use Rattle.ds_script_io.specs.Fields.{◌>>=◌}
 use Rattle.ds_server.specs.declared.request.Operation.{Operation}
 use Rattle.ds_server.specs.declared.request.Operation.TheVariants as verb
 use Rattle.ds_server.specs.declared.request.LineFault.{LineFault}
 use Rattle.ds_server.specs.declared.request.LineFault.TheVariants as fault
 use Rattle.ds_server.specs.SessionLimits.{HISTORY_MOST}
-use Rattle.ds_server.specs.DeskCalls.{Call, Join, JoinAny, Set, Undo, Report, View, Get, Listing, Last, Leave}
+use Rattle.ds_server.specs.DeskCalls.{Call, Join, JoinAny, Set, SetOnce, Undo, Report, View, Get, Listing, Resolve, Last, Leave}
 
 -- ---- JSON
 
@@ -45,8 +47,9 @@ verb_named word =
     else (if bytes_eq word (codes "view") then Some verb.View
     else (if bytes_eq word (codes "get") then Some verb.Get
     else (if bytes_eq word (codes "history") then Some verb.History
+    else (if bytes_eq word (codes "outcome") then Some verb.Outcome
     else (if bytes_eq word (codes "last") then Some verb.Last
-    else None)))))))
+    else None))))))))
 
 -- ---- calls
 
@@ -82,9 +85,22 @@ abbrev pub admits : Option (List ℕ) → Data → Bool
 admits None value = true
 admits (Some token) value = is_token token (text_field (codes "token") value)
 
--- the edit by the process that the fields ask for: a cell of the sheet, and a text
+-- the key that a text is, if it is one
+abbrev pub key_named : List ℕ → Option (List ℕ)
+key_named text = if is_key text then Some text else None
+
+-- the key that a field has, if it is one
+abbrev pub key_in : Data → Option (List ℕ)
+key_in field = as_str field >>= key_named
+
+-- the edit by the process, with the key that its field has, where it has that field
+abbrev pub set_with : ℕ → Cell → List ℕ → Option Data → Option Call
+set_with process cell text None = Some (Set process cell text)
+set_with process cell text (Some field) = key_in field >>= λ key. Some (SetOnce process cell text key)
+
+-- the edit by the process that the fields ask for: a cell of the sheet, and a text; and a key, which may be left out
 abbrev pub set_in : Shape → ℕ → Data → Option Call
-set_in shape process value = (text_field (codes "cell") value >>= cell_named shape) >>= λ cell. text_field (codes "text") value >>= λ text. Some (Set process cell text)
+set_in shape process value = (text_field (codes "cell") value >>= cell_named shape) >>= λ cell. text_field (codes "text") value >>= λ text. set_with process cell text (get (codes "key") value)
 
 -- the undo by the process that the fields ask for: of a cell of the sheet
 abbrev pub undo_in : Shape → ℕ → Data → Option Call
@@ -97,6 +113,10 @@ get_in shape joined value = (text_field (codes "cell") value >>= cell_named shap
 -- the question that the fields ask: for the edits from a place on
 abbrev pub history_in : Data → Option Call
 history_in value = number_field (codes "from") value >>= λ from. Some (Listing from HISTORY_MOST)
+
+-- the question that the fields ask: what became of the edit with a key
+abbrev pub resolve_in : Data → Option Call
+resolve_in value = (get (codes "key") value >>= key_in) >>= λ key. Some (Resolve key)
 
 -- the call, where the fields have one
 abbrev pub or_bad_field : Option Call → Result Call LineFault
@@ -122,6 +142,7 @@ abbrev pub call_by : Shape → ℕ → Option (List ℕ) → Option ℕ → Oper
 call_by shape processes token joined verb.View value = read_with token joined value (Some (View joined))
 call_by shape processes token joined verb.Get value = read_with token joined value (get_in shape joined value)
 call_by shape processes token joined verb.History value = read_with token joined value (history_in value)
+call_by shape processes token joined verb.Outcome value = read_with token joined value (resolve_in value)
 call_by shape processes token None verb.Join value = join_with processes token value
 call_by shape processes token (Some process) verb.Join value = Err fault.AlreadyJoined
 call_by shape processes token None verb value = Err fault.NotJoined
@@ -150,11 +171,13 @@ call_of shape processes token joined value = call_op shape processes token joine
 abbrev pub IsCallOf : Shape → ℕ → Option ℕ → Call → Type 0
 IsCallOf shape processes joined (Join process) = (joined ≡ None) × (process < processes)
 IsCallOf shape processes joined (Set process cell text) = (joined ≡ Some process) × IsInside shape cell
+IsCallOf shape processes joined (SetOnce process cell text key) = (joined ≡ Some process) × IsInside shape cell × (is_key key ≡ true)
 IsCallOf shape processes joined JoinAny = joined ≡ None
 IsCallOf shape processes joined (Undo process cell) = (joined ≡ Some process) × IsInside shape cell
 IsCallOf shape processes joined (View by) = joined ≡ by
 IsCallOf shape processes joined (Get by cell) = (joined ≡ by) × IsInside shape cell
 IsCallOf shape processes joined (Listing from most) = most ≡ HISTORY_MOST
+IsCallOf shape processes joined (Resolve key) = is_key key ≡ true
 IsCallOf shape processes joined (Report process) = joined ≡ Some process
 IsCallOf shape processes joined (Last process) = joined ≡ Some process
 IsCallOf shape processes joined (Leave process) = ⊥

@@ -35,6 +35,7 @@ pub data Said : Type 0 where
   Tells : Option LastEdit → Said
   GotCell : Cell → Value → Option EditEntry → Said
   Listed : ℕ → List EditEntry → ℕ → Said
+  Resolved : Option EditEntry → Said
   Left : Said
   Refused : CallRefusal → Said
   Faulted : LineFault → Said
@@ -86,6 +87,11 @@ got_view cell (Err why) = Refused why
 abbrev pub history_view : ℕ → Result History CallRefusal → Said
 history_view from (Ok history) = Listed from (map entry_view history.edits.items) history.of
 history_view from (Err why) = Refused why
+
+-- what is said to a question for the edit with a key: which it is, or that none has it, for good
+abbrev pub resolved_view : Result (Option ListedEdit) CallRefusal → Said
+resolved_view (Ok edit) = Resolved (option_map entry_view edit)
+resolved_view (Err why) = Refused why
 
 -- what is said to a recovery
 abbrev pub last_view : Result (Option LastEdit) CallRefusal → Said

@@ -19,7 +19,7 @@ use Rattle.ds_server.specs.declared.desk.CallRefusal.{CallRefusal}
 use Rattle.ds_server.specs.declared.desk.CallRefusal.TheVariants as refusal
 use Rattle.ds_server.specs.declared.request.LineFault.{LineFault}
 use Rattle.ds_server.specs.declared.request.LineFault.TheVariants as fault
-use Rattle.ds_server.specs.Replies.{Said, Joined, JoinedLost, Done, Overtaken, Settled, Unsettled, Tells, GotCell, Listed, Left, Refused, Faulted, EditEntry}
+use Rattle.ds_server.specs.Replies.{Said, Joined, JoinedLost, Done, Overtaken, Settled, Unsettled, Tells, GotCell, Listed, Resolved, Left, Refused, Faulted, EditEntry}
 
 -- ---- codes and names
 
@@ -156,6 +156,12 @@ entries_data edits = array (items_of (map entry_data edits))
 abbrev pub listed_data : ℕ → List EditEntry → ℕ → Data
 listed_data from edits of = object (member (codes "edits") (entries_data edits) (member (codes "from") (number_data from) (member (codes "of") (number_data of) (member (codes "ok") (text_data (codes "history")) no_members))))
 
+-- what became of the edit with a key: {"edit":{"cell":"A1","number":0,"process":0,"text":"=1+2"},"ok":"outcome","outcome":"done"}, or
+-- that none has it, for good: {"edit":null,"ok":"outcome","outcome":"never"}
+abbrev pub resolved_data : Option EditEntry → Data
+resolved_data None = object (member (codes "edit") null (member (codes "ok") (text_data (codes "outcome")) (member (codes "outcome") (text_data (codes "never")) no_members)))
+resolved_data (Some e) = object (member (codes "edit") (entry_data e) (member (codes "ok") (text_data (codes "outcome")) (member (codes "outcome") (text_data (codes "done")) no_members)))
+
 -- an error by its code and name: {"code":1,"error":"not-json"}
 abbrev pub error_data : ℕ → List ℕ → Data
 error_data code name = object (member (codes "code") (number_data code) (member (codes "error") (text_data name) no_members))
@@ -171,6 +177,7 @@ refusal_data (refusal.Text at) = text_fault_data at
 refusal_data refusal.Stopped = error_data 13 (codes "stopped")
 refusal_data refusal.RecordsFull = error_data 14 (codes "records-full")
 refusal_data refusal.NoMemory = error_data 15 (codes "no-memory")
+refusal_data refusal.KeyReused = error_data 21 (codes "key-reused")
 refusal_data refusal.NoEdit = error_data 22 (codes "no-edit")
 refusal_data refusal.NoHistory = error_data 23 (codes "no-history")
 
@@ -185,6 +192,7 @@ said_data shape (Unsettled at word) = unsettled_data shape at word
 said_data shape (Tells last) = tells_data shape last
 said_data shape (GotCell cell value edit) = got_data cell value edit
 said_data shape (Listed from edits of) = listed_data from edits of
+said_data shape (Resolved edit) = resolved_data edit
 said_data shape Left = null
 said_data shape (Refused why) = refusal_data why
 said_data shape (Faulted fault) = error_data (code_of_fault fault) (name_of_fault fault)

@@ -30,7 +30,7 @@ use Rattle.ds_server.specs.declared.desk.Reported.TheVariants as report
 use Rattle.ds_server.specs.declared.desk.History.{History}
 use Rattle.ds_server.specs.declared.desk.Got.{Got}
 use Rattle.ds_server.specs.declared.desk.Got.TheVariants as got
-use Rattle.ds_server.specs.DeskCalls.{Call, Join, JoinAny, Set, Undo, Report, View, Get, Listing, Last, Leave}
+use Rattle.ds_server.specs.DeskCalls.{Call, Join, JoinAny, Set, SetOnce, Undo, Report, View, Get, Listing, Resolve, Last, Leave}
 use Rattle.ds_server.specs.Replies.{Said, Joined, Left, Refused, EditEntry, entry_view, joined_view, set_view, report_view, got_view, history_view, last_view}
 use Rattle.ds_server.specs.Desks.{Rules}
 
@@ -145,7 +145,7 @@ pub data TakesSnapshot (p : ℕ) (old : WorldValue) : Result Reported CallRefusa
 -- a call of a session, its answer, and the world before and after it: a join and `last` are whole recoveries, an edit
 -- is a whole edit, a report is a settle and then a whole report; a process is given back in no call. Any process is the last one that is in
 -- no call; without a process of its own a session sees the sheet by a join of any and that one's report; an undo is an edit
--- to the text before the cell's last edit
+-- to the text before the cell's last edit. A world keeps no keys
 pub data Does (old : WorldValue) : Call → Said → WorldValue → Type 0 where
   joins : (p : ℕ) (answer : Result RecoveryEnd Refusal) (last : Result (Option LastEdit) CallRefusal) (new : WorldValue) → Whole answers.Recovery p (BeginRecover p) old answer new → Recovers answer last
       → Does old (Join p) (joined_view p last) new
@@ -164,6 +164,8 @@ pub data Does (old : WorldValue) : Call → Said → WorldValue → Type 0 where
   has_no_view : (why : CallRefusal) (new : WorldValue) → Does old JoinAny (Refused why) new → Does old (View None) (Refused why) new
   gets : (joined : Option ℕ) (cell : Cell) (seen : Result Reported CallRefusal) (found : Result Got CallRefusal) (new : WorldValue) → Does old (View joined) (report_view seen) new → Gets new cell seen found
       → Does old (Get joined cell) (got_view cell found) new
+  sets_no_key : (p : ℕ) (cell : Cell) (text key : List ℕ) → Does old (SetOnce p cell text key) (Refused refusal.NoHistory) old
+  has_no_keys : (key : List ℕ) → Does old (Resolve key) (Refused refusal.NoHistory) old
   lists : (from most : ℕ) (found : Result History CallRefusal) → Lists old from most found → Does old (Listing from most) (history_view from found) old
 
 -- what a world says of itself as a desk

@@ -5,7 +5,7 @@ ghost use Rattle.serde_json.specs.View.{view};
 ghost use Rattle.serde_json.specs.Written.{compact_text};
 ghost use Rattle.ds_formula.specs.Cells.{cell_at};
 ghost use Rattle.ds_formula.specs.Names.{cell_text};
-ghost use Rattle.ds_server.specs.SessionTexts.{code_of_fault, name_of_fault, outcome_text, edit_data, last_data, other_data, row_data, rows_data, place_text, joined_data, joined_lost_data, done_data, overtaken_data, settled_data, unsettled_data, tells_data, edit_name_data, edit_of_data, text_by, got_data, entry_data, entries_data, listed_data, error_data, text_fault_data, refusal_data, said_data, said_text};
+ghost use Rattle.ds_server.specs.SessionTexts.{code_of_fault, name_of_fault, outcome_text, edit_data, last_data, other_data, row_data, rows_data, place_text, joined_data, joined_lost_data, done_data, overtaken_data, settled_data, unsettled_data, tells_data, edit_name_data, edit_of_data, text_by, got_data, entry_data, entries_data, listed_data, resolved_data, error_data, text_fault_data, refusal_data, said_data, said_text};
 ghost use Rattle.ds_server.specs.Replies.{entry_view};
 ghost use Rattle.ds_server.specs.LineAnswers.{response_view};
 
@@ -42,6 +42,8 @@ pub enum Response {
     GotCell(Cell, Value, Option<ListedEdit>),
     /// The edits that count, from this place on.
     Listed(usize, History),
+    /// The edit with a key; none where no edit has it, for good.
+    Resolved(Option<ListedEdit>),
     /// The desk refuses the call.
     Refused(CallRefusal),
     /// The line is no call.
@@ -293,6 +295,18 @@ fn listed_value(alloc: Global, from: usize, history: &History) -> Result<Json, A
     json!(in alloc; {"edits": edits, "from": (from as u64), "of": (history.of as u64), "ok": "history"})
 }
 
+fn resolved_value(alloc: Global, edit: &Option<ListedEdit>) -> Result<Json, AllocError>
+    ensures { IfOk result (λ v. view v ≡ resolved_data (option_map entry_view edit.now)) }
+{
+    match edit {
+        Some(edit) => {
+            let edit = entry_value(alloc, edit)?;
+            json!(in alloc; {"edit": edit, "ok": "outcome", "outcome": "done"})
+        }
+        None => json!(in alloc; {"edit": null, "ok": "outcome", "outcome": "never"}),
+    }
+}
+
 fn error_value(alloc: Global, code: u64, name: &str) -> Result<Json, AllocError>
     ensures { IfOk result (λ v. view v ≡ error_data code name.now) }
 {
@@ -314,6 +328,7 @@ fn refusal_value(alloc: Global, refusal: CallRefusal) -> Result<Json, AllocError
         CallRefusal::Stopped => error_value(alloc, 13, "stopped"),
         CallRefusal::RecordsFull => error_value(alloc, 14, "records-full"),
         CallRefusal::NoMemory => error_value(alloc, 15, "no-memory"),
+        CallRefusal::KeyReused => error_value(alloc, 21, "key-reused"),
         CallRefusal::NoEdit => error_value(alloc, 22, "no-edit"),
         CallRefusal::NoHistory => error_value(alloc, 23, "no-history"),
     }
@@ -332,6 +347,7 @@ fn response_value(alloc: Global, shape: &Shape, response: &Response) -> Result<J
         Response::Tells(last) => tells_value(alloc, shape, *last),
         Response::GotCell(cell, value, edit) => got_value(alloc, *cell, *value, edit),
         Response::Listed(from, history) => listed_value(alloc, *from, history),
+        Response::Resolved(edit) => resolved_value(alloc, edit),
         Response::Refused(refusal) => refusal_value(alloc, *refusal),
         Response::Faulted(fault) => error_value(alloc, fault.code(), fault.name()),
     }

@@ -1,9 +1,10 @@
 //! What sessions act on.
 
-ghost use Rattle.std.specs.Prelude.{◌≡◌, ◌<◌, option_map};
+ghost use Rattle.std.specs.Prelude.{◌≡◌, ◌<◌, option_map, true};
 ghost use Rattle.ds_formula.specs.Cells.{IsInside};
-ghost use Rattle.ds_server.specs.DeskCalls.{Join, JoinAny, Set, Undo, Report, View, Get, Listing, Last, Leave};
-ghost use Rattle.ds_server.specs.Replies.{Left, joined_view, joined_any_view, set_view, report_view, got_view, history_view, last_view};
+ghost use Rattle.ds_key.specs.Keys.{is_key};
+ghost use Rattle.ds_server.specs.DeskCalls.{Join, JoinAny, Set, SetOnce, Undo, Report, View, Get, Listing, Resolve, Last, Leave};
+ghost use Rattle.ds_server.specs.Replies.{Left, joined_view, joined_any_view, set_view, report_view, got_view, history_view, resolved_view, last_view};
 ghost use Rattle.ds_server.specs.Desks.{Seated, SitsAfter, SitsAfterAny, KeepsSeats};
 
 use ds_eval::value::Value;
@@ -29,9 +30,11 @@ pub enum CallRefusal {
     RecordsFull,
     /// An allocation failed. Code 15.
     NoMemory,
+    /// An edit with a key: the key is that of an edit of another cell or to another text, or of none, for good. Code 21.
+    KeyReused,
     /// An undo: no edit of the cell counts. Code 22.
     NoEdit,
-    /// A list of edits, what a cell is, or an undo: the desk keeps no list of its edits. Code 23.
+    /// A list of edits, what a cell is, an undo, or a key: the desk keeps no list of its edits. Code 23.
     NoHistory,
 }
 
@@ -127,6 +130,23 @@ pub trait Desk {
         ensures does { rules.does self.old (Set process cell text.now) (set_view result) self.new }
         ensures sits { rules.sits self.new process };
 
+    /// The same, but that an edit which counts and has this key is not made again: it is answered as the first was.
+    /// `KeyReused` where the key is that of an edit of another cell or to another text, or of none, for good; then nothing
+    /// is edited.
+    fn set_once(
+        &mut self,
+        alloc: Global,
+        process: usize,
+        cell: Cell,
+        text: &[u8],
+        key: &[u8],
+    ) -> Result<EditEnd, CallRefusal>
+        requires sits { rules.sits self.old process }
+        requires inside { IsInside (rules.shape self.old) cell }
+        requires key { is_key key.now ≡ true }
+        ensures does { rules.does self.old (SetOnce process cell text.now key.now) (set_view result) self.new }
+        ensures sits { rules.sits self.new process };
+
     /// A whole edit of the cell to the text that it had before its last edit that counts: the empty one where that is
     /// its first. `NoEdit` where no edit of the cell counts, and then nothing is edited.
     fn undo(&mut self, alloc: Global, process: usize, cell: Cell) -> Result<EditEnd, CallRefusal>
@@ -159,6 +179,12 @@ pub trait Desk {
     /// this many.
     fn history(&mut self, alloc: Global, from: usize, most: usize) -> Result<History, CallRefusal>
         ensures does { rules.does self.old (Listing from most) (history_view from result) self.new }
+        ensures sits { KeepsSeats rules self.old self.new };
+
+    /// The edit with this key, which counts. None where no edit has it, and from then on none ever will.
+    fn resolve(&mut self, alloc: Global, key: &[u8]) -> Result<Option<ListedEdit>, CallRefusal>
+        requires { is_key key.now ≡ true }
+        ensures does { rules.does self.old (Resolve key.now) (resolved_view result) self.new }
         ensures sits { KeepsSeats rules self.old self.new };
 
     /// A whole recovery, which reports the process's last edit that was announced, if any.

@@ -1,14 +1,17 @@
 //! Reads what a line asks for.
 
-ghost use Rattle.std.specs.Prelude.{◌≡◌, option_map, IfOk, IfSome, codes};
+ghost use Rattle.std.specs.Prelude.{◌≡◌, option_map, IfOk, IfSome, codes, true};
+ghost use Rattle.ds_formula.specs.Cells.{IsInside};
+ghost use Rattle.ds_key.specs.Keys.{is_key};
 ghost use Rattle.std.specs.Str.{bytes_eq};
 ghost use Rattle.serde_json.specs.Find.{get};
 ghost use Rattle.serde_json.specs.View.{view};
-ghost use Rattle.ds_server.specs.LineRequests.{verb_named, text_field, number_field, is_number, is_any, admits, join_named, join_in, join_with, may_read, read_with, set_in, undo_in, get_in, history_in, call_of, IsCallOf};
+ghost use Rattle.ds_server.specs.LineRequests.{verb_named, text_field, number_field, is_number, is_any, admits, join_named, join_in, join_with, may_read, read_with, key_in, key_named, set_with, set_in, undo_in, get_in, history_in, resolve_in, call_of, IsCallOf};
 ghost use Rattle.ds_server.specs.Asked.{ReadsJson, request_view, option_view, result_view};
 ghost use Rattle.std.specs.Prelude.{None, Some};
 
 use ds_formula::cells::{Cell, Shape};
+use ds_key::key::is_key;
 use serde_json::Value;
 use std::alloc::Global;
 
@@ -50,6 +53,8 @@ pub enum Operation {
     Get,
     /// The edits that count.
     History,
+    /// What became of the edit with a key.
+    Outcome,
     /// To report the last edit.
     Last,
 }
@@ -63,6 +68,8 @@ pub enum Request<'a> {
     JoinAny,
     /// An edit by the process of the cell to the text.
     Set(usize, Cell, &'a [u8]),
+    /// An edit by the process of the cell to the text, with this key.
+    SetOnce(usize, Cell, &'a [u8], &'a [u8]),
     /// An edit by the process of the cell to the text that it had before its last edit.
     Undo(usize, Cell),
     /// A settle and a report by the process.
@@ -73,6 +80,8 @@ pub enum Request<'a> {
     Get(Option<usize>, Cell),
     /// The edits that count, from this place on.
     History(usize),
+    /// What became of the edit with this key.
+    Resolve(&'a [u8]),
     /// A recovery of the process.
     Last(usize),
 }
@@ -99,6 +108,7 @@ fn verb_named(word: &str) -> Option<Operation>
         "view" => Some(Operation::View),
         "get" => Some(Operation::Get),
         "history" => Some(Operation::History),
+        "outcome" => Some(Operation::Outcome),
         "last" => Some(Operation::Last),
         _ => None,
     }
@@ -195,6 +205,36 @@ fn join_request<'a>(value: &Value, shape: &Shape, processes: usize) -> Option<Re
     }
 }
 
+// The key that a field has, if it is one.
+fn key_of(field: &Value) -> Option<&[u8]>
+    ensures key { option_map (λ k. k.now) result ≡ key_in (view field.now) }
+    ensures is { IfSome result (λ k. is_key k.now ≡ true) }
+{
+    let text = field.as_str()?.as_bytes();
+    if is_key(text) { Some(text) } else { None }
+}
+
+// The edit by a process, with the key that its field has, where it has that field.
+fn set_with<'a>(
+    shape: &Shape,
+    processes: usize,
+    process: usize,
+    cell: Cell,
+    text: &'a [u8],
+    field: Option<&'a Value>,
+) -> Option<Request<'a>>
+    requires { IsInside shape.now cell }
+    ensures value { option_view result ≡ set_with process cell text.now (option_map (λ f. view f.now) field.entry) }
+    ensures fits { IfSome result (λ r. IsCallOf shape.now processes (Some process) (request_view r)) }
+{
+    // The body does not use them: a clause names them.
+    let (_shape, _processes) = (*shape, processes);
+    match field {
+        Some(field) => Some(Request::SetOnce(process, cell, text, key_of(field)?)),
+        None => Some(Request::Set(process, cell, text)),
+    }
+}
+
 // The edit by a process of a cell of the sheet.
 fn set_request<'a>(
     value: &'a Value,
@@ -206,8 +246,8 @@ fn set_request<'a>(
     ensures fits { IfSome result (λ r. IsCallOf shape.now processes (Some process) (request_view r)) }
 {
     let cell = shape.named(text_of(value, "cell")?.as_bytes())?;
-    let text = text_of(value, "text")?;
-    Some(Request::Set(process, cell, text.as_bytes()))
+    let text = text_of(value, "text")?.as_bytes();
+    set_with(shape, processes, process, cell, text, value.get("key"))
 }
 
 // The undo by a process of a cell of the sheet.
@@ -252,6 +292,22 @@ fn history_request<'a>(
     let (_shape, _processes, _joined) = (*shape, processes, joined);
     let from = number_of(value, "from")?;
     Some(Request::History(from as usize))
+}
+
+// The question what became of the edit with a key.
+fn resolve_request<'a>(
+    value: &'a Value,
+    shape: &Shape,
+    processes: usize,
+    joined: Option<usize>,
+) -> Option<Request<'a>>
+    ensures value { option_view result ≡ resolve_in (view value.now) }
+    ensures fits { IfSome result (λ r. IsCallOf shape.now processes joined (request_view r)) }
+{
+    // The body does not use them: a clause names them.
+    let (_shape, _processes, _joined) = (*shape, processes, joined);
+    let key = key_of(value.get("key")?)?;
+    Some(Request::Resolve(key))
 }
 
 // A join: the process, where the value has the token that it has to have, if any.
@@ -331,6 +387,10 @@ pub fn read_request<'a>(
         (Some(Operation::History), _) => {
             let history = history_request(value, shape, processes, joined);
             read_with(value, shape, processes, token, joined, history)
+        }
+        (Some(Operation::Outcome), _) => {
+            let resolve = resolve_request(value, shape, processes, joined);
+            read_with(value, shape, processes, token, joined, resolve)
         }
         (Some(Operation::Join), None) => join_with(value, shape, processes, token),
         (Some(Operation::Join), Some(_)) => Err(LineFault::AlreadyJoined),

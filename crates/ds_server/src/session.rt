@@ -4,9 +4,10 @@ ghost use Rattle.std.specs.Prelude.{◌≡◌, ◌≢◌, ◌≤◌, ◌<◌, �
 ghost use Rattle.std.specs.Io.KnownBytes.{Consumes, Appends, IsAtEnd};
 ghost use Rattle.serde_json.specs.View.{view};
 ghost use Rattle.ds_formula.specs.Cells.{IsInside};
+ghost use Rattle.ds_key.specs.Keys.{is_key};
 ghost use Rattle.ds_script_io.specs.Streams.{reader_of, writer_of, is_flushed, bytes_given, has_ended, read_failed, write_failed};
 ghost use Rattle.ds_server.specs.SessionLimits.{SESSION_LINE_MOST, SESSION_MOST, HISTORY_MOST};
-ghost use Rattle.ds_server.specs.DeskCalls.{Join, JoinAny, Set, Undo, Report, View, Get, Listing, Last};
+ghost use Rattle.ds_server.specs.DeskCalls.{Join, JoinAny, Set, SetOnce, Undo, Report, View, Get, Listing, Resolve, Last};
 ghost use Rattle.ds_server.specs.Replies.{has_lost, said_to, set_view, report_view};
 ghost use Rattle.ds_server.specs.Desks.{Seated, Leaves, joined_after};
 ghost use Rattle.ds_server.specs.LineRequests.{IsCallOf};
@@ -127,6 +128,24 @@ fn set<B: Desk>(alloc: Global, desk: &mut B, process: usize, cell: Cell, text: &
     edit_response(desk.set(alloc, process, cell, text))
 }
 
+// A whole edit with a key.
+fn set_once<B: Desk>(
+    alloc: Global,
+    desk: &mut B,
+    process: usize,
+    cell: Cell,
+    text: &[u8],
+    key: &[u8],
+) -> Response
+    requires sits { B.rules.sits desk.old process }
+    requires inside { IsInside (B.rules.shape desk.old) cell }
+    requires key { is_key key.now ≡ true }
+    ensures does { B.rules.does desk.old (SetOnce process cell text.now key.now) (response_view result) desk.new }
+    ensures seated { Seated B.rules (joined_after (Some process) (response_view result)) desk.new }
+{
+    edit_response(desk.set_once(alloc, process, cell, text, key))
+}
+
 // A whole edit to the text before.
 fn undo<B: Desk>(alloc: Global, desk: &mut B, process: usize, cell: Cell) -> Response
     requires sits { B.rules.sits desk.old process }
@@ -183,6 +202,21 @@ pub fn history<B: Desk>(alloc: Global, desk: &mut B, joined: Option<usize>, from
     }
 }
 
+/// What became of the edit with a key.
+pub fn resolve<B: Desk>(alloc: Global, desk: &mut B, joined: Option<usize>, key: &[u8]) -> Response
+    requires seated { Seated B.rules joined desk.old }
+    requires key { is_key key.now ≡ true }
+    ensures does { B.rules.does desk.old (Resolve key.now) (response_view result) desk.new }
+    ensures seated { Seated B.rules (joined_after joined (response_view result)) desk.new }
+{
+    // The body does not use it: a clause names it.
+    let _joined = joined;
+    match desk.resolve(alloc, key) {
+        Ok(edit) => Response::Resolved(edit),
+        Err(refusal) => Response::Refused(refusal),
+    }
+}
+
 // A whole recovery.
 fn last<B: Desk>(alloc: Global, desk: &mut B, process: usize) -> Response
     requires { B.rules.sits desk.old process }
@@ -211,11 +245,15 @@ fn carry_out<B: Desk>(
         Request::Join(process) => join(alloc, desk, process),
         Request::JoinAny => join_any(alloc, desk),
         Request::Set(process, cell, text) => set(alloc, desk, process, cell, text),
+        Request::SetOnce(process, cell, text, key) => {
+            set_once(alloc, desk, process, cell, text, key)
+        }
         Request::Undo(process, cell) => undo(alloc, desk, process, cell),
         Request::Report(process) => report(alloc, desk, process),
         Request::View(joined) => view(alloc, desk, joined),
         Request::Get(joined, cell) => get(alloc, desk, joined, cell),
         Request::History(from) => history(alloc, desk, joined, from),
+        Request::Resolve(key) => resolve(alloc, desk, joined, key),
         Request::Last(process) => last(alloc, desk, process),
     }
 }
@@ -290,7 +328,7 @@ fn joined_with(joined: Option<usize>, response: &Response) -> Option<usize>
         Response::Joined(process, _) | Response::JoinedLost(process, _) => Some(*process),
         Response::Done(_) | Response::Overtaken(_, _) => joined,
         Response::Settled(_) | Response::Unsettled(_, _) | Response::Tells(_) => joined,
-        Response::GotCell(_, _, _) | Response::Listed(_, _) => joined,
+        Response::GotCell(_, _, _) | Response::Listed(_, _) | Response::Resolved(_) => joined,
         Response::Refused(_) | Response::Faulted(_) => joined,
     }
 }

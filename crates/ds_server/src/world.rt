@@ -392,6 +392,17 @@ impl Desk for World {
         edited(alloc, self, process, cell, text)
     }
 
+    fn set_once(
+        &mut self,
+        _alloc: Global,
+        _process: usize,
+        _cell: Cell,
+        _text: &[u8],
+        _key: &[u8],
+    ) -> Result<EditEnd, CallRefusal> {
+        Err(CallRefusal::NoHistory)
+    }
+
     fn undo(&mut self, alloc: Global, process: usize, cell: Cell) -> Result<EditEnd, CallRefusal> {
         undone(alloc, self, process, cell)
     }
@@ -415,6 +426,10 @@ impl Desk for World {
 
     fn history(&mut self, alloc: Global, from: usize, most: usize) -> Result<History, CallRefusal> {
         listing(alloc, self, from, most)
+    }
+
+    fn resolve(&mut self, _alloc: Global, _key: &[u8]) -> Result<Option<ListedEdit>, CallRefusal> {
+        Err(CallRefusal::NoHistory)
     }
 
     fn last(&mut self, alloc: Global, process: usize) -> Result<Option<LastEdit>, CallRefusal> {

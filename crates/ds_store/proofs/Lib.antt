@@ -1,6 +1,7 @@
 mod Apart
 mod Firsts
 mod Growing
+mod Keying
 pub mod Lasting
 mod Taking
 mod Texting

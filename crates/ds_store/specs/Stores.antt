@@ -10,6 +10,7 @@ use Rattle.ds_shared_seats.specs.declared.seat.Seat.{Seat}
 use Rattle.ds_shared_seats.specs.Calls.{Edits}
 use Rattle.ds_shared_seats.specs.Sheets.{IsSeatOf}
 use Rattle.ds_store_journal.specs.Journals.{AreCounts, IsJournal, KeptEdit, SheetSize}
+use Rattle.ds_store_keys.specs.Keys.{KeptKey, keys_of}
 use Rattle.ds_store_table.specs.Tables.{MayHold}
 use Rattle.sqlite.specs.Tree.{Trees}
 
@@ -66,8 +67,9 @@ pub record LeadsTo (layout : Layout) (counts : List ℕ) (s : SharedSheet) (seat
 abbrev pub size_seen : Layout → ℕ → SheetSize
 size_seen layout joins = record { columns = layout.shape.columns; rows = layout.shape.rows; processes = joins }
 
--- the trees of a database that has these lines, and after them some that keep these edits
-pub record MayKeep (layout : Layout) (held : List (List ℕ)) (kept edits : List KeptEdit) (trees : Trees) : Type 0 where
+-- the trees of a database that has these lines, and after them some that keep these edits and these keys
+pub record MayKeep (layout : Layout) (held : List (List ℕ)) (kept edits : List KeptEdit) (keys : List KeptKey) (trees : Trees) : Type 0 where
   pub lines : List (List ℕ)
   pub journal : IsJournal layout (held ++ lines) (kept ++ edits)
+  pub keys_are : keys_of layout (held ++ lines) ≡ keys_of layout held ++ keys
   pub holds : MayHold (held ++ lines) trees

@@ -1,6 +1,7 @@
 //! What is wrong with a store.
 
 use ds_store_journal::fault::JournalFault;
+use ds_store_keys::fault::KeyLineFault;
 use ds_store_table::lines::LinesFault;
 use sqlite::{Error, ErrorCode};
 use std::alloc::AllocError;
@@ -28,7 +29,7 @@ pub enum StoreFault {
     Sum(usize),
     /// The line of this number, from 1, and those after it have no sum, though lines before them have one.
     NoSum(usize),
-    /// An edit that was reported cannot be kept.
+    /// An edit that was reported, or a key, cannot be kept.
     Edit(JournalFault),
     /// The sheet of the store has another shape, or another number of processes, than the one that was asked for.
     OtherSheet {
@@ -70,6 +71,12 @@ impl From<JournalFault> for StoreFault {
             JournalFault::NoMemory => StoreFault::NoMemory,
             fault => StoreFault::Edit(fault),
         }
+    }
+}
+
+impl From<KeyLineFault> for StoreFault {
+    fn from(fault: KeyLineFault) -> StoreFault {
+        StoreFault::at_line(fault.number, fault.fault)
     }
 }
 

@@ -15,18 +15,22 @@ use ds_store_journal::joining::{joins_line, joins_of};
 use ds_store_journal::journal::sheet_line;
 use ds_store_journal::standing::{Mention, Standing, before_line};
 use ds_store_journal::standings::standings_of;
+use ds_store_keys::line::key_line;
+use ds_store_keys::note::KeyNote;
+use ds_store_keys::notes::{are_carried, carried, notes_of};
 use std::alloc::Global;
 use std::str;
 
 // How many texts of a new sheet one process sets at most, where there may be a further one for more.
 const SHARE: usize = 128;
 
-// What the lines of a journal lead to: the texts, how many processes may be joined, and how each process stands.
+// What the lines of a journal lead to: the texts, how many processes may be joined, how each process stands, and the keys.
 #[derive(Drop)]
 struct ReadJournal {
     texts: JournalTexts,
     joins: usize,
     standings: Vec<Standing>,
+    keys: Vec<KeyNote>,
 }
 
 // Adds a line to the others.
@@ -115,6 +119,19 @@ fn put_standings(
     Ok(())
 }
 
+// Adds the lines of the keys that are taken along.
+fn put_keys(
+    alloc: Global,
+    layout: &Layout,
+    read: &ReadJournal,
+    lines: &mut Vec<String>,
+) -> Result<(), StoreFault> {
+    for note in carried(&read.keys) {
+        put(lines, key_line(alloc, layout, note)?)?;
+    }
+    Ok(())
+}
+
 // Lines that are to go on from those that were read. Whether they do is seen when they are read.
 fn drafted(alloc: Global, read: &ReadJournal, origin: &str) -> Result<Vec<String>, StoreFault> {
     let layout = roomy(read);
@@ -124,6 +141,7 @@ fn drafted(alloc: Global, read: &ReadJournal, origin: &str) -> Result<Vec<String
     put(&mut lines, format!(in alloc; "# the texts of {origin}")?)?;
     put_texts(alloc, &read.texts, &layout, &mut lines)?;
     put_standings(alloc, &layout, read, &mut lines)?;
+    put_keys(alloc, &layout, read, &mut lines)?;
     Ok(lines)
 }
 
@@ -155,6 +173,7 @@ impl ReadJournal {
             texts,
             joins: joins_of(&layout, lines),
             standings,
+            keys: notes_of(alloc, &layout, lines)?,
         })
     }
 
@@ -162,6 +181,9 @@ impl ReadJournal {
     fn goes_over(&self, next: &ReadJournal) -> bool
         ensures { result ≡ true → (old new : List (List ℕ)) → HasRead self.now old → HasRead next.now new → GoesOver old new }
     {
+        if !are_carried(&self.keys, &next.keys) {
+            return false;
+        }
         if next.joins != self.joins || !self.texts.is_same(&next.texts) {
             return false;
         }
@@ -170,7 +192,7 @@ impl ReadJournal {
 }
 
 /// The lines with which a store of these lines goes over to a new sheet: it has the same texts, as many processes may be
-/// joined, and each of those stands as it stood. A comment says of what the texts are. The fault is of a line that is none
+/// joined, and each of those stands as it stood; and the last 65536 keys, of what they were. A comment says of what the texts are. The fault is of a line that is none
 /// of a journal, or of a sheet with more texts than its processes can set; or an allocation failed.
 pub fn next_lines(alloc: Global, lines: &[String], origin: &str) -> Result<Vec<String>, StoreFault>
     ensures { IfOk result (λ next. GoesOver (map string_bytes lines.now) (map string_bytes next.items)) }

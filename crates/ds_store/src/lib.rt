@@ -7,6 +7,7 @@ pub mod compact;
 pub mod fault;
 pub mod going_over;
 pub mod laws;
+mod noting;
 pub mod open;
 mod replay;
 pub mod seated;

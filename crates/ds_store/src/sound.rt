@@ -5,6 +5,7 @@ ghost use Rattle.std.specs.String.{string_bytes};
 ghost use Rattle.sqlite.specs.Held.{state};
 ghost use Rattle.sqlite.specs.State.{HasCleanDisk};
 ghost use Rattle.ds_layout.specs.declared.layout.Layout.{Layout};
+ghost use Rattle.ds_store_keys.specs.Keys.{StandOnce, keys_of};
 ghost use Rattle.ds_store_sums.specs.Sums.{AreSummed};
 ghost use Rattle.ds_store_sums.specs.declared.sums.Tail.{Tail};
 ghost use Rattle.ds_store_table.specs.Tables.{Holds};
@@ -15,6 +16,8 @@ ghost use Rattle.ds_store.specs.declared.seated.SeatedSheet.{SeatedSheet};
 use crate::fault::StoreFault;
 use crate::replay::replayed;
 use crate::summing::{add_all, summed};
+use ds_store_journal::journal::read_sheet;
+use ds_store_keys::table::KeyTable;
 use ds_store_sums::sums::LineSums;
 use ds_store_table::lines::{self, FirstLines};
 use sqlite::{Alter, Connection};
@@ -31,13 +34,29 @@ pub struct SoundLines {
     pub fault: Option<StoreFault>,
 }
 
+// That the key of a line stands in one before it, where one does.
+fn key_fault(alloc: Global, lines: &[String]) -> Option<StoreFault> {
+    let Ok(layout) = read_sheet(lines.first()?.as_bytes()) else {
+        return None;
+    };
+    match KeyTable::of_lines(alloc, &layout, lines) {
+        Ok(_) => None,
+        Err(fault) => Some(StoreFault::from(fault)),
+    }
+}
+
 // What is wrong with the first line that is not sound, where this is wrong with that of its number: a sum before it may
-// be wrong.
+// be wrong, or a key may stand again.
 fn earlier(alloc: Global, lines: &[String], fault: StoreFault) -> StoreFault {
     let before = fault.before().min(lines.len());
-    match add_all(alloc, &mut LineSums::new(), &lines[..before]) {
+    let fault = match add_all(alloc, &mut LineSums::new(), &lines[..before]) {
         Ok(_) => fault,
         Err(earlier) => earlier,
+    };
+    let before = fault.before().min(lines.len());
+    match key_fault(alloc, &lines[..before]) {
+        Some(earlier) => earlier,
+        None => fault,
     }
 }
 
@@ -51,6 +70,9 @@ fn first_fault(alloc: Global, lines: &[String], missing: Option<usize>) -> Optio
     }
     if let Some(number) = missing {
         return Some(earlier(alloc, lines, StoreFault::Missing(number)));
+    }
+    if let Some(fault) = key_fault(alloc, lines) {
+        return Some(earlier(alloc, lines, fault));
     }
     summed(alloc, lines).err()
 }
@@ -67,7 +89,7 @@ fn before_fault(fault: &Option<StoreFault>, all: usize) -> Result<usize, StoreFa
 }
 
 /// The first lines of the journal in a database that are sound, as many at most as are asked for: each can be followed, and
-/// where it has a sum, it is that of the lines before it. An error is that the first line is not sound, or that the
+/// where it has a sum, it is that of the lines before it; each key stands once. An error is that the first line is not sound, or that the
 /// database gives none, or that an allocation failed.
 pub fn first_sound<S: Alter>(
     alloc: Global,
@@ -75,7 +97,7 @@ pub fn first_sound<S: Alter>(
     most: usize,
 ) -> Result<SoundLines, StoreFault>
     ensures most { IfOk result (λ s. length s.lines.items ≤ most) }
-    ensures leads { IfOk result (λ s. (layout : Layout) × (counts : List ℕ) × (sheet : SeatedSheet) × Leads layout counts sheet (map string_bytes s.lines.items)) }
+    ensures leads { IfOk result (λ s. (layout : Layout) × (counts : List ℕ) × (sheet : SeatedSheet) × Leads layout counts sheet (map string_bytes s.lines.items) × StandOnce (keys_of layout (map string_bytes s.lines.items))) }
     ensures summed { IfOk result (λ s. (tail : Tail) × AreSummed (map string_bytes s.lines.items) tail) }
     ensures first { HasCleanDisk (state S.Store conn.new) → (held : List (List ℕ)) → Holds held (state S.Store conn.old).now → IfOk result (AreFirst most held) }
 {
@@ -84,7 +106,8 @@ pub fn first_sound<S: Alter>(
     let fault = first_fault(alloc, &lines, missing);
     let sound = before_fault(&fault, all)?;
     lines.truncate(sound.min(most));
-    let _leads = replayed(alloc, &lines)?;
+    let leads = replayed(alloc, &lines)?;
+    KeyTable::of_lines(alloc, &leads.layout, &lines)?;
     add_all(alloc, &mut LineSums::new(), &lines)?;
     Ok(SoundLines {
         lines,

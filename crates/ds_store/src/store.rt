@@ -1,12 +1,14 @@
 //! A store: a journal in a database.
 
 ghost use Rattle.std.specs.List.{list_any};
-ghost use Rattle.std.specs.Prelude.{◌≡◌, ◌++◌, ◌∷◌, [], ℕ, List, nat_le, true, length, IfOk, OnOk, map};
+ghost use Rattle.std.specs.Prelude.{◌≡◌, ◌++◌, ◌∷◌, [], ℕ, List, nat_le, true, length, IfOk, IsErr, None, OnOk, map, option_map};
 ghost use Rattle.std.specs.String.{string_bytes};
 ghost use Rattle.sqlite.specs.Held.{state};
 ghost use Rattle.sqlite.specs.State.{HasCleanDisk, Survives};
 ghost use Rattle.ds_store_journal.specs.Joining.{joins_of};
 ghost use Rattle.ds_store_journal.specs.Journals.{KeptEdit, edits_by, size_of};
+ghost use Rattle.ds_store_keys.specs.Keys.{KeptKey, StandOnce, edit_of, key_in, keys_of};
+ghost use Rattle.ds_store_keys.specs.Tables.{AreKeys, found};
 ghost use Rattle.ds_store_sums.specs.Taken.{IsAt};
 ghost use Rattle.ds_store_table.specs.Tables.{Holds, IsBare};
 ghost use Rattle.ds_store.specs.Opened.{Leads};
@@ -16,6 +18,7 @@ ghost use Rattle.ds_store.specs.Stores.{GoesOn, MayKeep, size_seen};
 use crate::committed::Committed;
 use crate::fault::StoreFault;
 use crate::going_over::next_lines;
+use crate::noting::put_notes;
 use crate::replay::{Replay, replayed};
 use crate::seated::SeatedSheet;
 use crate::summing::{sum_up, summed};
@@ -26,12 +29,15 @@ use ds_store_journal::edit::AnsweredEdit;
 use ds_store_journal::fault::JournalFault;
 use ds_store_journal::joining::joins_of;
 use ds_store_journal::journal::{edit_line, sheet_line};
+use ds_store_keys::note::{KeyNote, KeyUse};
+use ds_store_keys::table::KeyTable;
 use ds_store_sums::sums::LineSums;
 use ds_store_table::lines;
 use sqlite::{Alter, Connection};
 use std::alloc::Global;
 
-/// A journal in a database. It goes on from the edits that its lines keep: of each process it knows how many they are.
+/// A journal in a database. It goes on from the edits that its lines keep: of each process it knows how many they are. It
+/// knows the keys that its lines have, and what each is of.
 ///
 /// After an error nothing more is to be kept in it; what was committed stands.
 #[derive(Drop)]
@@ -41,6 +47,7 @@ pub struct Store<S: Alter + Drop> {
     joins: usize,
     counts: EditCounts,
     sums: LineSums,
+    keys: KeyTable,
 }
 
 /// A store that is open, and the sheet that its edits have made.
@@ -73,8 +80,9 @@ fn kept(
     counts: &mut EditCounts,
     edit: &AnsweredEdit,
 ) -> Result<String, JournalFault>
-    ensures { IfOk result (λ line. (lines : List (List ℕ)) (edits : List KeptEdit) → GoesOn layout.now counts.old.counts.items lines edits
+    ensures journal { IfOk result (λ line. (lines : List (List ℕ)) (edits : List KeptEdit) → GoesOn layout.now counts.old.counts.items lines edits
         → GoesOn layout.now counts.new.counts.items (lines ++ string_bytes line ∷ []) (edits ++ edit.now ∷ [])) }
+    ensures keyless { IfOk result (λ line. key_in layout.now (string_bytes line) ≡ None) }
 {
     if counts.count(edit.process) == Some(edit.number) {
         edit_line(alloc, layout, edit)
@@ -90,14 +98,34 @@ fn kept_all(
     counts: &mut EditCounts,
     edits: &[AnsweredEdit],
 ) -> Result<Vec<String>, JournalFault>
-    ensures { IfOk result (λ texts. (lines : List (List ℕ)) (before : List KeptEdit) → GoesOn layout.now counts.old.counts.items lines before
+    ensures journal { IfOk result (λ texts. (lines : List (List ℕ)) (before : List KeptEdit) → GoesOn layout.now counts.old.counts.items lines before
         → GoesOn layout.now counts.new.counts.items (lines ++ map string_bytes texts.items) (before ++ edits.now)) }
+    ensures keyless { IfOk result (λ texts. keys_of layout.now (map string_bytes texts.items) ≡ []) }
 {
     let mut texts = Vec::with_capacity(alloc, edits.len())?;
     for edit in edits {
         let text = kept(alloc, layout, counts, edit)?;
         texts.push_reserved(text);
     }
+    Ok(texts)
+}
+
+// The lines of edits, in their order, and after them those of keys. An error is that of the first one that cannot be kept.
+fn lines_to_keep(
+    alloc: Global,
+    layout: &Layout,
+    counts: &mut EditCounts,
+    table: &mut KeyTable,
+    edits: &[AnsweredEdit],
+    keys: &[KeyNote],
+) -> Result<Vec<String>, JournalFault>
+    ensures journal { IfOk result (λ texts. (lines : List (List ℕ)) (before : List KeptEdit) → GoesOn layout.now counts.old.counts.items lines before
+        → GoesOn layout.now counts.new.counts.items (lines ++ map string_bytes texts.items) (before ++ edits.now)) }
+    ensures keys { IfOk result (λ texts. keys_of layout.now (map string_bytes texts.items) ≡ keys.now) }
+    ensures table { OnOk result ((before : List KeptKey) → AreKeys table.old before → AreKeys table.new (before ++ keys.now)) }
+{
+    let mut texts = kept_all(alloc, layout, counts, edits)?;
+    put_notes(alloc, layout, table, keys, &mut texts)?;
     Ok(texts)
 }
 
@@ -126,6 +154,7 @@ impl<S: Alter + Drop> Store<S> {
         ensures leads { IfOk result (λ opened. Leads opened.store.layout opened.store.counts.counts.items opened.sheet (map string_bytes opened.lines.items)) }
         ensures summed { IfOk result (λ opened. IsAt opened.store.sums (map string_bytes opened.lines.items)) }
         ensures joins { IfOk result (λ opened. opened.store.joins ≡ joins_of opened.store.layout (map string_bytes opened.lines.items)) }
+        ensures keys { IfOk result (λ opened. AreKeys opened.store.keys (keys_of opened.store.layout (map string_bytes opened.lines.items))) }
         ensures holds { IfOk result (λ opened. HasCleanDisk (state S.Store opened.store.conn) → IsBare (state S.Store conn).now
             → Holds (map string_bytes opened.lines.items) (state S.Store opened.store.conn).now × Holds (map string_bytes opened.lines.items) (state S.Store opened.store.conn).committed) }
     {
@@ -135,6 +164,7 @@ impl<S: Alter + Drop> Store<S> {
             sheet,
         } = replayed(alloc, &lines)?;
         let sums = summed(alloc, &lines)?;
+        let keys = KeyTable::of_lines(alloc, &layout, &lines)?;
         let joins = joins_of(&layout, &lines);
         let conn = with_lines(conn, &lines)?;
         Ok(Opened {
@@ -144,6 +174,7 @@ impl<S: Alter + Drop> Store<S> {
                 joins,
                 counts,
                 sums,
+                keys,
             },
             sheet,
             lines,
@@ -157,6 +188,7 @@ impl<S: Alter + Drop> Store<S> {
         ensures asked { IfOk result (λ opened. size_seen opened.store.layout opened.store.joins ≡ size_of layout) }
         ensures one { IfOk result (λ opened. length opened.lines.items ≡ 1) }
         ensures joins { IfOk result (λ opened. opened.store.joins ≡ joins_of opened.store.layout (map string_bytes opened.lines.items)) }
+        ensures keys { IfOk result (λ opened. AreKeys opened.store.keys (keys_of opened.store.layout (map string_bytes opened.lines.items))) }
         ensures holds { IfOk result (λ opened. HasCleanDisk (state S.Store opened.store.conn) → IsBare (state S.Store conn).now
             → Holds (map string_bytes opened.lines.items) (state S.Store opened.store.conn).now × Holds (map string_bytes opened.lines.items) (state S.Store opened.store.conn).committed) }
     {
@@ -177,6 +209,7 @@ impl<S: Alter + Drop> Store<S> {
         ensures leads { IfOk result (λ opened. Leads opened.store.layout opened.store.counts.counts.items opened.sheet (map string_bytes opened.lines.items)) }
         ensures summed { IfOk result (λ opened. IsAt opened.store.sums (map string_bytes opened.lines.items)) }
         ensures joins { IfOk result (λ opened. opened.store.joins ≡ joins_of opened.store.layout (map string_bytes opened.lines.items)) }
+        ensures keys { IfOk result (λ opened. AreKeys opened.store.keys (keys_of opened.store.layout (map string_bytes opened.lines.items))) }
         ensures holds { IfOk result (λ opened. HasCleanDisk (state S.Store opened.store.conn) → (held : List (List ℕ)) → Holds held (state S.Store conn).now
             → (map string_bytes opened.lines.items ≡ held) × Holds held (state S.Store opened.store.conn).now) }
     {
@@ -188,6 +221,7 @@ impl<S: Alter + Drop> Store<S> {
             sheet,
         } = replayed(alloc, &lines)?;
         let sums = summed(alloc, &lines)?;
+        let keys = KeyTable::of_lines(alloc, &layout, &lines)?;
         let joins = joins_of(&layout, &lines);
         Ok(Opened {
             store: Store {
@@ -196,40 +230,53 @@ impl<S: Alter + Drop> Store<S> {
                 joins,
                 counts,
                 sums,
+                keys,
             },
             sheet,
             lines,
         })
     }
 
-    /// Keeps edits, in their order: their lines, and one with the sum of all lines until then, are committed together, all
-    /// or none, when it returns. Each edit has the next number of its process, and its line was read again.
+    /// Keeps edits and keys, in their order: the lines of the edits, those of the keys, and one with the sum of all lines
+    /// until then are committed together, all or none, when it returns. Each edit has the next number of its process, and
+    /// each line was read again. A key that the store has is the fault `Edit(KeyAgain)`: nothing is committed then.
     pub fn keep_all(
         &mut self,
         alloc: Global,
         edits: Vec<AnsweredEdit>,
+        keys: Vec<KeyNote>,
     ) -> Result<Committed, StoreFault>
-        ensures committed { IfOk result (λ c. c.edits ≡ edits) }
+        ensures committed { IfOk result (λ c. (c.edits ≡ edits) × (c.keys ≡ keys)) }
+        ensures again { (before : List KeptKey) → AreKeys self.old.keys before → (StandOnce (before ++ keys.items) → ⊥) → IsErr result × (self.new.conn ≡ self.old.conn) }
         ensures layout { (self.new.layout ≡ self.old.layout) × (self.new.joins ≡ self.old.joins) }
         ensures kept { IfOk result (λ c. (lines : List (List ℕ))
             × ((held : List (List ℕ)) (before : List KeptEdit) → GoesOn self.old.layout self.old.counts.counts.items held before → IsAt self.old.sums held
             → GoesOn self.new.layout self.new.counts.counts.items (held ++ lines) (before ++ edits.items) × IsAt self.new.sums (held ++ lines))
+            × ((held : List (List ℕ)) → IsAt self.old.sums held → AreKeys self.old.keys (keys_of self.old.layout held)
+            → AreKeys self.new.keys (keys_of self.new.layout (held ++ lines)) × (keys_of self.new.layout (held ++ lines) ≡ keys_of self.old.layout held ++ keys.items))
             × (HasCleanDisk (state S.Store self.new.conn) → (held : List (List ℕ)) → Holds held (state S.Store self.old.conn).now
             → Holds (held ++ lines) (state S.Store self.new.conn).now × Holds (held ++ lines) (state S.Store self.new.conn).committed)) }
         ensures crash { (held : List (List ℕ)) (before : List KeptEdit) → GoesOn self.old.layout self.old.counts.counts.items held before → IsAt self.old.sums held → Holds held (state S.Store self.old.conn).now
-            → Survives (state S.Store self.old.conn) (state S.Store self.new.conn) (MayKeep self.old.layout held before edits.items) }
+            → Survives (state S.Store self.old.conn) (state S.Store self.new.conn) (MayKeep self.old.layout held before edits.items keys.items) }
     {
-        let texts = kept_all(alloc, &self.layout, &mut self.counts, &edits)?;
+        let texts = lines_to_keep(
+            alloc,
+            &self.layout,
+            &mut self.counts,
+            &mut self.keys,
+            &edits,
+            &keys,
+        )?;
         let texts = sum_up(alloc, &mut self.sums, texts)?;
         lines::append(&mut self.conn, &texts)?;
-        Ok(Committed::of(edits))
+        Ok(Committed::of(edits, keys))
     }
 
     /// The lines that it holds, all of them.
     pub fn lines(&mut self, alloc: Global) -> Result<Vec<String>, StoreFault>
         ensures lines { HasCleanDisk (state S.Store self.new.conn) → (held : List (List ℕ)) → Holds held (state S.Store self.old.conn).now
             → IfOk result (λ lines. (map string_bytes lines.items ≡ held) × Holds held (state S.Store self.new.conn).now) }
-        ensures rest { (self.new.layout ≡ self.old.layout) × (self.new.joins ≡ self.old.joins) × (self.new.counts ≡ self.old.counts) × (self.new.sums ≡ self.old.sums) }
+        ensures rest { (self.new.layout ≡ self.old.layout) × (self.new.joins ≡ self.old.joins) × (self.new.counts ≡ self.old.counts) × (self.new.sums ≡ self.old.sums) × (self.new.keys ≡ self.old.keys) }
     {
         let lines = lines::read(alloc, &mut self.conn)?;
         Ok(lines)
@@ -243,11 +290,13 @@ impl<S: Alter + Drop> Store<S> {
     }
 
     /// Goes over to a new sheet with the texts of the one that these lines have made, which are those that it holds: they
-    /// are replaced, all or none, when it returns. Each process that may be joined stands as it stood.
+    /// are replaced, all or none, when it returns. Each process that may be joined stands as it stood, and the last 65536
+    /// keys are of what they were.
     pub fn go_over(&mut self, alloc: Global, held: &[String]) -> Result<NextSheet, StoreFault>
         ensures leads { IfOk result (λ next. Leads self.new.layout self.new.counts.counts.items next.sheet (map string_bytes next.lines.items)) }
         ensures summed { IfOk result (λ next. IsAt self.new.sums (map string_bytes next.lines.items)) }
         ensures joins { IfOk result (λ next. self.new.joins ≡ joins_of self.new.layout (map string_bytes next.lines.items)) }
+        ensures keys { IfOk result (λ next. AreKeys self.new.keys (keys_of self.new.layout (map string_bytes next.lines.items))) }
         ensures over { IfOk result (λ next. GoesOver (map string_bytes held.now) (map string_bytes next.lines.items)) }
         ensures holds { IfOk result (λ next. HasCleanDisk (state S.Store self.new.conn) → Holds (map string_bytes held.now) (state S.Store self.old.conn).now
             → Holds (map string_bytes next.lines.items) (state S.Store self.new.conn).now × Holds (map string_bytes next.lines.items) (state S.Store self.new.conn).committed) }
@@ -260,11 +309,13 @@ impl<S: Alter + Drop> Store<S> {
             sheet,
         } = replayed(alloc, &lines)?;
         let sums = summed(alloc, &lines)?;
+        let keys = KeyTable::of_lines(alloc, &layout, &lines)?;
         lines::replace(&mut self.conn, &lines)?;
         self.joins = joins_of(&layout, &lines);
         self.layout = layout;
         self.counts = counts;
         self.sums = sums;
+        self.keys = keys;
         Ok(NextSheet { sheet, lines })
     }
 
@@ -287,6 +338,13 @@ impl<S: Alter + Drop> Store<S> {
         ensures { (lines : List (List ℕ)) (edits : List KeptEdit) → GoesOn self.now.layout self.now.counts.counts.items lines edits → result ≡ edits_by process edits }
     {
         self.counts.of(process)
+    }
+
+    /// What a key is of; none where no line that it holds has it.
+    pub fn find_key(&self, key: &[u8]) -> Option<&KeyUse>
+        ensures { option_map (λ of. edit_of of.now) result ≡ found self.now.keys key.now }
+    {
+        self.keys.find(key)
     }
 
     /// The database.
@@ -336,6 +394,7 @@ pub fn open_or_make<S: Alter + Drop>(
     ensures asked { IfOk result (λ opened. size_seen opened.store.layout opened.store.joins ≡ size_of layout) }
     ensures leads { IfOk result (λ opened. Leads opened.store.layout opened.store.counts.counts.items opened.sheet (map string_bytes opened.lines.items)) }
     ensures joins { IfOk result (λ opened. opened.store.joins ≡ joins_of opened.store.layout (map string_bytes opened.lines.items)) }
+    ensures keys { IfOk result (λ opened. AreKeys opened.store.keys (keys_of opened.store.layout (map string_bytes opened.lines.items))) }
     ensures opens { IfOk result (λ opened. HasCleanDisk (state S.Store opened.store.conn) → (held : List (List ℕ)) → Holds held (state S.Store conn).now
         → (map string_bytes opened.lines.items ≡ held) × Holds held (state S.Store opened.store.conn).now) }
     ensures makes { IfOk result (λ opened. HasCleanDisk (state S.Store opened.store.conn) → IsBare (state S.Store conn).now

@@ -3,6 +3,7 @@
 ghost use Rattle.std.specs.Prelude.{◌≡◌, ◌≢◌, ◌++◌, ◌∷◌, [], List, ℕ, true, IfOk, map};
 ghost use Rattle.std.specs.String.{string_bytes};
 ghost use Rattle.ds_script_io.specs.Fields.{is_skipped};
+ghost use Rattle.ds_store_sums.specs.Sums.{sum_of};
 ghost use Rattle.ds_store_sums.specs.Taken.{IsAt};
 
 use crate::fault::StoreFault;
@@ -54,7 +55,7 @@ pub(crate) fn sum_up(
     lines: Vec<String>,
 ) -> Result<Vec<String>, StoreFault>
     ensures { IfOk result (λ all. (before : List (List ℕ)) → IsAt sums.old before → IsAt sums.new (before ++ map string_bytes all.items)
-        × ((sum : List ℕ) × (map string_bytes all.items ≡ map string_bytes lines.items ++ sum ∷ []) × (is_skipped sum ≡ true))) }
+        × ((sum : List ℕ) × (map string_bytes all.items ≡ map string_bytes lines.items ++ sum ∷ []) × (is_skipped sum ≡ true) × (sum ≡ sum_of (before ++ map string_bytes lines.items)))) }
 {
     let mut lines = lines;
     add_all(alloc, sums, &lines)?;

@@ -5,6 +5,7 @@ pub mod backup;
 pub mod exporting;
 pub mod importing;
 pub mod log;
+mod logs;
 mod making;
 mod reading;
 pub mod status;

@@ -1,7 +1,7 @@
 //! A store is made, all of it or none.
 
 use crate::status::BAD_STORE;
-use crate::stores::{Disk, closed, tell_error, tell_fault};
+use crate::stores::{Disk, close_database, tell_error, tell_fault};
 use ds_store::fault::StoreFault;
 use ds_store::open::Databases;
 use ds_store::store::{Store, is_bare};
@@ -63,13 +63,13 @@ fn open_any<R: Eprint + Databases>(rt: &R, path: &str) -> Result<Connection<Disk
 }
 
 // Makes a store of these lines in the empty file at this path, and gives the status.
-fn fill<R: AllocGlobal + Eprint + Databases>(rt: &R, path: &str, lines: Vec<String>) -> u8 {
+fn fill<R: AllocGlobal + Eprint + Files + Databases>(rt: &R, path: &str, lines: Vec<String>) -> u8 {
     let conn = match open_any(rt, path) {
         Ok(conn) => conn,
         Err(status) => return status,
     };
     match keep(rt, path, conn, lines) {
-        Ok(conn) => closed(rt, path, conn.close()),
+        Ok(conn) => close_database(rt, path, conn),
         Err(status) => status,
     }
 }

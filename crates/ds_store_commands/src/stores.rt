@@ -1,5 +1,6 @@
 //! The commands that work on a store.
 
+use crate::logs::remove_log;
 use crate::making::make_store;
 use crate::reading::{ReadStore, read_store};
 use crate::status::store_status;
@@ -17,7 +18,7 @@ use ds_store_journal::joining::joins_of;
 use ds_store_journal::journal::read_edit;
 use ds_store_journal::standing::Standing;
 use ds_store_journal::standings::standings_of;
-use sqlite::{Connection, Error, FileFrom, FileStore, Wary};
+use sqlite::{Connection, FileFrom, FileStore, Wary};
 use std::alloc::Global;
 use std::fs::{File, Files};
 use std::io::{self, BufWriter, Write};
@@ -37,17 +38,28 @@ pub(crate) fn tell_error(rt: &impl Eprint, path: &str, error: &io::Error) -> u8 
     STREAM_FAILED
 }
 
-/// The status after the database at this path was closed, or not.
-pub(crate) fn closed<R: Eprint>(rt: &R, path: &str, end: Result<(), Error>) -> u8 {
-    match end {
-        Ok(()) => 0,
-        Err(error) => tell_fault(rt, path, &StoreFault::from(error)),
+/// Closes the database at this path, whose file has all of it then, and gives the status. Its log is removed.
+pub(crate) fn close_database<R: AllocGlobal + Eprint + Files>(
+    rt: &R,
+    path: &str,
+    conn: Connection<Disk>,
+) -> u8 {
+    match conn.close_files() {
+        // (nobody else can open the two before these are dropped)
+        Ok(_files) => {
+            remove_log(rt, path);
+            0
+        }
+        Err((error, store)) => {
+            drop(store.close());
+            tell_fault(rt, path, &StoreFault::from(error))
+        }
     }
 }
 
-/// Closes a store, whose file has all of it then, and gives the status.
-pub fn close<R: Eprint>(rt: &R, path: &str, store: Store<Disk>) -> u8 {
-    closed(rt, path, store.into_database().close())
+/// Closes a store, whose file has all of it then, and gives the status. Its log is removed.
+pub fn close<R: AllocGlobal + Eprint + Files>(rt: &R, path: &str, store: Store<Disk>) -> u8 {
+    close_database(rt, path, store.into_database())
 }
 
 /// The status after what was written, or not; where nobody reads it any more, nothing is said.

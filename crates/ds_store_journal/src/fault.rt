@@ -17,6 +17,8 @@ pub enum JournalFault {
     NotDone,
     /// It is read as another line than the one that was written, or its edit has another number.
     Other,
+    /// The key of the line stands in a line before it.
+    KeyAgain,
     /// An allocation failed.
     NoMemory,
 }
@@ -42,6 +44,7 @@ impl fmt::Display for JournalFault {
             JournalFault::Refused(_) => f.write_str("its edit is refused"),
             JournalFault::NotDone => f.write_str("its edit does not count"),
             JournalFault::Other => f.write_str("it is read as another line"),
+            JournalFault::KeyAgain => f.write_str("its key stands before it"),
             JournalFault::NoMemory => f.write_str("no memory"),
         }
     }

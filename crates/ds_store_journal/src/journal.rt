@@ -26,8 +26,8 @@ pub struct AskedEdit<'a> {
     pub text: &'a [u8],
 }
 
-// What is after the first word of a line, where that is the verb.
-pub(crate) fn after<'a>(verb: &[u8], line: &'a [u8]) -> Option<&'a [u8]>
+/// What is after the first word of a line, where that is the verb.
+pub fn after<'a>(verb: &[u8], line: &'a [u8]) -> Option<&'a [u8]>
     ensures { option_map (λ r. r.now) result ≡ after_verb verb.now line.now }
 {
     let (first, rest) = word(line);

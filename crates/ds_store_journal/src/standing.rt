@@ -47,8 +47,8 @@ fn edits_in(word: &[u8]) -> Option<usize>
     }
 }
 
-// The count of edits that is the next word, and what is after it.
-fn counted<'a>(rest: Option<&'a [u8]>) -> Option<(usize, Option<&'a [u8]>)>
+/// A count of edits, below 2^53, that is the next word, and what is after it.
+pub fn counted<'a>(rest: Option<&'a [u8]>) -> Option<(usize, Option<&'a [u8]>)>
     ensures { option_map field_view result ≡ number_field EDITS_MOST (option_map (λ r. r.now) rest.entry) }
 {
     let (first, rest) = word(rest?);

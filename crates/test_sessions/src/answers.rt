@@ -1,7 +1,7 @@
-use ds_formula::cells::Shape;
+use ds_formula::cells::{Cell, Shape};
 use ds_layout::place::Place;
 use ds_server::answer::{Response, response_line};
-use ds_server::desk::CallRefusal;
+use ds_server::desk::{CallRefusal, ListedEdit};
 use ds_server::request::LineFault;
 use ds_state::answer::Other;
 use std::alloc::AllocError;
@@ -41,8 +41,29 @@ fn unsettled(rt: HostRuntime) {
     );
 }
 
+#[test]
+fn outcomes(rt: HostRuntime) -> Result<(), AllocError> {
+    let edit = ListedEdit {
+        process: 1,
+        number: 3,
+        cell: Cell { column: 0, row: 0 },
+        text: Vec::from_slice(rt.alloc(), b"=1+2")?,
+    };
+    expect_line(
+        &rt,
+        &Response::Resolved(Some(edit)),
+        "{\"edit\":{\"cell\":\"A1\",\"number\":3,\"process\":1,\"text\":\"=1+2\"},\"ok\":\"outcome\",\"outcome\":\"done\"}\n",
+    );
+    expect_line(
+        &rt,
+        &Response::Resolved(None),
+        "{\"edit\":null,\"ok\":\"outcome\",\"outcome\":\"never\"}\n",
+    );
+    Ok(())
+}
+
 // What a board refuses, by its code and name.
-const REFUSALS: [(CallRefusal, &str); 6] = [
+const REFUSALS: [(CallRefusal, &str); 7] = [
     (
         CallRefusal::ProcessTaken,
         "{\"code\":4,\"error\":\"process-taken\"}\n",
@@ -58,6 +79,10 @@ const REFUSALS: [(CallRefusal, &str); 6] = [
     (
         CallRefusal::NoMemory,
         "{\"code\":15,\"error\":\"no-memory\"}\n",
+    ),
+    (
+        CallRefusal::KeyReused,
+        "{\"code\":21,\"error\":\"key-reused\"}\n",
     ),
     (CallRefusal::NoEdit, "{\"code\":22,\"error\":\"no-edit\"}\n"),
     (

@@ -108,6 +108,74 @@ fn reads_and_takes_back(rt: HostRuntime) -> Result<(), AllocError> {
     Ok(())
 }
 
+// Keys, of which a sheet of its own keeps none: a text that is a key is refused for that, any other as a bad field.
+const KEYS: [(&str, &str); 9] = [
+    (
+        "{\"op\":\"outcome\",\"key\":\"a-1\"}",
+        "{\"code\":23,\"error\":\"no-history\"}",
+    ),
+    (
+        "{\"op\":\"outcome\"}",
+        "{\"code\":3,\"error\":\"bad-field\"}",
+    ),
+    (
+        "{\"op\":\"outcome\",\"key\":\"\"}",
+        "{\"code\":3,\"error\":\"bad-field\"}",
+    ),
+    (
+        "{\"op\":\"outcome\",\"key\":\"a 1\"}",
+        "{\"code\":3,\"error\":\"bad-field\"}",
+    ),
+    (
+        "{\"op\":\"set\",\"cell\":\"A1\",\"key\":\"a-1\",\"text\":\"7\"}",
+        "{\"code\":6,\"error\":\"not-joined\"}",
+    ),
+    (
+        "{\"op\":\"join\",\"process\":0}",
+        "{\"last\":null,\"ok\":\"join\",\"process\":0}",
+    ),
+    (
+        "{\"op\":\"set\",\"cell\":\"A1\",\"key\":\"a-1\",\"text\":\"7\"}",
+        "{\"code\":23,\"error\":\"no-history\"}",
+    ),
+    (
+        "{\"op\":\"set\",\"cell\":\"A1\",\"key\":7,\"text\":\"7\"}",
+        "{\"code\":3,\"error\":\"bad-field\"}",
+    ),
+    (
+        "{\"op\":\"report\"}",
+        "{\"ok\":\"settled\",\"rows\":[[\"\",\"\"],[\"\",\"\"]]}",
+    ),
+];
+
+#[test]
+fn knows_keys(rt: HostRuntime) -> Result<(), AllocError> {
+    let alloc = rt.alloc();
+    let mut world = new_world(alloc)?;
+    let (mut lines, mut expected) = (String::new(alloc), String::new(alloc));
+    for (line, answer) in KEYS {
+        write!(lines, "{line}\n")?;
+        write!(expected, "{answer}\n")?;
+    }
+    expect_talk(&rt, &mut world, lines.as_str(), expected.as_str());
+    Ok(())
+}
+
+// A key has 64 characters at most.
+#[test]
+fn long_keys(rt: HostRuntime) -> Result<(), AllocError> {
+    let alloc = rt.alloc();
+    let mut world = new_world(alloc)?;
+    for (count, expected) in [
+        (64usize, "{\"code\":23,\"error\":\"no-history\"}\n"),
+        (65, "{\"code\":3,\"error\":\"bad-field\"}\n"),
+    ] {
+        let line = format!(in alloc; "{{\"op\":\"outcome\",\"key\":\"{:k>count$}\"}}\n", 'k')?;
+        expect_talk(&rt, &mut world, line.as_str(), expected);
+    }
+    Ok(())
+}
+
 // At most 100 edits are listed at once.
 #[test]
 fn lists_a_hundred(rt: HostRuntime) -> Result<(), AllocError> {

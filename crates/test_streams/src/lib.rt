@@ -1,4 +1,4 @@
-//! What no transcript can have: readers and writers that fail, explorations of too few states, and what a journal keeps.
+//! What no transcript can have: readers and writers that fail, explorations of too few states, and what a journal and a store keep.
 #![tactic(auto)]
 
 #[cfg(test)]
@@ -8,8 +8,12 @@ mod grids;
 #[cfg(test)]
 mod journals;
 #[cfg(test)]
+mod keys;
+#[cfg(test)]
 mod pictures;
 #[cfg(test)]
 mod scripts;
 #[cfg(test)]
 mod stops;
+#[cfg(test)]
+mod stores;

@@ -6,4 +6,5 @@ returns c =
     let two = c.with_argument-two.ensures _ _ one c.given_number.ensures.rule c.given_number.ensures.local in
     let three = c.with_argument-three.ensures _ _ two c.number_option.ensures.rule c.number_option.ensures.local in
     let four = c.with_argument-four.ensures _ _ three c.token_file_option.ensures.rule c.token_file_option.ensures.local in
-    c.with_argument.ensures _ _ four c.a1_flag.ensures.rule c.a1_flag.ensures.local
+    let five = c.with_argument-five.ensures _ _ four c.key_option.ensures.rule c.key_option.ensures.local in
+    c.with_argument.ensures _ _ five c.a1_flag.ensures.rule c.a1_flag.ensures.local

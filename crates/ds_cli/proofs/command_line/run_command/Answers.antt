@@ -2,7 +2,7 @@ use Rattle.ds_cli.proofs.command_line.run_command.Goals as goal
 
 pub returns : goal.returns
 returns c =
-    let one = c.with_argument-one.ensures _ _ c.run_alone.ensures c.input_argument-file.ensures.rule c.input_argument-file.ensures.local in
+    let one = c.with_argument-one.ensures _ _ c.run_alone.ensures c.script_argument.ensures.rule c.script_argument.ensures.local in
     let two = c.with_argument-two.ensures _ _ one c.flag.ensures.rule c.flag.ensures.local in
     let three = c.with_argument-three.ensures _ _ two c.given_number.ensures.rule c.given_number.ensures.local in
     let four = c.with_argument-four.ensures _ _ three c.given_number-2.ensures.rule c.given_number-2.ensures.local in

@@ -1,5 +1,5 @@
-use Rattle.std.proofs.Common.{inl, inr, refl, ℕ, Option}
-use Rattle.clap.specs.Words.{found_of, rows_of}
+use Rattle.std.proofs.Common.{inr, refl}
+use Rattle.clap.specs.Words.{found_of}
 use Rattle.ds_cli.proofs.Matched.{given_number, no_number_of, none_of, text_of}
 use Rattle.ds_cli.proofs.serving.number_or.Goals as goal
 

@@ -1,7 +1,7 @@
 use Rattle.std.proofs.Common.{ℕ, List, [], ◌∷◌, ◌++◌, Option, ap, sym, ◌∙◌}
 use Rattle.std.specs.Prelude.{option_map}
 use Rattle.std.specs.Borrow.{Bor}
-use Rattle.csv.specs.Records.{fields_of, partial_of}
+use Rattle.csv.specs.Records.{fields_of}
 use Rattle.ds_client.proofs.Rows.{text_more}
 use Rattle.ds_client.proofs.answer.record_of.Goals as goal
 

@@ -6,16 +6,18 @@ use Rattle.ds_net_desks.proofs.Reading.{used_after}
 use Rattle.ds_net_desks.proofs.stored_desk.seat_undo.Goals as goal
 
 pub returns-in-Err-clause-undone : goal.returns-in-Err-clause-undone
-returns-in-Err-clause-undone g c = record {
+returns-in-Err-clause-undone g c = λ keyed. record {
   list = c.deref.result.now.list;
   seen = c.text_before.ensures.seen;
+  keyed = refl;
   does = inr (c.in-Err.why, c.in-Err.ensures.says, refl, refl, refl);
 }
 
 pub returns-clause-undone : goal.returns-clause-undone
-returns-clause-undone g c = record {
+returns-clause-undone g c = λ keyed. record {
   list = c.deref.result.now.list;
   seen = c.text_before.ensures.seen;
+  keyed = refl;
   does = inl (
     c.in-Ok.text.items,
     c.in-Ok.ensures.says,

@@ -1,14 +1,20 @@
 use Rattle.std.proofs.Common.{◌≡◌, ◌∙◌, ap, arith, length, map, min, None, sym, subst}
 use Rattle.std.proofs.lemmas.List.{length-map}
 use Rattle.std.specs.String.{string_bytes}
+use Rattle.ds_store_keys.specs.Keys.{StandOnce, keys_of}
 use Rattle.ds_store.specs.Opened.{Leads}
 use Rattle.ds_store.proofs.Firsts.{as_asked, first_of_first}
 use Rattle.ds_store.proofs.sound.first_sound.Goals as goal
 
 pub returns-clause-leads : goal.returns-clause-leads
 returns-clause-leads g c =
-    let r = c.in_ok-_leads._leads in
-    (r.layout, r.counts.counts.items, r.sheet, subst (λ ls. Leads r.layout r.counts.counts.items r.sheet (map string_bytes ls)) c.deref-2.ensures.value c.in_ok-_leads.ensures)
+    let r = c.in_ok-leads.leads in (
+      r.layout,
+      r.counts.counts.items,
+      r.sheet,
+      subst (λ ls. Leads r.layout r.counts.counts.items r.sheet (map string_bytes ls)) c.deref-2.ensures.value c.in_ok-leads.ensures,
+      subst (λ ls. StandOnce (keys_of r.layout (map string_bytes ls))) c.deref-3.ensures.value c.in_ok-of_lines.ensures.keys.once,
+    )
 
 pub returns-clause-first : goal.returns-clause-first
 returns-clause-first g c clean held holds =

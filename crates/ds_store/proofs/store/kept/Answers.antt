@@ -1,11 +1,15 @@
 use Rattle.std.proofs.Common.{rules, ◌≡◌, ◌++◌, ◌∷◌, [], List, ap, sym, subst, ◌∙◌, Some, IfSome}
 use Rattle.std.specs.String.{string_bytes}
 use Rattle.ds_store_journal.specs.Journals.{AreCounts, KeptEdit, edits_by}
+use Rattle.ds_store_keys.proofs.Plain.{not_skipped}
 use Rattle.ds_store.proofs.Growing.{if_ok, keeps_one}
 use Rattle.ds_store.proofs.store.kept.Goals as goal
 
-pub returns-then-eq : goal.returns-then-eq
-returns-then-eq c =
+pub returns-then-eq-clause-keyless : goal.returns-then-eq-clause-keyless
+returns-then-eq-clause-keyless c = if_ok c.edit_line.result c.edit_line.ensures (λ line reads. not_skipped c.args.layout.now (string_bytes line) reads.0)
+
+pub returns-then-eq-clause-journal : goal.returns-then-eq-clause-journal
+returns-then-eq-clause-journal c =
     let edit = c.args.edit.now in
     let inside = c.edit.inside in
     let old = c.args.counts.now.counts.items in

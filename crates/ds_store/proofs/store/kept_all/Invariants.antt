@@ -1,6 +1,7 @@
-use Rattle.std.proofs.Common.{◌≡◌, ◌≤◌, ◌++◌, ℕ, List, length, map, take, vec_capacity}
+use Rattle.std.proofs.Common.{◌≡◌, ◌≤◌, ◌++◌, [], ℕ, List, length, map, take, vec_capacity}
 use Rattle.std.specs.String.{string_bytes}
 use Rattle.ds_store_journal.specs.Journals.{KeptEdit}
+use Rattle.ds_store_keys.specs.Keys.{keys_of}
 use Rattle.ds_store.specs.Stores.{GoesOn}
 use Rattle.ds_store.proofs.store.kept_all.Given as goal
 
@@ -10,3 +11,4 @@ invariant-loop-edit l =
     → GoesOn l.layout l.counts.counts.items (lines ++ map string_bytes l.texts.items) (before ++ take l.edit-index l.edits))
     × (length l.texts.items ≡ l.edit-index)
     × (length l.edits ≤ vec_capacity l.texts)
+    × (keys_of l.layout (map string_bytes l.texts.items) ≡ [])

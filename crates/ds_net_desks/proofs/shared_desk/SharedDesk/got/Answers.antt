@@ -9,7 +9,7 @@ returns-clause-asked g c =
     let what = got_view cell c.answer-got.result in
     let seen = c.args.seen.now.items in
     let after = c.answer-got.new.seen.items in
-    let old = c.in-Some-take_any.numbered in
+    let old = c.in-Ok.numbered in
     let new = c.answer-got.new.numbered in
     subst (λ o. HasAsked c.args.self.now.shape cell o seen what o after) (sym c.in_default.is)
     (inl (old, new, subst (λ n. HasGot cell n old seen what new after) c.index.ensures.value c.answer-got.ensures.got))

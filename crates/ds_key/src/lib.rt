@@ -1,0 +1,4 @@
+//! Keys that clients give their edits.
+#![tactic(auto)]
+
+pub mod key;

@@ -1,0 +1,32 @@
+use Rattle.std.proofs.Common.{◌∙◌, ◌++◌, ◌∷◌, [], ap, map, subst}
+use Rattle.std.specs.String.{string_bytes}
+use Rattle.ds_store_keys.specs.Keys.{KeptKey, keys_of}
+use Rattle.ds_store_keys.specs.Tables.{AreKeys}
+use Rattle.ds_store_keys.proofs.Listing.{has_key}
+use Rattle.ds_store_keys.proofs.Tabling.{grows}
+use Rattle.ds_store.proofs.Growing.{on_ok, sum_after}
+use Rattle.ds_store.proofs.Keying.{one_more}
+use Rattle.ds_store.proofs.noting.put_note.Goals as goal
+
+pub returns-clause-journal : goal.returns-clause-journal
+returns-clause-journal c =
+    let old = c.args.texts.now.items in
+    let new = c.put_text.new.texts.items in
+    let line = c.in_ok-line.line in
+    on_ok c.put_text.result c.put_text.ensures (λ items counts held edits goes.
+    sum_after c.args.layout.now counts held (map string_bytes old) (map string_bytes new) (string_bytes line) edits goes (one_more string_bytes old new line items) c.in_ok-line.ensures.0)
+
+pub returns-clause-keys : goal.returns-clause-keys
+returns-clause-keys c =
+    let old = c.args.texts.now.items in
+    let new = c.put_text.new.texts.items in
+    let line = c.in_ok-line.line in
+    on_ok c.put_text.result c.put_text.ensures (λ items.
+    ap (keys_of c.args.layout.now) (one_more string_bytes old new line items) ∙ has_key c.args.layout.now (map string_bytes old) (string_bytes line) c.args.note.now c.in_ok-line.ensures.1)
+
+pub returns-clause-table : goal.returns-clause-table
+returns-clause-table c =
+    let old = c.args.table.now in
+    let new = c.add.new.self in
+    on_ok c.put_text.result c.put_text.ensures (λ items before are.
+    subst (λ (k : KeptKey). AreKeys new (before ++ k ∷ [])) c.in_ok-copied.ensures (grows old new before c.in_ok-copied.field-0 c.in_ok-add.ensures.new c.in_ok-add.ensures.added are))

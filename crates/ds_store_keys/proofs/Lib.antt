@@ -1,0 +1,5 @@
+mod Aside
+mod Finding
+pub mod Listing
+pub mod Plain
+pub mod Tabling
