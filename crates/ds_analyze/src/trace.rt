@@ -18,7 +18,7 @@ use std::io::{self, BufWriter};
 
 // How much of the run is shown.
 fn detail_of(tracing: Tracing<'_>) -> Detail
-    ensures { result ≡ detail_of tracing }
+    ensures { result ≡ detail_of tracing.entry }
 {
     if tracing.brief {
         Detail::Brief
