@@ -3,24 +3,32 @@
 # refuse each. In a copy of the repository they lie in must-fail. Where `rt ci` takes names and keeps what it has proved,
 # `rt ci NAME ..` proves and tries there. Elsewhere tools/try_edits.py does, crate by crate, over what checks here have
 # kept: `rt check` in a crate's folder keeps the libraries below it, and else they are proved anew for each run. Run it for
-# a crate whenever its code or its definitions change. Where all edits of a crate are refused, it notes of which text that
-# is so, in crates/NAME/more-edits/tried. The last line counts the crates; exit status 1 where any is left.
-#   tools/more_edits.sh [NAME ..]           these crates, or those whose text is another one than that
+# a crate whenever its code or its definitions change. It notes of each edit that was refused of which text that is so, in
+# crates/NAME/more-edits/tried: a trial that was cut short is not lost. The last line counts the crates; exit status 1
+# where an edit of any is left.
+#   tools/more_edits.sh [NAME ..]           the edits of these crates whose text is another one than that, or of all crates
 #   tools/more_edits.sh --alone [NAME ..]   the same by tools/try_edits.py, whatever `rt ci` takes
-#   tools/more_edits.sh --stale             lists them, and tries nothing
+#   tools/more_edits.sh --stale             lists these crates, and tries nothing
+#   tools/more_edits.sh --stale-of NAME     lists the files of these edits of a crate
 #   tools/more_edits.sh --is-beside         says by its status whether they are tried beside another `rt ci`, of what it keeps
-#   tools/more_edits.sh --note LOG NAME ..  notes these crates by what an `rt ci` said, in whose must-fail their edits lay
+#   tools/more_edits.sh --note LOG NAME ..  notes the edits of these crates by what an `rt ci` said, in whose must-fail they lay
 # RT_JOBS says how many processors a check uses.
 set -euo pipefail
 cd "$(dirname "$0")/.."
 
-# What a crate's edits turn: its code and its definitions, without comments and blank lines, and the edits.
+# A sum of what a crate's edits turn: its code and its definitions, without comments and blank lines.
 text_of() {
-    {
-        find "crates/$1/src" "crates/$1/specs" -type f \( -name '*.rt' -o -name '*.antt' \) 2>/dev/null \
-            | LC_ALL=C sort | xargs cat | grep -vE '^ *(//|--|$)'
-        find "crates/$1/more-edits" -name '*.edit' | LC_ALL=C sort | xargs cat
-    } | sha256sum | cut -d ' ' -f 1
+    find "crates/$1/src" "crates/$1/specs" -type f \( -name '*.rt' -o -name '*.antt' \) 2>/dev/null \
+        | LC_ALL=C sort | xargs cat | grep -vE '^ *(//|--|$)' | sha256sum | cut -d ' ' -f 1
+}
+
+# The lines of a crate's notes where each of its edits was refused on this text: the edit, and a sum of the text and of it.
+marks_of() {
+    local text edit
+    text=$(text_of "$1")
+    for edit in "crates/$1/more-edits/"*.edit; do
+        echo "${edit##*/} $({ echo "$text" && cat "$edit"; } | sha256sum | cut -d ' ' -f 1)"
+    done
 }
 
 # The crates that have such edits.
@@ -30,13 +38,18 @@ all() {
     done
 }
 
-# Those whose edits were not all refused on their text as it stands.
+# The files of a crate's edits that were not refused on its text as it stands.
+stale_of() {
+    local mark
+    marks_of "$1" | while IFS= read -r mark; do
+        grep -qxF -- "$mark" "crates/$1/more-edits/tried" 2>/dev/null || echo "crates/$1/more-edits/${mark% *}"
+    done
+}
+
+# The crates that have any.
 stale() {
-    for name in $(all); do
-        tried=crates/$name/more-edits/tried
-        if [ ! -f "$tried" ] || [ "$(cat "$tried")" != "$(text_of "$name")" ]; then
-            echo "$name"
-        fi
+    for name in "$@"; do
+        if [ -n "$(stale_of "$name")" ]; then echo "$name"; fi
     done
 }
 
@@ -73,7 +86,7 @@ copy_repository() {
     done < <(with_those_below "$@")
     for name in "$@"; do
         mkdir "$room/crates/$name/must-fail"
-        cp "crates/$name/more-edits/"*.edit "$room/crates/$name/must-fail/"
+        stale_of "$name" | xargs cp -t "$room/crates/$name/must-fail"
     done
 }
 
@@ -98,24 +111,21 @@ copy_kept() {
     done
 }
 
-# Whether each edit of a crate was refused, by what was said.
-all_refused() {
-    local name=$1 log=$2 edit
-    for edit in "crates/$name/more-edits/"*.edit; do
-        grep -qF "must-fail $name/$(basename "$edit"): refused, as it must be" "$log" || return 1
-    done
-}
-
 # Whether `rt ci` takes names of crates.
 takes_names() {
     rt help 2>&1 | grep -qE '^ *rt ci .*NAME'
 }
 
-# Says whether all edits of a crate were refused, by what was said, and notes it where they were.
+# Notes the edits of a crate that were refused, by what was said, beside those that were before, and says whether all are.
 conclude() {
-    local name=$1 said=$2
-    if all_refused "$name" "$said"; then
-        echo "${texts[$name]}" >"crates/$name/more-edits/tried"
+    local name=$1 said=$2 tried=crates/$1/more-edits/tried mark
+    while IFS= read -r mark; do
+        if grep -qxF -- "$mark" "$tried" 2>/dev/null || grep -qF "must-fail $name/${mark% *}: refused, as it must be" "$said"; then
+            echo "$mark"
+        fi
+    done <<<"${texts[$name]}" >"$tried.new"
+    mv "$tried.new" "$tried"
+    if [ "$(cat "$tried")" = "${texts[$name]}" ]; then
         echo "more_edits: $name: all refused"
         refused=$((refused + 1))
     else
@@ -124,7 +134,12 @@ conclude() {
 }
 
 if [ "${1-}" = --stale ]; then
-    stale
+    mapfile -t names < <(all)
+    stale "${names[@]}"
+    exit 0
+fi
+if [ "${1-}" = --stale-of ]; then
+    stale_of "$2"
     exit 0
 fi
 if [ "${1-}" = --is-beside ]; then
@@ -137,7 +152,7 @@ if [ "${1-}" = --note ]; then
     said=$2
     shift 2
     for name in "$@"; do
-        texts[$name]=$(text_of "$name")
+        texts[$name]=$(marks_of "$name")
         conclude "$name" "$said"
     done
     [ "$refused" = $# ]
@@ -149,7 +164,8 @@ if [ "${1-}" = --alone ]; then
     shift
 fi
 names=("$@")
-if [ $# -eq 0 ]; then mapfile -t names < <(stale); fi
+if [ $# -eq 0 ]; then mapfile -t names < <(all); fi
+mapfile -t names < <(stale "${names[@]}")
 if [ "${#names[@]}" = 0 ]; then
     echo "more_edits: 0 crates with all edits refused, 0 left"
     exit 0
@@ -158,7 +174,7 @@ room=$(mktemp -d)
 trap 'rm -rf "$room"' EXIT
 trap 'exit 130' INT
 trap 'exit 143' TERM
-for name in "${names[@]}"; do texts[$name]=$(text_of "$name"); done
+for name in "${names[@]}"; do texts[$name]=$(marks_of "$name"); done
 copy_repository "$room" "${names[@]}"
 # A gate calls `rt ci` without names, over what was copied.
 if [ "${CI-}" = true ]; then words=(); else words=("${names[@]}"); fi
@@ -166,7 +182,8 @@ if [ "${#words[@]}" != 0 ] && ! takes_names; then alone=yes; fi
 if [ -n "$alone" ]; then
     copy_kept "$room" "${names[@]}"
     for name in "${names[@]}"; do
-        tools/try_edits.py "$room/crates/$name" "crates/$name/more-edits/"*.edit </dev/null 2>&1 | tee -a "$room/log" || true
+        mapfile -t edits < <(stale_of "$name")
+        tools/try_edits.py "$room/crates/$name" "${edits[@]}" </dev/null 2>&1 | tee -a "$room/log" || true
         conclude "$name" "$room/log"
     done
 else
