@@ -18,7 +18,7 @@ cd "$(dirname "$0")/.."
 
 # A sum of what a crate's edits turn: its code and its definitions, without comments and blank lines.
 text_of() {
-    find "crates/$1/src" "crates/$1/specs" -type f \( -name '*.rt' -o -name '*.antt' \) 2>/dev/null \
+    find "crates/$1" -type f \( -path '*/src/*.rt' -o -path '*/specs/*.antt' \) ! -path '*/out/*' \
         | LC_ALL=C sort | xargs cat | grep -vE '^ *(//|--|$)' | sha256sum | cut -d ' ' -f 1
 }
 
