@@ -22,13 +22,12 @@ text_of() {
         | LC_ALL=C sort | xargs cat | grep -vE '^ *(//|--|$)' | sha256sum | cut -d ' ' -f 1
 }
 
-# The lines of a crate's notes where each of its edits was refused on this text: the edit, and a sum of the text and of it.
+# The lines of a crate's notes where each of its edits was refused on this text: the edit, and sums of the text and of it.
 marks_of() {
-    local text edit
+    local text
     text=$(text_of "$1")
-    for edit in "crates/$1/more-edits/"*.edit; do
-        echo "${edit##*/} $({ echo "$text" && cat "$edit"; } | sha256sum | cut -d ' ' -f 1)"
-    done
+    sha256sum "crates/$1/more-edits/"*.edit \
+        | awk -v text="$text" '{ sub(/.*\//, "", $2); print $2, substr(text, 1, 32), substr($1, 1, 32) }'
 }
 
 # The crates that have such edits.
@@ -40,10 +39,7 @@ all() {
 
 # The files of a crate's edits that were not refused on its text as it stands.
 stale_of() {
-    local mark
-    marks_of "$1" | while IFS= read -r mark; do
-        grep -qxF -- "$mark" "crates/$1/more-edits/tried" 2>/dev/null || echo "crates/$1/more-edits/${mark% *}"
-    done
+    marks_of "$1" | { grep -vxF -f <(cat "crates/$1/more-edits/tried" 2>/dev/null) || true; } | sed "s/ .*//; s|^|crates/$1/more-edits/|"
 }
 
 # The crates that have any.
@@ -120,7 +116,7 @@ takes_names() {
 conclude() {
     local name=$1 said=$2 tried=crates/$1/more-edits/tried mark
     while IFS= read -r mark; do
-        if grep -qxF -- "$mark" "$tried" 2>/dev/null || grep -qF "must-fail $name/${mark% *}: refused, as it must be" "$said"; then
+        if grep -qxF -- "$mark" "$tried" 2>/dev/null || grep -qF "must-fail $name/${mark%% *}: refused, as it must be" "$said"; then
             echo "$mark"
         fi
     done <<<"${texts[$name]}" >"$tried.new"
