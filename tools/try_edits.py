@@ -1,15 +1,19 @@
 #!/usr/bin/env python3
 """Tries edits on a copy of a crate, one after the other: the prover has to refuse each. It judges as `rt must-fail` does,
-but each check takes what the first one has proved, of the crate as it is, so none begins from nothing. The crate has to be
-proved before and after; else no edit counts as refused. Each edit is a line; exit status 1 where any was not refused.
+but each check takes what the first one has proved, of the crate as it is, so none begins from nothing. The libraries below
+are built by `rt check`, where they are not; then the prover is called as that calls it, since to see again that they are
+built takes minutes high up. The crate has to be proved before and after; else no edit counts as refused. Each edit is a
+line; exit status 1 where any was not refused.
     tools/try_edits.py CRATE EDIT ..        CRATE: the folder of the copy, whose files are changed for a while
 RT_JOBS says how many processors a check uses.
 """
+import functools
 import os
 import re
 import subprocess
 import sys
 
+from build_library import toolchain
 from edits import LINE
 
 # An error of a file that was edited, or of code or definitions: at a place, of an obligation that it names, or not.
@@ -18,11 +22,42 @@ ERROR = re.compile(r"(?:\./)?(\S+?):\d+:\d+: error: (?:(`[^`]*`): )?(.*)")
 UNREAD = re.compile(r"is not in scope|has no field|is no name|operand is missing|expected the end|cannot continue")
 
 
+JOBS = ["--jobs", os.environ["RT_JOBS"]] if os.environ.get("RT_JOBS") else []
+
+
+def is_ready(crate):
+    """Whether each library below a crate is built of the sources as they stand."""
+    return all(it.is_built() for it in crate.below())
+
+
+@functools.cache
+def prover(folder):
+    """The words by which `rt check` calls the prover in a crate's folder, over what it keeps, once the libraries below are
+    built; `rt check` itself, where the toolchain is another one."""
+    plain = ["rt", "check", *JOBS]
+    try:
+        rtlib = toolchain()
+
+        class Crate(rtlib.Crate):
+            """A crate of which the sum is taken once."""
+            stamp = functools.cache(rtlib.Crate.stamp)
+
+        rtlib.Crate = Crate
+        crate = Crate(folder, rtlib.root_above(folder), {})
+        if not is_ready(crate):
+            subprocess.run(plain, cwd=folder, stdin=subprocess.DEVNULL, stdout=subprocess.DEVNULL, check=False)
+            crate = Crate(folder, rtlib.root_above(folder), {})
+        if not is_ready(crate):
+            return plain
+        return [rtlib.RATTLE, "check", *crate.words(JOBS or ["--jobs", "1"]), *rtlib.KEPT]
+    except (AttributeError, ImportError, OSError, TypeError, subprocess.CalledProcessError):
+        return plain
+
+
 def check(crate):
     """Checks the crate over what was kept: the status, and the lines that were said."""
-    jobs = ["--jobs", os.environ["RT_JOBS"]] if os.environ.get("RT_JOBS") else []
     how = {"stdin": subprocess.DEVNULL, "stdout": subprocess.PIPE, "stderr": subprocess.STDOUT, "errors": "replace"}
-    ran = subprocess.run(["rt", "check", *jobs], cwd=crate, **how)
+    ran = subprocess.run(prover(os.path.realpath(crate)), cwd=crate, **how)
     return ran.returncode, ran.stdout.split("\n")
 
 
