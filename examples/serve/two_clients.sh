@@ -7,14 +7,16 @@ dsheet=$here/../../dsheet
 port=${1:-8080}
 "$dsheet" serve --listen "127.0.0.1:$port" --processes 3 --workers 1 --sessions 3 &
 
-# Says the lines of a file as a process, once the server listens.
+# Says lines as a process, once the server listens.
 say() {
-    "$dsheet" connect "127.0.0.1:$port" --process "$1" <"$here/$2"
+    process=$1
+    shift
+    printf '%s\n' "$@" | "$dsheet" connect "127.0.0.1:$port" --process "$process"
 }
 
-say 0 first >/dev/null &
+say 0 'set A1 =[.B1]+1' 'set A2 =SUM([.A1:.B1])' >/dev/null &
 first=$!
-say 1 second >/dev/null
+say 1 'set B1 41' 'set B2 =[.A2]*2' >/dev/null
 wait "$first"
-say 0 last
+say 0 report
 wait
