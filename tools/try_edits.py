@@ -20,35 +20,18 @@ from edits import LINE
 ERROR = re.compile(r"(?:\./)?(\S+?):\d+:\d+: error: (?:(`[^`]*`): )?(.*)")
 # What the prover says where it cannot read a text.
 UNREAD = re.compile(r"is not in scope|has no field|is no name|operand is missing|expected the end|cannot continue")
-
-
 JOBS = ["--jobs", os.environ["RT_JOBS"]] if os.environ.get("RT_JOBS") else []
-
-
-def is_ready(crate):
-    """Whether each library below a crate is built of the sources as they stand."""
-    return all(it.is_built() for it in crate.below())
 
 
 @functools.cache
 def prover(folder):
-    """The words by which `rt check` calls the prover in a crate's folder, over what it keeps, once the libraries below are
-    built; `rt check` itself, where the toolchain is another one."""
+    """The words by which `rt check` calls the prover in a crate's folder, over what it keeps, once that has built the libraries
+    below; `rt check` itself, where the toolchain is another one."""
     plain = ["rt", "check", *JOBS]
     try:
         rtlib = toolchain()
-
-        class Crate(rtlib.Crate):
-            """A crate of which the sum is taken once."""
-            stamp = functools.cache(rtlib.Crate.stamp)
-
-        rtlib.Crate = Crate
-        crate = Crate(folder, rtlib.root_above(folder), {})
-        if not is_ready(crate):
-            subprocess.run(plain, cwd=folder, stdin=subprocess.DEVNULL, stdout=subprocess.DEVNULL, check=False)
-            crate = Crate(folder, rtlib.root_above(folder), {})
-        if not is_ready(crate):
-            return plain
+        subprocess.run(plain, cwd=folder, stdin=subprocess.DEVNULL, stdout=subprocess.DEVNULL, check=False)
+        crate = rtlib.Crate(folder, rtlib.root_above(folder), {})
         return [rtlib.RATTLE, "check", *crate.words(JOBS or ["--jobs", "1"]), *rtlib.KEPT]
     except (AttributeError, ImportError, OSError, TypeError, subprocess.CalledProcessError):
         return plain
