@@ -364,6 +364,8 @@ def description(server):
         ("GET", "/edits?from=x", None, 400, {}), ("GET", "/cells/A1", None, 200, {}), ("GET", "/cells/C1", None, 404, {}), ("POST", "/lines", "{}", 200, {}),
         ("GET", "/session", None, 426, {}), ("GET", "/session", None, 400, asked | {"sec_websocket_key": "none"}),
         ("GET", "/events", None, 200, {}), ("GET", "/events?from=x", None, 400, {}),
+        ("POST", "/explore", "begin 0 set A1 1", 200, {}), ("POST", "/explore", "begin", 422, {}),
+        ("POST", "/trace", "set 0 A1 1", 200, {}), ("POST", "/trace", "set 0 Z9 1", 422, {}),
         ("GET", "/session", None, 101, asked), ("GET", "/metrics", None, 200, {}), ("GET", "/healthz", None, 200, {}), ("GET", "/", None, 200, {}),
     ]
     for method, path, body, wanted, fields in cases:
@@ -379,6 +381,31 @@ def description(server):
         allowed = Client(server).ask("DELETE", path)[1]["allow"].split(", ")
         row(f"described: the methods of {path}", sorted(set(allowed) - {"HEAD"}), there)
     row("described: no other fields", fits(described, {"$ref": "#/components/schemas/Done"}, {"number": 0, "ok": "done", "more": 1}), False)
+
+
+def said(program, script, *words):
+    """What the program writes for a script."""
+    return subprocess.run([program, *words], input=script, capture_output=True, text=True, timeout=60, check=False).stdout
+
+
+def questions(program, server):
+    """Questions about scripts are answered as the program answers them, and touch no sheet."""
+    before, client = Client(server).sheet(), Client(server)
+    two = "begin 0 set A1 1\nbegin 1 set A1 2\n"
+    for script in (two, "", "sheet 2 2 2\nbegin 0 set A1 1\nbegin 1 work A1\n"):
+        wanted = said(program, script, "explore", "--crashes", "--json")
+        row(f"all orders of {script!r}", client.ask("POST", "/explore", script)[::2], (200, wanted))
+    status, fields, body = client.ask("POST", "/trace", two)
+    row("the picture of a run", (status, fields["content-type"], body), (200, "image/svg+xml", said(program, two, "trace", "--brief")))
+    unfit = "422 text/plain; charset=utf-8 "
+    for path, script, why in [("/explore", "begin 0 set A1 1\nfoo\n", "line 2: bad command"), ("/trace", "set 0 A1 1\nfoo\n", "line 2: bad command"),
+                              ("/trace", "set 0 A1 1\n" * 60, "run too long: more than 1000 events"), ("/explore", "# " + "x" * 600, "line 1: line too long")]:
+        status, fields, body = client.ask("POST", path, script)
+        row(f"{path}: {why}", f"{status} {fields['content-type']} {body}", unfit + why)
+    many = "".join(f"begin {process} set A1 {process}\n" for process in range(6))
+    figures = json.loads(client.ask("POST", "/explore", many)[2].split("\n")[0])
+    row("no more states are gone through than a server goes through", (figures["cut"], figures["found"]["states"] >= 20000), (True, True))
+    row("nothing of it is in the sheet", Client(server).sheet(), before)
 
 
 def limits(server):
@@ -550,6 +577,8 @@ def tokens(program):
         row("a report without it", client.ask("GET", "/sheet")[0], 401)
         row("the numbers without it", client.ask("GET", "/metrics")[0], 401)
         row("the numbers with it", client.ask("GET", "/metrics", authorization="Bearer open sesame")[0], 200)
+        row("a question about a script without it", client.ask("POST", "/explore", "begin 0 set A1 1")[0], 401)
+        row("a picture with it", client.ask("POST", "/trace", "set 0 A1 1", authorization="Bearer open sesame")[0], 200)
         row("a cell without it", client.ask("GET", "/cells/A1")[0], 401)
         row("the list of edits without it", client.ask("GET", "/edits")[0], 401)
         row("events without it", client.ask("GET", "/events")[0], 401)
@@ -593,6 +622,7 @@ def play(program, quick):
     metrics(server)
     events(server)
     description(server)
+    questions(program, server)
     limits(server)
     origins(server)
     sockets(server)

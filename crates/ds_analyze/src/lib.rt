@@ -1,6 +1,7 @@
 //! `dsheet explore` and `dsheet trace`: what the orders of a script's calls come to, and its run as a picture.
 #![tactic(auto)]
 
+pub mod analyst;
 pub mod explore;
 pub mod form;
 mod input;

@@ -6,6 +6,7 @@ mod descriptors;
 use crate::descriptors::stand_ins;
 use clap::Error;
 use clap::error::ErrorKind;
+use ds_analyze::analyst::{STATES_MOST, ScriptAnalyst};
 use ds_analyze::explore::explore;
 use ds_analyze::trace::trace;
 use ds_batch::closing::is_closed;
@@ -43,6 +44,11 @@ use std::time::Clock;
 
 // The status of wrong words on the command line, and of options out of their limits.
 const WRONG_WORDS: u8 = 2;
+
+// Who answers a server's questions about scripts.
+const ANALYST: ScriptAnalyst = ScriptAnalyst {
+    states_most: STATES_MOST,
+};
 
 // Prints help to standard output, and what is wrong with the words to standard error.
 fn explain(rt: &(impl Print + Eprint), error: &Error) -> u8 {
@@ -153,11 +159,11 @@ fn dispatch<
         Ok(Action::Explore(exploring)) => explore(rt, exploring, terminals.error),
         Ok(Action::Trace(tracing)) => trace(rt, tracing),
         Ok(Action::Serve(serving)) => match keys(rt) {
-            Ok(keys) => serve(rt, serving, keys),
+            Ok(keys) => serve(rt, serving, keys, &ANALYST),
             Err(status) => status,
         },
         Ok(Action::Keep(serving, path)) => match keys(rt) {
-            Ok(keys) => serve_store(rt, serving, path, keys),
+            Ok(keys) => serve_store(rt, serving, path, keys, &ANALYST),
             Err(status) => status,
         },
         Ok(Action::Connect(connecting, notation)) => {

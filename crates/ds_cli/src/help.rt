@@ -198,14 +198,15 @@ A set may also be answered \"overtaken\", with the edit that has overtaken it: i
 answered \"unsettled\", with a word of the sheet that was not at rest: others were editing. Ask again.
 Refusals have a code: 1 not-json, 2 unknown-op, 3 bad-field, 4 process-taken, 5 line-too-long (over 4096
 bytes), 6 not-joined, 7 already-joined, 11 text, 13 stopped, 14 records-full (no room; a server goes over to
-a new sheet before), 15 no-memory, 22 no-edit (of that cell), 23 no-history. They change no text.
+a new sheet before), 15 no-memory, 20 denied (without the token), 21 key-reused (by another edit), 22 no-edit
+(of that cell), 23 no-history. They change no text.
 A session is of at most 1048576 bytes; at its end its process is free again. What ends a connection is said as its
 last line: 16 busy (as many sessions as --at-once), 17 too-long, 18 idle (nothing said or taken for --idle seconds),
 19 where the client speaks HTTP or TLS.
 
 Example:
   dsheet serve --listen 127.0.0.1:8080 --store sheet.db --forever &
-  printf '{\"op\":\"join\",\"process\":0}\\n{\"op\":\"report\"}\\n' | nc -N 127.0.0.1 8080
+  printf 'set A1 =1+2\\nreport\\n' | dsheet connect 127.0.0.1:8080
   dsheet serve --http 127.0.0.1:8081 --forever &
   curl -d '{\"cell\":\"A1\",\"text\":\"=1+2\"}' 127.0.0.1:8081/edits
 

@@ -15,11 +15,12 @@ media_type kinds.Lines = codes "application/x-ndjson"
 media_type kinds.Text = codes "text/plain; charset=utf-8"
 media_type kinds.Metrics = codes "text/plain; version=0.0.4; charset=utf-8"
 media_type kinds.Events = codes "text/event-stream"
+media_type kinds.Picture = codes "image/svg+xml"
 media_type kinds.Page = codes "text/html; charset=utf-8"
 
--- what the page may do: it has all of its code and style, and speaks to its own server alone (Content Security Policy 3)
+-- what the page may do: it has all of its code, style and pictures, and speaks to its own server alone (Content Security Policy 3)
 abbrev pub policy : List ℕ
-policy = codes "default-src 'none'; script-src 'unsafe-inline'; style-src 'unsafe-inline'; connect-src 'self'; base-uri 'none'; form-action 'none'; frame-ancestors 'none'"
+policy = codes "default-src 'none'; script-src 'unsafe-inline'; style-src 'unsafe-inline'; img-src data:; connect-src 'self'; base-uri 'none'; form-action 'none'; frame-ancestors 'none'"
 
 -- the fields of every response with a body: what it is, that no cache keeps it, and that nobody guesses what it is
 abbrev pub common_fields : Kind → List Header

@@ -11,4 +11,5 @@ pub mod Edits
 pub mod Lines
 pub mod Reading
 pub mod Events
+pub mod Scripts
 pub mod Sites

@@ -1,5 +1,6 @@
 -- What a request names, and by which methods it may be asked for.
 use Rattle.std.specs.Prelude.{ℕ, List, Bool, ◌||◌, Option, Some, None, codes, bytes_eq, option_map, take, if◌then◌else◌}
+use Rattle.ds_analyst.specs.declared.question.Question.TheVariants as questions
 use Rattle.ds_http.specs.declared.resource.Resource.{Resource}
 use Rattle.ds_http.specs.declared.resource.Resource.TheVariants as names
 use Rattle.ds_http.specs.declared.resource.Part.{Part}
@@ -23,7 +24,9 @@ resource_at path =
     else (if bytes_eq path (codes "/metrics") then Some names.Metrics
     else (if bytes_eq path (codes "/lines") then Some names.Lines
     else (if bytes_eq path (codes "/session") then Some names.Session
-    else option_map names.OfSheet (part_at path)))))
+    else (if bytes_eq path (codes "/explore") then Some (names.OfScript questions.Orders)
+    else (if bytes_eq path (codes "/trace") then Some (names.OfScript questions.Run)
+    else option_map names.OfSheet (part_at path)))))))
 
 -- whether the method is GET or HEAD (RFC 9110, sections 9.3.1 and 9.3.2)
 abbrev pub is_reading : List ℕ → Bool
@@ -45,6 +48,7 @@ allows names.Metrics method = is_reading method
 allows (names.OfSheet part) method = part_allows part method
 allows names.Lines method = bytes_eq method (codes "POST")
 allows names.Session method = bytes_eq method (codes "GET")
+allows (names.OfScript question) method = bytes_eq method (codes "POST")
 
 -- the methods by which a part of the sheet may be asked for, as the field `allow` lists them (RFC 9110, section 10.2.1)
 abbrev pub part_methods : Part → List ℕ
@@ -62,3 +66,4 @@ methods_of names.Metrics = codes "GET, HEAD"
 methods_of (names.OfSheet part) = part_methods part
 methods_of names.Lines = codes "POST"
 methods_of names.Session = codes "GET"
+methods_of (names.OfScript question) = codes "POST"

@@ -33,6 +33,9 @@ use Rattle.ds_http.specs.Edits.{Posts}
 use Rattle.ds_http.specs.Lines.{whole_lines, Plays}
 use Rattle.ds_http.specs.Reading.{cell_in, from_in, key_in}
 use Rattle.ds_http.specs.Events.{event_text, events_from}
+use Rattle.ds_http.specs.Scripts.{AnswersQuestionIf}
+use Rattle.ds_analyst.specs.declared.question.Question.{Question}
+use Rattle.ds_analyst.specs.declared.question.Analysis.{Analysis}
 
 -- the response is what the sheet has said, as a session's line of it, with its status
 abbrev pub SaysOf : {B : Type 0} → Rules B → B → Said → Response → Type 0
@@ -122,31 +125,33 @@ abbrev pub AnswersMetricsIf : (Metrics → Type 0) → Bool → Response → Typ
 AnswersMetricsIf Gives true r = AnswersMetrics Gives r
 AnswersMetricsIf Gives false r = Refuses denied_fields problems.Denied r
 
--- the answer to a request for a resource, by a method that it allows, of the server with this page, whose numbers are given so,
--- and the sheet before and after it
-abbrev pub Obeys : {B : Type 0} → Rules B → (Metrics → Type 0) → List ℕ → B → Resource → Request (List ℕ) → Response → B → Type 0
-Obeys rules Gives page old names.Page request r new = IsResponse 200 (fields_for kinds.Page) page r × (new ≡ old)
-Obeys rules Gives page old names.Health request r new = IsResponse 200 (fields_for kinds.Text) (codes "ok\n") r × (new ≡ old)
-Obeys rules Gives page old names.Metrics request r new = AnswersMetricsIf Gives (may_act rules old request) r × (new ≡ old)
-Obeys rules Gives page old (names.OfSheet part) request r new = AnswersOfIf rules old (may_act rules old request) part request r new
-Obeys rules Gives page old names.Lines request r new = AnswersLines rules old (body_of request) r new
-Obeys rules Gives page old names.Session request r new = Shakes (head_of request).headers r × (new ≡ old)
+-- the answer to a request for a resource, by a method that it allows, of the server with this page, whose numbers are given so
+-- and whose analyst may find this, and the sheet before and after it
+abbrev pub Obeys : {B : Type 0} → Rules B → (Metrics → Type 0) → (Question → List ℕ → Analysis → Type 0) → List ℕ → B → Resource → Request (List ℕ) → Response → B → Type 0
+Obeys rules Gives Finds page old names.Page request r new = IsResponse 200 (fields_for kinds.Page) page r × (new ≡ old)
+Obeys rules Gives Finds page old names.Health request r new = IsResponse 200 (fields_for kinds.Text) (codes "ok\n") r × (new ≡ old)
+Obeys rules Gives Finds page old names.Metrics request r new = AnswersMetricsIf Gives (may_act rules old request) r × (new ≡ old)
+Obeys rules Gives Finds page old (names.OfSheet part) request r new = AnswersOfIf rules old (may_act rules old request) part request r new
+Obeys rules Gives Finds page old names.Lines request r new = AnswersLines rules old (body_of request) r new
+Obeys rules Gives Finds page old names.Session request r new = Shakes (head_of request).headers r × (new ≡ old)
+Obeys rules Gives Finds page old (names.OfScript question) request r new = AnswersQuestionIf (Finds question (body_of request)) (may_act rules old request) question r × (new ≡ old)
 
 -- the same, where the method may be another one
-abbrev pub ObeysIf : {B : Type 0} → Rules B → (Metrics → Type 0) → List ℕ → B → Bool → Resource → Request (List ℕ) → Response → B → Type 0
-ObeysIf rules Gives page old true resource request r new = Obeys rules Gives page old resource request r new
-ObeysIf rules Gives page old false resource request r new = Refuses ((codes "allow", methods_of resource) ∷ []) problems.MethodNotAllowed r × (new ≡ old)
+abbrev pub ObeysIf : {B : Type 0} → Rules B → (Metrics → Type 0) → (Question → List ℕ → Analysis → Type 0) → List ℕ → B → Bool → Resource → Request (List ℕ) → Response → B → Type 0
+ObeysIf rules Gives Finds page old true resource request r new = Obeys rules Gives Finds page old resource request r new
+ObeysIf rules Gives Finds page old false resource request r new = Refuses ((codes "allow", methods_of resource) ∷ []) problems.MethodNotAllowed r × (new ≡ old)
 
 -- the same, where the path may name nothing
-abbrev pub ObeysAt : {B : Type 0} → Rules B → (Metrics → Type 0) → List ℕ → B → Option Resource → Request (List ℕ) → Response → B → Type 0
-ObeysAt rules Gives page old None request r new = Refuses [] problems.NotFound r × (new ≡ old)
-ObeysAt rules Gives page old (Some resource) request r new = ObeysIf rules Gives page old (allows resource (head_of request).method) resource request r new
+abbrev pub ObeysAt : {B : Type 0} → Rules B → (Metrics → Type 0) → (Question → List ℕ → Analysis → Type 0) → List ℕ → B → Option Resource → Request (List ℕ) → Response → B → Type 0
+ObeysAt rules Gives Finds page old None request r new = Refuses [] problems.NotFound r × (new ≡ old)
+ObeysAt rules Gives Finds page old (Some resource) request r new = ObeysIf rules Gives Finds page old (allows resource (head_of request).method) resource request r new
 
 -- the same, where the request may come from elsewhere: it is refused then, whatever it asks for
-abbrev pub AnswersIf : {B : Type 0} → Rules B → (Metrics → Type 0) → List ℕ → B → Bool → Request (List ℕ) → Response → B → Type 0
-AnswersIf rules Gives page old true request r new = ObeysAt rules Gives page old (resource_at (uri_path (head_of request).uri)) request r new
-AnswersIf rules Gives page old false request r new = Refuses [] problems.ForeignOrigin r × (new ≡ old)
+abbrev pub AnswersIf : {B : Type 0} → Rules B → (Metrics → Type 0) → (Question → List ℕ → Analysis → Type 0) → List ℕ → B → Bool → Request (List ℕ) → Response → B → Type 0
+AnswersIf rules Gives Finds page old true request r new = ObeysAt rules Gives Finds page old (resource_at (uri_path (head_of request).uri)) request r new
+AnswersIf rules Gives Finds page old false request r new = Refuses [] problems.ForeignOrigin r × (new ≡ old)
 
--- the answer to a request, of the server of this address with this page, whose numbers are given so, and the sheet before and after it
-abbrev pub Answers : {B : Type 0} → Rules B → (Metrics → Type 0) → List ℕ → List ℕ → B → Request (List ℕ) → Response → B → Type 0
-Answers rules Gives address page old request r new = AnswersIf rules Gives page old (is_own (head_of request).headers address) request r new
+-- the answer to a request, of the server of this address with this page, whose numbers are given so and whose analyst may find
+-- this, and the sheet before and after it
+abbrev pub Answers : {B : Type 0} → Rules B → (Metrics → Type 0) → (Question → List ℕ → Analysis → Type 0) → List ℕ → List ℕ → B → Request (List ℕ) → Response → B → Type 0
+Answers rules Gives Finds address page old request r new = AnswersIf rules Gives Finds page old (is_own (head_of request).headers address) request r new

@@ -13,6 +13,7 @@ mod problem;
 mod reading;
 mod reply;
 mod resource;
+mod script;
 pub mod site;
 mod status;
 mod taking;

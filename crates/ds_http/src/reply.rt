@@ -31,13 +31,15 @@ pub(crate) enum Kind {
     Metrics,
     /// Server-sent events.
     Events,
+    /// A picture.
+    Picture,
     /// The page.
     Page,
 }
 
-// What the page may do: it has all of its code and style, and speaks to its own server alone.
+// What the page may do: it has all of its code, style and pictures, and speaks to its own server alone.
 const POLICY: &str =
-    "default-src 'none'; script-src 'unsafe-inline'; style-src 'unsafe-inline'; connect-src 'self'; base-uri 'none'; form-action 'none'; frame-ancestors 'none'";
+    "default-src 'none'; script-src 'unsafe-inline'; style-src 'unsafe-inline'; img-src data:; connect-src 'self'; base-uri 'none'; form-action 'none'; frame-ancestors 'none'";
 
 impl Kind {
     // Its media type (RFC 9110, section 8.3).
@@ -50,6 +52,7 @@ impl Kind {
             Kind::Text => "text/plain; charset=utf-8",
             Kind::Metrics => "text/plain; version=0.0.4; charset=utf-8",
             Kind::Events => "text/event-stream",
+            Kind::Picture => "image/svg+xml",
             Kind::Page => "text/html; charset=utf-8",
         })
     }
@@ -90,7 +93,9 @@ pub(crate) fn begin(response: &mut Response, kind: Kind) -> Result<(), AllocErro
     add_common(response, kind)?;
     match kind {
         Kind::Page => add_policy(response),
-        Kind::Json | Kind::Lines | Kind::Text | Kind::Metrics | Kind::Events => Ok(()),
+        Kind::Json | Kind::Lines | Kind::Text | Kind::Metrics | Kind::Events | Kind::Picture => Ok(
+            (),
+        ),
     }
 }
 

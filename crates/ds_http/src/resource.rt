@@ -3,6 +3,8 @@
 ghost use Rattle.std.specs.Prelude.{◌≡◌};
 ghost use Rattle.ds_http.specs.Resources.{allows, methods_of, part_allows, part_at, part_methods, resource_at};
 
+use ds_analyst::question::Question;
+
 /// What of the sheet a path names. Where there is a token, a request for it has to have it.
 #[derive(Clone, Copy, Debug, PartialEq, Eq)]
 pub(crate) enum Part {
@@ -33,6 +35,8 @@ pub(crate) enum Resource {
     Lines,
     /// A session over a WebSocket.
     Session,
+    /// An answer to this question about a script. Where there is a token, a request for it has to have it.
+    OfScript(Question),
 }
 
 // What of the sheet a path names, if anything.
@@ -59,6 +63,8 @@ pub(crate) fn resource_at(path: &str) -> Option<Resource>
         "/metrics" => Some(Resource::Metrics),
         "/lines" => Some(Resource::Lines),
         "/session" => Some(Resource::Session),
+        "/explore" => Some(Resource::OfScript(Question::Orders)),
+        "/trace" => Some(Resource::OfScript(Question::Run)),
         _ => Some(Resource::OfSheet(part_at(path)?)),
     }
 }
@@ -98,7 +104,7 @@ impl Resource {
             }
             Resource::OfSheet(part) => part.allows(method),
             Resource::Session => method == "GET",
-            Resource::Lines => method == "POST",
+            Resource::Lines | Resource::OfScript(_) => method == "POST",
         }
     }
 
@@ -110,7 +116,7 @@ impl Resource {
             Resource::Page | Resource::Health | Resource::Metrics => "GET, HEAD",
             Resource::OfSheet(part) => part.methods(),
             Resource::Session => "GET",
-            Resource::Lines => "POST",
+            Resource::Lines | Resource::OfScript(_) => "POST",
         }
     }
 }

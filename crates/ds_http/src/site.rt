@@ -22,9 +22,11 @@ use crate::problem::Problem;
 use crate::reading::{cell_in, from_in, key_in};
 use crate::reply::{Kind, begin, deny, end, refuse, refuse_method, say, tell};
 use crate::resource::{Part, Resource, resource_at};
+use crate::script::answer_question_if;
 use crate::status::status_at;
 use crate::token::may_act;
 use bytes::Bytes;
+use ds_analyst::question::Analyst;
 use ds_server::answer::Response as Answer;
 use ds_server::desk::Desk;
 use ds_server::request::LineFault;
@@ -33,33 +35,36 @@ use http::{HeaderMap, HeaderValue, Request, StatusCode};
 use http_server::{Response, Service};
 use std::alloc::{AllocError, Global};
 
-/// A sheet as one connection of HTTP sees it: a desk, who counts what the server does, the address that is served, and the
-/// page for people.
+/// A sheet as one connection of HTTP sees it: a desk, who counts what the server does, who answers questions about scripts,
+/// the address that is served, and the page for people.
 #[derive(Drop)]
-pub struct Site<'a, B: Desk, C: Counts> {
+pub struct Site<'a, B: Desk, C: Counts, A: Analyst> {
     alloc: Global,
     address: &'a str,
     page: &'a str,
     desk: B,
     counts: C,
+    analyst: &'a A,
 }
 
-impl<'a, B: Desk, C: Counts> Site<'a, B, C> {
-    /// Over this desk, with the numbers that `counts` gives. Requests for another host than loopback or this address, as
-    /// `192.168.1.5:8080`, are refused.
+impl<'a, B: Desk, C: Counts, A: Analyst> Site<'a, B, C, A> {
+    /// Over this desk, with the numbers that `counts` gives, and what the analyst finds. Requests for another host than
+    /// loopback or this address, as `192.168.1.5:8080`, are refused.
     pub fn new(
         alloc: Global,
         address: &'a str,
         page: &'a str,
         desk: B,
         counts: C,
-    ) -> Site<'a, B, C> {
+        analyst: &'a A,
+    ) -> Site<'a, B, C, A> {
         Site {
             alloc,
             address,
             page,
             desk,
             counts,
+            analyst,
         }
     }
 }
@@ -288,17 +293,18 @@ fn answer_metrics_if<C: Counts>(
 }
 
 // What is answered to a request for a resource, by a method that it allows.
-fn obey<B: Desk, C: Counts>(
+fn obey<B: Desk, C: Counts, A: Analyst>(
     alloc: Global,
     desk: &mut B,
     counts: &C,
+    analyst: &A,
     page: &str,
     resource: Resource,
     request: &Request<Bytes>,
     response: &mut Response,
 ) -> Result<(), AllocError>
     requires { IsBlank response.old }
-    ensures obeys { OnOk result (Obeys B.rules (C.gives counts.now) page.now desk.old resource request.now response.new desk.new) }
+    ensures obeys { OnOk result (Obeys B.rules (C.gives counts.now) (A.finds analyst.now) page.now desk.old resource request.now response.new desk.new) }
     ensures kept { OnErr result (desk.new ≡ desk.old) }
 {
     match resource {
@@ -314,35 +320,43 @@ fn obey<B: Desk, C: Counts>(
         }
         Resource::Lines => answer_lines(alloc, desk, request.body().as_slice(), response),
         Resource::Session => shake(alloc, request.headers(), response),
+        Resource::OfScript(question) => {
+            let may = may_act(desk, request.headers());
+            let script = request.body().as_slice();
+            answer_question_if(alloc, analyst, may, question, script, response)
+        }
     }
 }
 
 // What is answered to a request that may be answered.
-fn answer<B: Desk, C: Counts>(
+fn answer<B: Desk, C: Counts, A: Analyst>(
     alloc: Global,
     desk: &mut B,
     counts: &C,
+    analyst: &A,
     page: &str,
     request: &Request<Bytes>,
     response: &mut Response,
 ) -> Result<(), AllocError>
     requires { IsBlank response.old }
-    ensures obeys { OnOk result (ObeysAt B.rules (C.gives counts.now) page.now desk.old (resource_at (uri_path (head_of request.now).uri)) request.now response.new desk.new) }
+    ensures obeys { OnOk result (ObeysAt B.rules (C.gives counts.now) (A.finds analyst.now) page.now desk.old (resource_at (uri_path (head_of request.now).uri)) request.now response.new desk.new) }
     ensures kept { OnErr result (desk.new ≡ desk.old) }
 {
     match resource_at(request.uri().path()) {
         None => refuse(response, Problem::NotFound),
         Some(resource) if resource.allows(request.method().as_str()) => {
-            obey(alloc, desk, counts, page, resource, request, response)
+            obey(
+                alloc, desk, counts, analyst, page, resource, request, response,
+            )
         }
         Some(resource) => refuse_method(response, resource),
     }
 }
 
-impl<B: Desk, C: Counts> Service for Site<'_, B, C> {
+impl<B: Desk, C: Counts, A: Analyst> Service for Site<'_, B, C, A> {
     ghost use Rattle.ds_http.specs.Sites.{Answers};
 
-    ghost answers = { λ old request response new. Answers B.rules (C.gives old.counts) old.address.now old.page.now old.desk request response new.desk × (new.address ≡ old.address) × (new.page ≡ old.page) × (new.counts ≡ old.counts) };
+    ghost answers = { λ old request response new. Answers B.rules (C.gives old.counts) (A.finds old.analyst.now) old.address.now old.page.now old.desk request response new.desk × (new.address ≡ old.address) × (new.page ≡ old.page) × (new.counts ≡ old.counts) × (new.analyst ≡ old.analyst) };
 
     fn call(
         &mut self,
@@ -356,6 +370,7 @@ impl<B: Desk, C: Counts> Service for Site<'_, B, C> {
             self.alloc,
             &mut self.desk,
             &self.counts,
+            self.analyst,
             self.page,
             request,
             response,

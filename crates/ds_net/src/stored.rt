@@ -10,6 +10,7 @@ ghost use Rattle.ds_net_connections.specs.Accepting.{IsLasting, IsServed, IsStor
 
 use crate::going_over::ServedSheet;
 use crate::keeper::{Attendant, keep};
+use ds_analyst::question::Analyst;
 use ds_net_connections::counts::Taken;
 use ds_net_connections::entrance::Entrances;
 use ds_net_connections::serving::{ServeError, Service, serve_floor};
@@ -213,10 +214,15 @@ fn opened_with<S: Alter + Drop, R: Wait>(
 /// Serves the sheet of an open store, which its threads share, as `serve_floor` says, while the calling thread
 /// keeps in the store each edit that its sessions have done. A join has to have the token, if there is one. Edits take turns; nothing else takes a lock. No answer leaves
 /// before the edits are committed that it could tell of. Where a process has few edits left in the sheet, the server goes
-/// over to a new one, of which clients see nothing: numbers go on. The attendant has its turn between two commits, four times a
+/// over to a new one, of which clients see nothing: numbers go on. Questions about scripts go to the analyst. The attendant has its turn between two commits, four times a
 /// second at least. An error is that of `serve_floor`, or that an allocation failed; or the store has failed, and
 /// the server was stopped: what was committed stands, and no answer has left after it. The store comes back.
-pub fn serve<S: Alter + Drop, T: Attendant, R: Threads + Wait + Clock + Log + Sync>(
+pub fn serve<
+    S: Alter + Drop,
+    T: Attendant,
+    A: Analyst + Sync,
+    R: Threads + Wait + Clock + Log + Sync,
+>(
     rt: &R,
     alloc: Global,
     entrances: &Entrances,
@@ -224,6 +230,7 @@ pub fn serve<S: Alter + Drop, T: Attendant, R: Threads + Wait + Clock + Log + Sy
     door: &Door,
     service: Service,
     token: Option<&[u8]>,
+    analyst: &A,
     attendant: &mut T,
 ) -> (Result<StoredEnd, ServeError>, Store<S>)
     ensures served { IfOk result.0 (λ end. IsServed service.sessions end.taken) }
@@ -249,7 +256,14 @@ pub fn serve<S: Alter + Drop, T: Attendant, R: Threads + Wait + Clock + Log + Sy
     drop(lines);
     let mut served_sheet = ServedSheet::new(sheet, &pool);
     let keeping = Keeping::new(alloc, edits, store.joins(), keys);
-    let floor = StoredFloor::new(&references, &pool, service.workers, token, &keeping);
+    let floor = StoredFloor::new(
+        &references,
+        &pool,
+        service.workers,
+        token,
+        &keeping,
+        analyst,
+    );
     let ended = serve_beside(
         rt,
         alloc,

@@ -4,6 +4,7 @@ ghost use Rattle.ds_cli.specs.Servings.{IsWithinLimits};
 
 use crate::control::{Control, Listening};
 use crate::watching::Watching;
+use ds_analyst::question::Analyst;
 use ds_batch::run::no_memory;
 use ds_batch::status::STREAM_FAILED;
 use ds_batch::token::{bytes_of, read_token};
@@ -120,6 +121,7 @@ fn layout_of(serving: Serving<'_>) -> Layout
 fn serve_opened<
     S: Alter + Drop,
     T: Attendant,
+    A: Analyst + Sync,
     R: AllocGlobal + Threads + Wait + Clock + Log + Sync,
 >(
     rt: &R,
@@ -128,6 +130,7 @@ fn serve_opened<
     door: &Door,
     serving: Serving<'_>,
     token: Option<&[u8]>,
+    analyst: &A,
     attendant: &mut T,
 ) -> (Result<StoredEnd, ServeError>, Store<S>) {
     let logged = Logged::new(rt, serving.log, rt);
@@ -139,6 +142,7 @@ fn serve_opened<
         door,
         service_of(serving),
         token,
+        analyst,
         attendant,
     )
 }
@@ -162,8 +166,10 @@ fn opened_in_memory<R: AllocGlobal + Eprint>(
 
 /// Serves a new sheet, whose store is in memory and goes with the server, until it is asked to stop, by a line `stop` on standard
 /// input, or as many sessions have joined a process as are asked for, and all sessions have ended; and gives the status: 0, or
-/// what an error says, which is reported on standard error. Once it listens it says so there.
+/// what an error says, which is reported on standard error. Once it listens it says so there. Questions about scripts go to the
+/// analyst.
 pub fn serve<
+    A: Analyst + Sync,
     R: AllocGlobal
         + Eprint
         + Input
@@ -174,7 +180,7 @@ pub fn serve<
         + Net<Stream = TcpStream, Listener = TcpListener>
         + Files
         + Sync,
->(rt: &R, serving: Serving<'_>, keys: RandomState) -> u8
+>(rt: &R, serving: Serving<'_>, keys: RandomState, analyst: &A) -> u8
     requires { IsWithinLimits serving }
 {
     let token = match read_token(rt, serving.token_file) {
@@ -198,6 +204,7 @@ pub fn serve<
         &door,
         serving,
         bytes_of(&token),
+        analyst,
         &mut listening,
     );
     let taken = served.map(|end| end.taken);
@@ -216,6 +223,7 @@ struct KeptEnd {
 // Serves the sheet of the store at this path, which keeps the edits that are made; between two commits standard input is
 // read, and the file is looked for.
 fn serve_kept<
+    A: Analyst + Sync,
     R: AllocGlobal
         + Input
         + Threads
@@ -232,11 +240,21 @@ fn serve_kept<
     serving: Serving<'_>,
     token: Option<&[u8]>,
     path: &str,
+    analyst: &A,
 ) -> KeptEnd {
     let door = Door::new();
     let listening = Listening::new(Control::new(rt), rt.reader(), &door);
     let mut watching = Watching::new(listening, rt, path, &door);
-    let (served, store) = serve_opened(rt, entrances, opened, &door, serving, token, &mut watching);
+    let (served, store) = serve_opened(
+        rt,
+        entrances,
+        opened,
+        &door,
+        serving,
+        token,
+        analyst,
+        &mut watching,
+    );
     KeptEnd {
         served,
         store,
@@ -318,6 +336,7 @@ fn opened<R: AllocGlobal + Eprint + Databases>(
 /// are committed that it could tell of. Where they cannot be, or where the file is removed or replaced, the server stops, and
 /// its status says why.
 pub fn serve_store<
+    A: Analyst + Sync,
     R: AllocGlobal
         + Eprint
         + Input
@@ -329,7 +348,7 @@ pub fn serve_store<
         + Databases
         + Files
         + Sync,
->(rt: &R, serving: Serving<'_>, path: &str, keys: RandomState) -> u8
+>(rt: &R, serving: Serving<'_>, path: &str, keys: RandomState, analyst: &A) -> u8
     requires { IsWithinLimits serving }
 {
     let token = match read_token(rt, serving.token_file) {
@@ -348,7 +367,15 @@ pub fn serve_store<
         served,
         store,
         is_lost,
-    } = serve_kept(rt, &entrances, opened, serving, bytes_of(&token), path);
+    } = serve_kept(
+        rt,
+        &entrances,
+        opened,
+        serving,
+        bytes_of(&token),
+        path,
+        analyst,
+    );
     let taken = served.map(|end| end.taken);
     match ended(rt, serving.addresses.first(), path, &taken) {
         0 if is_lost => {

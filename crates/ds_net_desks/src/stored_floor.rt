@@ -6,6 +6,7 @@ use crate::seat_pool::SeatPool;
 use crate::shared_desk::SharedDesk;
 use crate::shared_settle::{REST, Round, STEPS_MOST, shared_round};
 use crate::stored_desk::StoredDesk;
+use ds_analyst::question::Analyst;
 use ds_formula::cells::Shape;
 use ds_http::page::PAGE;
 use ds_http::site::Site;
@@ -25,28 +26,31 @@ use std::sync::{Mutex, Wait};
 use std::thread;
 use std::time::{Clock, Duration};
 
-/// A shared sheet, with the pool of its seats, what is known of its references, and what its sessions share with the keeper of
-/// its store.
+/// A shared sheet, with the pool of its seats, what is known of its references, what its sessions share with the keeper of its
+/// store, and who answers questions about scripts.
 #[derive(Drop)]
-pub struct StoredFloor<'a> {
+pub struct StoredFloor<'a, A: Analyst> {
     shape: Shape,
     pool: &'a SeatPool,
     open: usize,
     token: Option<&'a [u8]>,
     references: &'a KnownReferences,
     keeping: &'a Keeping,
+    analyst: &'a A,
 }
 
-impl<'a> StoredFloor<'a> {
+impl<'a, A: Analyst> StoredFloor<'a, A> {
     /// A sheet with these references and this pool of seats, of which the last ones, this number of them, are for workers. A
-    /// join has to have this token, if there is one. The keeper hears of each edit that is done.
+    /// join has to have this token, if there is one. The keeper hears of each edit that is done. The analyst
+    /// answers questions about scripts.
     pub fn new(
         references: &'a KnownReferences,
         pool: &'a SeatPool,
         workers: usize,
         token: Option<&'a [u8]>,
         keeping: &'a Keeping,
-    ) -> StoredFloor<'a> {
+        analyst: &'a A,
+    ) -> StoredFloor<'a, A> {
         StoredFloor {
             shape: references.shape(),
             pool,
@@ -54,6 +58,7 @@ impl<'a> StoredFloor<'a> {
             token,
             references,
             keeping,
+            analyst,
         }
     }
 }
@@ -93,7 +98,7 @@ fn go_round<R: Wait + Clock>(
     }
 }
 
-impl<'a> StoredFloor<'a> {
+impl<'a, A: Analyst> StoredFloor<'a, A> {
     // A desk for one session over the sheet.
     fn desk<'b, R: Wait + Clock>(
         &'b self,
@@ -115,7 +120,7 @@ impl<'a> StoredFloor<'a> {
     }
 }
 
-impl<'a> Floor for StoredFloor<'a> {
+impl<'a, A: Analyst> Floor for StoredFloor<'a, A> {
     fn processes(&self) -> usize {
         self.pool.len()
     }
@@ -148,7 +153,7 @@ impl<'a> Floor for StoredFloor<'a> {
     ) -> io::Result<()> {
         let desk = self.desk(rt, alloc, visit);
         let counts = DoorCounts { door: visit.door() };
-        let mut site = Site::new(alloc, address, PAGE, desk, counts);
+        let mut site = Site::new(alloc, address, PAGE, desk, counts, self.analyst);
         serve(connection, &mut site, reader, writer)
     }
 

@@ -1,5 +1,6 @@
 //! A server with its clients.
 
+use ds_analyst::question::{Analysis, Analyst, Question};
 use ds_layout::layout::Layout;
 use ds_net::keeper::Attendant;
 use ds_net::stored;
@@ -9,7 +10,7 @@ use ds_net_floor::door::Door;
 use ds_store::store::{Opened, Store};
 use log::Log;
 use sqlite::{Connection, MemStore};
-use std::alloc::Global;
+use std::alloc::{AllocError, Global};
 use std::io::{self, Read, Write};
 use std::net::{Net, Shutdown, SocketAddr, TcpListener, TcpStream};
 use std::sync::Wait;
@@ -182,6 +183,23 @@ fn talk_all<R: Net<Stream = TcpStream>>(
     Ok(answers)
 }
 
+// Nothing is found about scripts.
+#[derive(Debug)]
+struct Silent;
+
+impl Analyst for Silent {
+    ghost finds = { λ analyst question script analysis. Unit {0} };
+
+    fn analyze(
+        &self,
+        alloc: Global,
+        _question: Question,
+        _script: &[u8],
+    ) -> Result<Analysis, AllocError> {
+        Ok(Analysis::Unfit(Vec::new(alloc)))
+    }
+}
+
 // Nothing is looked after beside the store.
 #[derive(Drop)]
 struct Nothing;
@@ -227,6 +245,7 @@ pub fn serve_clients<
                 &door,
                 service,
                 None,
+                &Silent,
                 &mut Nothing,
             )
         },
