@@ -219,6 +219,30 @@ def notes(program, page):
         row(f"what is said of {text}", page.get(f"noteOf({json.dumps(text)}, {json.dumps(kind)}, {offset})"), wanted)
 
 
+def drawer(program, page):
+    """What becomes of a script, as the program says; and its pictures."""
+    script = "begin 0 set A1 1\nbegin 1 set A1 2\n"
+    ran = subprocess.run([program, "explore", "--crashes", "--json"], input=script, capture_output=True, text=True, timeout=SECONDS, check=True)
+    figures, *outcomes = map(json.loads, ran.stdout.splitlines())
+    endings = len({outcome["report"] for outcome in outcomes})
+    page.get("document.getElementById('drawer').open = true")
+    page.get("document.querySelector('#ask-script button').click()")
+    wanted = f"{figures['found']['states']} states, {figures['found']['orders']} orders: nothing wrong, {endings} endings."
+    found = "document.getElementById('found').textContent"
+    row("what all orders come to", page.wait(found, wanted), wanted)
+    row("a row for each ending", page.get("document.querySelectorAll('#endings td button').length"), endings)
+    drawn = "document.querySelector('#picture img')?.naturalWidth > 100"
+    page.get("document.querySelector('#endings td button').click()")
+    row("the run of an ending is drawn", page.wait(drawn, True), True)
+    page.get("document.getElementById('draw').click()")
+    page.wait("document.querySelector('#picture img') === null", True)
+    row("the run of the script is drawn", page.wait(drawn, True), True)
+    page.get("document.getElementById('script').value = 'set 0 A1 1\\nfoo'")
+    page.get("document.querySelector('#ask-script button').click()")
+    row("a line that is no command", page.wait(found, "line 2: bad command"), "line 2: bad command")
+    row("nothing of it is in the sheet", page.get(page.cell("A1")), "7")
+
+
 def kill(server, first, second):
     """The server is killed and started again: what was acknowledged counts."""
     server.kill()
@@ -272,6 +296,7 @@ def play(path, program):
             first, second = browser.open(address), browser.open(address)
             edits(first, second)
             notes(program, first)
+            drawer(program, first)
             kill(server, first, second)
             doubt(server, first)
             kills(server, first, KILLS)
