@@ -221,11 +221,12 @@ def notes(program, page):
 
 def drawer(program, page):
     """What becomes of a script, as the program says; and its pictures."""
-    script = "begin 0 set A1 1\nbegin 1 set A1 2\n"
+    script = "sheet 1 1 2\nset 1 A1 3\nbegin 0 set A1 1\n"
     ran = subprocess.run([program, "explore", "--crashes", "--json"], input=script, capture_output=True, text=True, timeout=SECONDS, check=True)
     figures, *outcomes = map(json.loads, ran.stdout.splitlines())
     endings = len({outcome["report"] for outcome in outcomes})
     page.get("document.getElementById('drawer').open = true")
+    page.get(f"document.getElementById('script').value = {json.dumps(script)}")
     page.get("document.querySelector('#ask-script button').click()")
     wanted = f"{figures['found']['states']} states, {figures['found']['orders']} orders: nothing wrong, {endings} endings."
     found = "document.getElementById('found').textContent"
@@ -239,7 +240,7 @@ def drawer(program, page):
     row("the run of the script is drawn", page.wait(drawn, True), True)
     page.get("document.getElementById('script').value = 'set 0 A1 1\\nfoo'")
     page.get("document.querySelector('#ask-script button').click()")
-    row("a line that is no command", page.wait(found, "line 2: bad command"), "line 2: bad command")
+    row("a line that is no command", page.wait(found, "line 2: unknown command"), "line 2: unknown command")
     row("nothing of it is in the sheet", page.get(page.cell("A1")), "7")
 
 

@@ -388,23 +388,24 @@ def said(program, script, *words):
     return subprocess.run([program, *words], input=script, capture_output=True, text=True, timeout=60, check=False).stdout
 
 
-def questions(program, server):
+def questions(program, server, quick):
     """Questions about scripts are answered as the program answers them, and touch no sheet."""
     before, client = Client(server).sheet(), Client(server)
-    two = "begin 0 set A1 1\nbegin 1 set A1 2\n"
-    for script in (two, "", "sheet 2 2 2\nbegin 0 set A1 1\nbegin 1 work A1\n"):
+    one, two = "sheet 1 1 2\nset 1 A1 3\nbegin 0 set A1 1\n", "begin 0 set A1 1\nbegin 1 set A1 2\n"
+    for script in (one, "") if quick else (one, "", two):
         wanted = said(program, script, "explore", "--crashes", "--json")
         row(f"all orders of {script!r}", client.ask("POST", "/explore", script)[::2], (200, wanted))
     status, fields, body = client.ask("POST", "/trace", two)
     row("the picture of a run", (status, fields["content-type"], body), (200, "image/svg+xml", said(program, two, "trace", "--brief")))
     unfit = "422 text/plain; charset=utf-8 "
-    for path, script, why in [("/explore", "begin 0 set A1 1\nfoo\n", "line 2: bad command"), ("/trace", "set 0 A1 1\nfoo\n", "line 2: bad command"),
+    for path, script, why in [("/explore", "begin 0 set A1 1\nfoo\n", "line 2: unknown command"), ("/trace", "set 0 A1 1\nfoo\n", "line 2: unknown command"),
                               ("/trace", "set 0 A1 1\n" * 60, "run too long: more than 1000 events"), ("/explore", "# " + "x" * 600, "line 1: line too long")]:
         status, fields, body = client.ask("POST", path, script)
         row(f"{path}: {why}", f"{status} {fields['content-type']} {body}", unfit + why)
-    many = "".join(f"begin {process} set A1 {process}\n" for process in range(6))
-    figures = json.loads(client.ask("POST", "/explore", many)[2].split("\n")[0])
-    row("no more states are gone through than a server goes through", (figures["cut"], figures["found"]["states"] >= 20000), (True, True))
+    if not quick:
+        many = "sheet 2 2 6\n" + "".join(f"begin {process} set A1 {process}\n" for process in range(6))
+        figures = json.loads(client.ask("POST", "/explore", many)[2].split("\n")[0])
+        row("no more states are gone through than a server goes through", (figures["cut"], figures["found"]["states"] >= 20000), (True, True))
     row("nothing of it is in the sheet", Client(server).sheet(), before)
 
 
@@ -622,7 +623,7 @@ def play(program, quick):
     metrics(server)
     events(server)
     description(server)
-    questions(program, server)
+    questions(program, server, quick)
     limits(server)
     origins(server)
     sockets(server)
