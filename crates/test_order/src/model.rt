@@ -24,6 +24,9 @@ pub struct Model {
     // Which cells refer to a cell, as many words a cell as hold a bit for each.
     rows: Vec<u64>,
     marked: Vec<bool>,
+    // What a cell's own text adds to its value: how many edits there were before.
+    own: Vec<u64>,
+    edits: u64,
     entries: Vec<Entry>,
     pub works: usize,
     pub looks: usize,
@@ -43,6 +46,8 @@ impl Model {
         rows.resize(cells.wrapping_mul(cells.div_ceil(64)), 0)?;
         let mut marked = Vec::new(alloc);
         marked.resize(cells, false)?;
+        let mut own = Vec::new(alloc);
+        own.resize(cells, 0)?;
         let mut entries = Vec::new(alloc);
         entries.resize(
             cells,
@@ -56,6 +61,8 @@ impl Model {
             cells,
             rows,
             marked,
+            own,
+            edits: 0,
             entries,
             works: 0,
             looks: 0,
@@ -91,6 +98,10 @@ impl Model {
             return;
         }
         self.known.note(alloc, shape.cell(cell), text.as_bytes());
+        self.edits = self.edits.wrapping_add(1);
+        if let Some(own) = self.own.get_mut(cell) {
+            *own = self.edits;
+        }
         for at in 0..self.cells.div_ceil(64) {
             let inputs = self.known.word(cell, at);
             self.add_to_rows(cell, inputs, at);
@@ -117,7 +128,7 @@ impl Model {
     // What the entry of a cell is to be, by the entries of its inputs.
     fn local(&self, cell: usize) -> Entry {
         let mut entry = Entry {
-            value: cell as u64,
+            value: self.own.get(cell).copied().unwrap_or(0),
             height: 0,
         };
         for at in 0..self.cells.div_ceil(64) {
@@ -181,6 +192,39 @@ impl Model {
             sweep.note(outcome);
         }
         false
+    }
+
+    // A round in the order of the course. Whether there was work.
+    fn round(&mut self, course: &Course) -> bool {
+        let before = self.works;
+        for place in 0..self.cells {
+            self.work(course.cell(place, self.cells));
+        }
+        self.works != before
+    }
+
+    // A sweep, and then rounds until one has no work. Whether it has ended.
+    pub fn settle(&mut self, course: &Course) -> bool {
+        if !self.sweep(course, 0) {
+            return false;
+        }
+        for _ in 0..self.cells {
+            if !self.round(course) {
+                return true;
+            }
+        }
+        false
+    }
+
+    // How many references are known.
+    pub fn references(&self) -> usize {
+        let width = self.cells.div_ceil(64);
+        let mut count = 0usize;
+        for place in 0..self.cells.wrapping_mul(width) {
+            let word = self.known.word(place / width.max(1), place % width.max(1));
+            count = count.wrapping_add(word.count_ones() as usize);
+        }
+        count
     }
 
     // How many cells are marked, or have an entry that is not what it is to be.

@@ -71,21 +71,22 @@ fn circle_text(
     format!(in alloc; "={}", input.as_str())
 }
 
-// The greatest of those that follow in its row and in the rows below.
+// The greatest of those that follow, in its row and in the rows below.
 fn after_text(alloc: Global, cell: usize, rows: usize) -> Result<String, AllocError> {
     let row = (cell / 16).wrapping_add(1);
-    let rest = if cell % 16 < 15 {
-        let next = char::from(b'B'.wrapping_add((cell % 16) as u8));
-        format!(in alloc; "[.{}{}:.P{}];", next, row, row)?
-    } else {
-        format!(in alloc; "")?
-    };
-    format!(in alloc;
-        "=MAX({}[.A{}:.P{}])",
-        rest.as_str(),
-        row.wrapping_add(1),
-        rows.wrapping_add(1)
-    )
+    let next = char::from(b'B'.wrapping_add((cell % 16) as u8));
+    let below = row.wrapping_add(1);
+    match (cell % 16 < 15, row < rows) {
+        (true, true) => {
+            format!(in alloc;
+                "=MAX([.{}{}:.P{}];[.A{}:.P{}])",
+                next, row, row, below, rows
+            )
+        }
+        (true, false) => format!(in alloc; "=MAX([.{}{}:.P{}])", next, row, row),
+        (false, true) => format!(in alloc; "=MAX([.A{}:.P{}])", below, rows),
+        (false, false) => format!(in alloc; "1"),
+    }
 }
 
 // The sum of these, of which one is left out where it is the cell itself or one before it.
@@ -144,11 +145,10 @@ impl Sheet {
             }
             Sheet::SumsAbove if row == 0 => format!(in alloc; "1"),
             Sheet::SumsAbove => format!(in alloc; "=SUM([.A1:.P{}])", row),
-            Sheet::SumsBelow => format!(in alloc;
-                "=SUM([.A{}:.P{}])",
-                row.wrapping_add(2),
-                shape.rows.wrapping_add(1)
-            ),
+            Sheet::SumsBelow if row.wrapping_add(1) >= shape.rows => format!(in alloc; "1"),
+            Sheet::SumsBelow => {
+                format!(in alloc; "=SUM([.A{}:.P{}])", row.wrapping_add(2), shape.rows)
+            }
             Sheet::AllAfter => after_text(alloc, place, shape.rows),
             Sheet::Drawn => drawn_text(alloc, place, cells),
             Sheet::Circles(size) => circle_text(alloc, place, size, cells, false),

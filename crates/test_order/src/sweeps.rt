@@ -53,6 +53,8 @@ fn without_circles(rt: HostRuntime) -> Result<(), Fail> {
         Sheet::Drawn,
     ] {
         let model = swept(rt.alloc(), sheet, 16)?;
+        let count = model.references();
+        println!(rt; "{sheet:?} {count}")?;
         assert_eq!(rt; model.works, 256, "one work a cell");
     }
     Ok(())
@@ -130,14 +132,14 @@ fn after_edit(
     text: &str,
 ) -> Result<usize, Fail> {
     let mut model = swept(alloc, sheet, rows)?;
-    let before = model.works;
     model.set(alloc, cell, text);
     let mut course = Course::new(alloc);
     course.renew(alloc, &model.known);
-    if !model.sweep(&course, 0) || model.wrong() > 0 {
-        return Err(Fail::from("a cell is not right after an edit and a sweep"));
+    model.works = 0;
+    if !model.settle(&course) || model.wrong() > 0 {
+        return Err(Fail::from("a cell is not right after an edit and a settle"));
     }
-    Ok(model.works.wrapping_sub(before))
+    Ok(model.works)
 }
 
 #[test]
@@ -155,11 +157,14 @@ fn edits(rt: HostRuntime) -> Result<(), Fail> {
         (Sheet::SumsBelow, 16, 128, "=[.A1]"),
         (Sheet::AllAfter, 16, 255, "=[.A1]"),
         (Sheet::AllAfter, 16, 128, "=[.D3]"),
+        (Sheet::AllAfter, 64, 1023, "=[.H31]"),
+        (Sheet::Drawn, 64, 1023, "=[.H31]"),
+        (Sheet::Drawn, 64, 900, "=[.A1]+[.A2]+[.C3]+[.D5]"),
         (Sheet::Circles(256), 16, 7, "1"),
         (Sheet::DrawnWithCircles, 32, 0, "1"),
     ] {
         let works = after_edit(rt.alloc(), sheet, rows, cell, text)?;
-        println!(rt; "{works}")?;
+        println!(rt; "{sheet:?} {cell} {works}")?;
     }
     Ok(())
 }
