@@ -1,6 +1,6 @@
 //! The settle of a sheet that threads share.
 
-ghost use Rattle.std.specs.Prelude.{IfErr};
+ghost use Rattle.std.specs.Prelude.{◌≡◌, IfErr};
 ghost use Rattle.std.specs.Result.{IsOkAnd};
 ghost use Rattle.ds_net_desks.specs.SharedDesks.{BreaksOff, FitsCause, HasWorked, sheet_of};
 ghost use Rattle.ds_shared_seats.specs.Sheets.{IsSeatOf};
@@ -91,6 +91,21 @@ pub fn shared_round(
     Ok(round)
 }
 
+// A sweep for a session, or a short one for a worker.
+fn sweep_of<'a>(
+    course: &'a Course,
+    cells: usize,
+    from: usize,
+    visit: Option<&Visit<'_>>,
+) -> Sweep<'a>
+    ensures { result.cells ≡ cells }
+{
+    match visit {
+        Some(_) => Sweep::new(course, cells, from),
+        None => Sweep::short(course, cells, from),
+    }
+}
+
 /// One sweep over the cells, round from this place of the order, with work on each that it says, until the session of the
 /// visit, if it is one's, is over; without one it ends after four works a cell. An error is why a work was refused or stopped,
 /// or that an allocation failed in one.
@@ -106,10 +121,7 @@ pub fn shared_sweep(
 {
     let shape = seat.layout().shape;
     let mut round = Round::Clean;
-    let mut sweep = match visit {
-        Some(_) => Sweep::new(course, shape.count(), from),
-        None => Sweep::short(course, shape.count(), from),
-    };
+    let mut sweep = sweep_of(course, shape.count(), from, visit);
     while let Some(index) = sweep.cell() {
         if is_over(visit) {
             break;

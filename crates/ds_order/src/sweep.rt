@@ -1,4 +1,11 @@
 //! A sweep over the cells of a sheet, work by work.
+//!
+//! A cell without circles takes one work, since its inputs come before it. The cells of a component with a circle are circular
+//! once their height is N, the number of cells of the sheet. A work makes a cell one higher at least than each cell that it
+//! refers to. So on a closed way, where each cell refers to the one before, each work makes a height that is one more, whatever
+//! the heights of the other cells: after N works at most a cell is circular. Then one work makes each other cell circular, and a
+//! last one finds that nothing changes: N + 2k works in all, where there are k cells. A component that refers to a circular cell
+//! begins with the cells that do, and takes 2k.
 
 ghost use Rattle.std.specs.Prelude.{◌≡◌, ◌<◌, ◌≤◌, ◌+◌, ◌-◌, ◌*◌, IfSome, OnSome};
 
@@ -23,7 +30,7 @@ pub enum Outcome {
 
 /// A sweep over the cells of a sheet: says which cell is the next to be worked on, and hears what each work has found. It goes
 /// over each cell once, inputs first; in a component with a circle it goes round a closed way until a cell is circular, and
-/// then over all cells, until a pass changes none. It is a guess, which ends after so many works.
+/// then over all cells, until a pass changes none. It is a guess, and ends after a number of works that is known.
 #[derive(Drop)]
 pub struct Sweep<'a> {
     course: &'a Course,

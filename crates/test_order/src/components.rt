@@ -60,14 +60,18 @@ impl Found {
         }
     }
 
-    // Whether the cell is in a circle, and no cell of it with a smaller number.
+    // Whether the cell is in a circle, no cell of which has a smaller number, and which reads no other circle.
     fn is_first(&self, cell: usize) -> bool {
         self.reaches(cell, cell)
-            && (0..cell).all(|other| !self.reaches(cell, other) || !self.reaches(other, cell))
+            && (0..self.cells).all(|other| {
+                !self.reaches(cell, other)
+                    || !self.reaches(other, other)
+                    || (other >= cell && self.reaches(other, cell))
+            })
     }
 
     // How many works a sweep may do: one for each cell, two for each in a circle, and as many as there are cells for each
-    // component with a circle.
+    // component with a circle that reads no other circle.
     pub fn most(&self) -> usize {
         let mut most = self.cells;
         for cell in 0..self.cells {

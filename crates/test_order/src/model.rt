@@ -196,9 +196,9 @@ impl Model {
 
     // A round in the order of the course. Whether there was work.
     fn round(&mut self, course: &Course) -> bool {
-        let before = self.works;
-        for place in 0..self.cells {
-            self.work(course.cell(place, self.cells));
+        let (before, cells) = (self.works, self.cells);
+        for place in 0..cells {
+            self.work(course.cell(place, cells));
         }
         self.works != before
     }

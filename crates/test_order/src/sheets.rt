@@ -19,7 +19,7 @@ pub enum Sheet {
     AllAfter,
     // Each to three of those that follow, drawn.
     Drawn,
-    // Circles of so many cells in a shuffled order.
+    // Circles of as many cells as this, in a shuffled order.
     Circles(usize),
     // The same, each of which refers to the one before it.
     CirclesInARow(usize),
@@ -48,8 +48,8 @@ fn one(alloc: Global, cell: usize) -> Result<String, AllocError> {
     format!(in alloc; "[.{}{}]", column, (cell / 16).wrapping_add(1))
 }
 
-// The cell at a place of a circle of so many cells, and what it refers to: the one before it, round, and of the first cell of
-// a circle in a row the last one of the circle before it.
+// The text of the cell at a place of circles of this size: it refers to the one before it, round; the first cell of a circle in
+// a row refers to the last one of the circle before it, too.
 fn circle_text(
     alloc: Global,
     place: usize,

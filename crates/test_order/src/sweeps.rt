@@ -2,14 +2,14 @@
 
 use crate::components::Found;
 use crate::model::Model;
-use crate::sheets::Sheet;
+use crate::sheets::{Sheet, drawn};
 use ds_formula::cells::Shape;
 use ds_order::course::Course;
 use ds_order::sweep::{Outcome, Sweep};
 use std::alloc::Global;
 use std::test::Fail;
 
-// A sheet of so many rows of 16 cells, no cell of which was worked on.
+// A sheet of rows of 16 cells, each cell of which is marked.
 fn marked(alloc: Global, sheet: Sheet, rows: usize) -> Result<Model, Fail> {
     let shape = Shape::new(16, rows).ok_or("no shape")?;
     let mut model = Model::new(alloc, shape)?;
@@ -53,8 +53,7 @@ fn without_circles(rt: HostRuntime) -> Result<(), Fail> {
         Sheet::Drawn,
     ] {
         let model = swept(rt.alloc(), sheet, 16)?;
-        let count = model.references();
-        println!(rt; "{sheet:?} {count}")?;
+        assert!(rt; model.references() > 700, "its texts are noted");
         assert_eq!(rt; model.works, 256, "one work a cell");
     }
     Ok(())
@@ -90,7 +89,10 @@ fn looked(alloc: Global, sheet: Sheet, from: usize) -> Result<(usize, usize), Fa
     seen.resize(64, false)?;
     let mut sweep = Sweep::new(&course, 64, from);
     let mut looks = 0usize;
-    while let Some(cell) = sweep.cell() {
+    for _ in 0..1000 {
+        let Some(cell) = sweep.cell() else {
+            break;
+        };
         if let Some(seen) = seen.get_mut(cell) {
             *seen = true;
         }
@@ -143,28 +145,72 @@ fn after_edit(
 }
 
 #[test]
-fn edits(rt: HostRuntime) -> Result<(), Fail> {
-    for (sheet, rows, cell, text) in [
-        (Sheet::Chain, 64, 0, "2"),
-        (Sheet::ChainAgainst, 64, 1023, "2"),
-        (Sheet::Chain, 64, 0, "=[.P64]"),
-        (Sheet::Chain, 64, 0, "=[.P32]"),
-        (Sheet::Chain, 64, 0, "=[.C1]"),
-        (Sheet::Drawn, 16, 255, "=[.A1]"),
-        (Sheet::Drawn, 16, 200, "=[.D3]"),
-        (Sheet::Drawn, 16, 128, "=[.D3]"),
-        (Sheet::SumsBelow, 16, 255, "=[.A1]"),
-        (Sheet::SumsBelow, 16, 128, "=[.A1]"),
-        (Sheet::AllAfter, 16, 255, "=[.A1]"),
-        (Sheet::AllAfter, 16, 128, "=[.D3]"),
-        (Sheet::AllAfter, 64, 1023, "=[.H31]"),
-        (Sheet::Drawn, 64, 1023, "=[.H31]"),
-        (Sheet::Drawn, 64, 900, "=[.A1]+[.A2]+[.C3]+[.D5]"),
-        (Sheet::Circles(256), 16, 7, "1"),
-        (Sheet::DrawnWithCircles, 32, 0, "1"),
+fn one_edit(rt: HostRuntime) -> Result<(), Fail> {
+    for (sheet, rows, cell, text, most) in [
+        (Sheet::Chain, 64, 0, "2", 1024),
+        (Sheet::ChainAgainst, 64, 1023, "2", 1024),
+        (Sheet::Drawn, 16, 128, "=[.A17]", 2),
+        // These close circles.
+        (Sheet::Chain, 64, 0, "=[.P64]", 2048),
+        (Sheet::Chain, 64, 0, "=[.P32]", 2048),
+        (Sheet::Chain, 64, 0, "=[.C1]", 2048),
+        (Sheet::SumsBelow, 16, 255, "=[.A1]", 512),
+        (Sheet::AllAfter, 16, 128, "=[.D3]", 512),
+        (Sheet::Drawn, 64, 1023, "=[.H31]", 2048),
+        // This breaks one.
+        (Sheet::Circles(256), 16, 7, "1", 257),
     ] {
         let works = after_edit(rt.alloc(), sheet, rows, cell, text)?;
-        println!(rt; "{sheet:?} {cell} {works}")?;
+        assert!(rt;
+            works <= most,
+            "one work a cell, N in a new circle, and another work a cell"
+        );
+    }
+    Ok(())
+}
+
+// The works after as many drawn edits of a sheet that was clean.
+fn after_edits(
+    alloc: Global,
+    sheet: Sheet,
+    rows: usize,
+    edits: usize,
+    draw: usize,
+) -> Result<usize, Fail> {
+    let mut model = swept(alloc, sheet, rows)?;
+    let shape = Shape::new(16, rows).ok_or("no shape")?;
+    let cells = shape.count();
+    for edit in 0..edits {
+        let cell = drawn(edit, draw, cells);
+        let text = Sheet::DrawnWithCircles.text(
+            alloc,
+            drawn(edit, draw.wrapping_add(1), cells),
+            shape,
+        )?;
+        model.set(alloc, cell, text.as_str());
+    }
+    let mut course = Course::new(alloc);
+    course.renew(alloc, &model.known);
+    model.works = 0;
+    if !model.settle(&course) || model.wrong() > 0 {
+        return Err(Fail::from("a cell is not right after edits and a settle"));
+    }
+    Ok(model.works)
+}
+
+#[test]
+fn many_edits(rt: HostRuntime) -> Result<(), Fail> {
+    for (sheet, rows) in [
+        (Sheet::ChainShuffled, 16),
+        (Sheet::SumsBelow, 16),
+        (Sheet::Drawn, 16),
+    ] {
+        for draw in [20, 21] {
+            for edits in [3, 10, 100] {
+                let works = after_edits(rt.alloc(), sheet, rows, edits, draw)?;
+                assert!(rt; works <= 3 * 256, "three works a cell");
+            }
+        }
     }
     Ok(())
 }
