@@ -1,12 +1,13 @@
 //! The settle of a sheet that threads share.
 
-ghost use Rattle.std.specs.Prelude.{IfErr};
+ghost use Rattle.std.specs.Prelude.{◌≡◌, IfErr};
 ghost use Rattle.std.specs.Result.{IsOkAnd};
 ghost use Rattle.ds_net_desks.specs.SharedDesks.{BreaksOff, FitsCause, HasWorked, sheet_of};
 ghost use Rattle.ds_shared_seats.specs.Sheets.{IsSeatOf};
 
 use ds_net_floor::visit::Visit;
 use ds_order::course::Course;
+use ds_order::sweep::{Outcome, Sweep};
 use ds_server::desk::CallRefusal;
 use ds_shared::ended::Ended;
 use ds_shared_seats::fault::Fault;
@@ -23,7 +24,7 @@ pub const PATIENCE: usize = 250;
 
 pub const REST: u64 = 1;
 
-/// What a round over the cells has found.
+/// What a round or a sweep over the cells has found.
 #[derive(Clone, Copy, Debug, PartialEq, Eq)]
 pub enum Round {
     // No marked cell.
@@ -49,6 +50,16 @@ fn with_work(round: Round, worked: Result<Ended<WorkEnd>, Fault>) -> Result<Roun
         Ok(Ended::Answered(_)) => Ok(Round::Worked),
         Ok(Ended::Refused(why)) => Err(CallRefusal::from(why)),
         Ok(Ended::Stopped) => Err(CallRefusal::Stopped),
+    }
+}
+
+// What a sweep hears of this work.
+fn outcome_of(worked: &Result<Ended<WorkEnd>, Fault>) -> Outcome {
+    match worked {
+        Ok(Ended::Answered(WorkEnd::Published(true) | WorkEnd::Again)) => Outcome::Changed,
+        Ok(Ended::Answered(WorkEnd::Published(false) | WorkEnd::Worn)) => Outcome::Unchanged,
+        Ok(Ended::Answered(WorkEnd::Missed)) => Outcome::Held,
+        _ => Outcome::Clean,
     }
 }
 
@@ -80,9 +91,51 @@ pub fn shared_round(
     Ok(round)
 }
 
-/// Works on the cells, in at most N + 252 rounds in this order over the N cells, until a round finds none that is marked, or
-/// the session is over. After a round that found only marks that others hold it rests for a millisecond. An error is why a
-/// work was refused or stopped, or that an allocation failed in one.
+// A sweep for a session, or a short one for a worker.
+fn sweep_of<'a>(
+    course: &'a Course,
+    cells: usize,
+    from: usize,
+    visit: Option<&Visit<'_>>,
+) -> Sweep<'a>
+    ensures { result.cells ≡ cells }
+{
+    match visit {
+        Some(_) => Sweep::new(course, cells, from),
+        None => Sweep::short(course, cells, from),
+    }
+}
+
+/// One sweep over the cells, round from this place of the order, with work on each that it says, until the session of the
+/// visit, if it is one's, is over; without one it ends after four works a cell. An error is why a work was refused or stopped,
+/// or that an allocation failed in one.
+pub fn shared_sweep(
+    alloc: Global,
+    seat: &mut Seat,
+    course: &Course,
+    from: usize,
+    visit: Option<&Visit<'_>>,
+) -> Result<Round, CallRefusal>
+    ensures works { HasWorked (sheet_of seat.old) seat.old seat.new }
+    ensures err { IfErr result (BreaksOff (sheet_of seat.old) seat.old seat.new) }
+{
+    let shape = seat.layout().shape;
+    let mut round = Round::Clean;
+    let mut sweep = sweep_of(course, shape.count(), from, visit);
+    while let Some(index) = sweep.cell() {
+        if is_over(visit) {
+            break;
+        }
+        let worked = seat.work(alloc, shape.cell(index), STEPS_MOST);
+        sweep.note(outcome_of(&worked));
+        round = with_work(round, worked)?;
+    }
+    Ok(round)
+}
+
+/// Works on the cells: in a sweep, and then in at most N + 252 rounds in this order over the N cells, until one finds none that
+/// is marked, or the session is over. After one that found only marks that others hold it rests for a millisecond. An error is
+/// why a work was refused or stopped, or that an allocation failed in one.
 pub fn shared_settle<R: Wait + Clock>(
     rt: &R,
     alloc: Global,
@@ -94,12 +147,14 @@ pub fn shared_settle<R: Wait + Clock>(
     ensures err { IfErr result (BreaksOff (sheet_of seat.old) seat.old seat.new) }
 {
     let rounds = seat.layout().cells() + 2 + PATIENCE;
+    let mut found = shared_sweep(alloc, seat, course, 0, Some(visit))?;
     for _ in 0..rounds {
-        match shared_round(alloc, seat, course, Some(visit))? {
+        match found {
             Round::Clean => break,
             Round::Held => thread::sleep(rt, Duration::from_millis(REST)),
             Round::Worked => {}
         }
+        found = shared_round(alloc, seat, course, Some(visit))?;
     }
     Ok(())
 }

@@ -4,7 +4,7 @@ use crate::counts::DoorCounts;
 use crate::numbered_seat::NumberedSeat;
 use crate::seat_pool::SeatPool;
 use crate::shared_desk::SharedDesk;
-use crate::shared_settle::{REST, Round, STEPS_MOST, shared_round};
+use crate::shared_settle::{REST, Round, STEPS_MOST, shared_sweep};
 use crate::stored_desk::StoredDesk;
 use ds_analyst::question::Analyst;
 use ds_formula::cells::Shape;
@@ -63,9 +63,9 @@ impl<'a, A: Analyst> StoredFloor<'a, A> {
     }
 }
 
-// One round over the cells. Whether there was work.
-fn round(alloc: Global, seat: &mut Seat, course: &Course) -> bool {
-    match shared_round(alloc, seat, course, None) {
+// One sweep over the cells, round from this place. Whether there was work.
+fn round(alloc: Global, seat: &mut Seat, course: &Course, from: usize) -> bool {
+    match shared_sweep(alloc, seat, course, from, None) {
         Ok(round) => round == Round::Worked,
         Err(why) => {
             if why == CallRefusal::Stopped {
@@ -76,13 +76,15 @@ fn round(alloc: Global, seat: &mut Seat, course: &Course) -> bool {
     }
 }
 
-// Goes round the cells of the newest sheet until it is asked to stop, and rests where there was no work.
+// Goes round the cells of the newest sheet, from this place of their order, until it is asked to stop, and rests where there
+// was no work.
 fn go_round<R: Wait + Clock>(
     rt: &R,
     alloc: Global,
     pool: &SeatPool,
     numbered: &mut NumberedSeat,
     references: &KnownReferences,
+    from: usize,
     stop: &Mutex<bool>,
 ) {
     let mut course = Course::new(alloc);
@@ -92,13 +94,20 @@ fn go_round<R: Wait + Clock>(
         }
         pool.catch_up(rt, numbered);
         course.renew(alloc, references);
-        if !round(alloc, &mut numbered.seat, &course) {
+        if !round(alloc, &mut numbered.seat, &course, from) {
             thread::sleep(rt, Duration::from_millis(REST));
         }
     }
 }
 
 impl<'a, A: Analyst> StoredFloor<'a, A> {
+    // Where in the order the worker of this process begins: the workers are as far apart as may be, so that two rarely meet.
+    fn place_of(&self, process: usize) -> usize {
+        let workers = self.pool.len().saturating_sub(self.open).max(1);
+        let worker = process.saturating_sub(self.open);
+        self.shape.count().saturating_mul(worker) / workers
+    }
+
     // A desk for one session over the sheet.
     fn desk<'b, R: Wait + Clock>(
         &'b self,
@@ -161,7 +170,16 @@ impl<'a, A: Analyst> Floor for StoredFloor<'a, A> {
         let Ok(mut numbered) = self.pool.take(rt, process) else {
             return;
         };
-        go_round(rt, alloc, self.pool, &mut numbered, self.references, stop);
+        let from = self.place_of(process);
+        go_round(
+            rt,
+            alloc,
+            self.pool,
+            &mut numbered,
+            self.references,
+            from,
+            stop,
+        );
         self.pool.put_back(rt, numbered);
     }
 }

@@ -1,7 +1,14 @@
 //! The order of recalculation: each cell after those that it refers to.
 #![tactic(auto)]
 
+mod bits;
+mod components;
 pub mod course;
+mod dependents;
 pub mod known;
 pub mod order;
+mod plan;
+mod position;
+pub mod sweep;
+mod tours;
 mod walk;

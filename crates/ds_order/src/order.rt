@@ -3,7 +3,7 @@
 ghost use Rattle.std.specs.Prelude.{◌≡◌, ◌<◌, ℕ, IfOk, IsTrue, All, Contains, length};
 ghost use Rattle.ds_order.specs.Orders.{IsOrder};
 
-use crate::walk::walked;
+use crate::components::find_components;
 use std::alloc::{AllocError, Global};
 
 /// Which cells each cell refers to, as far as somebody knows. Cells have numbers, from 0.
@@ -50,7 +50,7 @@ fn are_below(list: &[usize]) -> bool
 }
 
 // Whether the list is an order of as many cells.
-fn is_order(alloc: Global, list: &[usize], cells: usize) -> Result<bool, AllocError>
+pub(crate) fn is_order(alloc: Global, list: &[usize], cells: usize) -> Result<bool, AllocError>
     ensures { IfOk result (λ is. IsTrue is → IsOrder cells list.now) }
 {
     let places = places(alloc, list)?;
@@ -58,7 +58,7 @@ fn is_order(alloc: Global, list: &[usize], cells: usize) -> Result<bool, AllocEr
 }
 
 // The cells by their numbers.
-fn ascending(alloc: Global, cells: usize) -> Result<Vec<usize>, AllocError>
+pub(crate) fn ascending(alloc: Global, cells: usize) -> Result<Vec<usize>, AllocError>
     ensures { IfOk result (λ order. IsOrder cells order.items) }
 {
     let mut order = Vec::with_capacity(alloc, cells)?;
@@ -79,9 +79,9 @@ pub fn order<R: References>(
 ) -> Result<Vec<usize>, AllocError>
     ensures { IfOk result (λ order. IsOrder cells order.items) }
 {
-    let walked = walked(alloc, references, cells)?;
-    if is_order(alloc, walked.as_slice(), cells)? {
-        Ok(walked)
+    let found = find_components(alloc, references, cells)?.cells;
+    if is_order(alloc, found.as_slice(), cells)? {
+        Ok(found)
     } else {
         ascending(alloc, cells)
     }

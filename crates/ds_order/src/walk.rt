@@ -1,4 +1,4 @@
-//! A walk along the references, depth first. What it finds is a guess, which the order checks.
+//! A walk along the references of cells, depth first. What it finds is a guess, which the order checks.
 
 use crate::order::References;
 use std::alloc::{AllocError, Global};
@@ -10,15 +10,23 @@ struct Station {
     at: usize,
 }
 
-// Where a walk over as many cells is: the cells that it has visited, a bit each; the way to where it is; the cells that it has
-// left, each after its inputs; and the cell with which it goes on where the way is at its end.
+// What a turn of a walk has done.
+#[derive(Clone, Copy)]
+pub(crate) enum Step {
+    // It has gone to a cell that was not visited.
+    Enters(usize),
+    // It has gone back from a cell whose inputs are all visited.
+    Leaves(usize),
+    // Nothing: it is back where it began.
+    Ends,
+}
+
+// Where a walk over as many cells is: the cells that it has visited, a bit each, and the way to where it is.
 #[derive(Drop)]
-struct Walk {
+pub(crate) struct Walk {
     cells: usize,
     visited: Vec<u64>,
     way: Vec<Station>,
-    left: Vec<usize>,
-    next: usize,
 }
 
 // The first input from this word on that is not visited, with its word.
@@ -38,7 +46,7 @@ fn input_of<R: References>(
 }
 
 impl Walk {
-    fn new(alloc: Global, cells: usize) -> Result<Walk, AllocError> {
+    pub(crate) fn new(alloc: Global, cells: usize) -> Result<Walk, AllocError> {
         let words = cells.div_ceil(64);
         let mut visited = Vec::with_capacity(alloc, words)?;
         visited.resize(words, 0)?;
@@ -46,8 +54,6 @@ impl Walk {
             cells,
             visited,
             way: Vec::with_capacity(alloc, cells)?,
-            left: Vec::with_capacity(alloc, cells)?,
-            next: 0,
         })
     }
 
@@ -59,51 +65,42 @@ impl Walk {
         }
     }
 
-    // Goes to a cell.
-    fn enter(&mut self, cell: usize) {
+    // Goes to a cell, unless it is visited.
+    pub(crate) fn visit(&mut self, cell: usize) -> Step {
+        if !self.is_open(cell) {
+            return Step::Ends;
+        }
         if let Some(word) = self.visited.get_mut(cell / 64) {
             *word |= 1 << (cell % 64);
         }
         let _has_room = self.way.push(Station { cell, at: 0 });
+        Step::Enters(cell)
     }
 
     // Goes on from where it is: to an input that is not visited, or back where there is none.
-    fn go_on<R: References>(&mut self, references: &R, from: Station) {
+    pub(crate) fn turn<R: References>(&mut self, references: &R) -> Step {
+        let Some(from) = self.way.pop() else {
+            return Step::Ends;
+        };
         match input_of(references, self.visited.as_slice(), from) {
             Some((input, at)) => {
                 let _has_room = self.way.push(Station { at, ..from });
-                self.enter(input);
+                self.visit(input)
             }
-            None => {
-                let _has_room = self.left.push(from.cell);
-            }
+            None => Step::Leaves(from.cell),
         }
     }
 
-    // One turn.
-    fn turn<R: References>(&mut self, references: &R) {
-        match self.way.pop() {
-            Some(from) => self.go_on(references, from),
-            None => {
-                let cell = self.next;
-                self.next = cell.saturating_add(1);
-                if self.is_open(cell) {
-                    self.enter(cell);
-                }
-            }
+    // How long the way is to where it is.
+    pub(crate) fn length(&self) -> usize {
+        self.way.len()
+    }
+
+    // The cell at this place of the way.
+    pub(crate) fn station(&self, place: usize) -> Option<usize> {
+        match self.way.get(place) {
+            Some(station) => Some(station.cell),
+            None => None,
         }
     }
-}
-
-/// The cells of a walk along all references, each when the walk leaves it: after its inputs, but in a circle.
-pub(crate) fn walked<R: References>(
-    alloc: Global,
-    references: &R,
-    cells: usize,
-) -> Result<Vec<usize>, AllocError> {
-    let mut walk = Walk::new(alloc, cells)?;
-    for _ in 0..cells.saturating_mul(3) {
-        walk.turn(references);
-    }
-    Ok(walk.left)
 }
