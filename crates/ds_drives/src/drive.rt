@@ -9,7 +9,7 @@ ghost use Rattle.ds_drives.specs.Machines.{IsServed, Breaks, Settles};
 use crate::board::{Board, TableSeat};
 use crate::fuse::Fuse;
 use crate::machine::Machine;
-use crate::steps::{Buffer, access, answer, flushed, keep, oldest};
+use crate::steps::{Buffer, access, answer, flushed, keep};
 use arrayvec::ArrayVec;
 use ds_state::turn::Turn;
 use std::alloc::Global;
@@ -59,7 +59,6 @@ pub(crate) fn drive<M: Machine, F: Fuse>(
             begun,
             &buffer,
             wanted,
-            oldest(&buffer),
         );
         begun = true;
         keep(&mut buffer, class, wanted, found);

@@ -5,6 +5,7 @@
 pub mod board;
 mod drive;
 pub mod edit;
+pub mod fetch;
 pub mod fuse;
 pub mod kept;
 mod machine;

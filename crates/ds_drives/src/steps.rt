@@ -20,7 +20,7 @@ pub(crate) type Buffer = ArrayVec<BufferEntry<usize>, BUFFER_ENTRIES>;
 
 /// The oldest entry.
 #[inline(always)]
-pub(crate) fn oldest(buffer: &Buffer) -> Option<BufferEntry<usize>>
+fn oldest(buffer: &Buffer) -> Option<BufferEntry<usize>>
     ensures { result ≡ oldest_of buffer.now.items }
 {
     if buffer.is_empty() {
@@ -41,8 +41,8 @@ pub(crate) fn flushed(access: Access<place::Place>) -> Class
     }
 }
 
-/// Makes the access on the table, and answers what its step reports. The call, the layout, the buffer and whether
-/// the call has begun show the proof whose step it is.
+/// Makes the access on the table, with the oldest entry of the buffer where it writes that back, and answers what its
+/// step reports. The call, the layout and whether the call has begun show the proof whose step it is.
 #[inline(always)]
 pub(crate) fn access<J: Landing, M>(
     shared: &Shared<u8, View, Key, Law>,
@@ -52,15 +52,14 @@ pub(crate) fn access<J: Landing, M>(
     begun: bool,
     buffer: &Buffer,
     want: Access<usize>,
-    oldest: Option<BufferEntry<usize>>,
 ) -> u64
     requires table { seat.old.table_id ≡ shared.now.table_id }
-    requires within { (word_of want oldest < shared.now.table_id.words) × (shared.now.table_id.words < 2 ^ 32) }
-    requires step { Allows (Ruled shared.now.key.layout (start_of shared.now.key)) shared.now.table_id.slots seat.old.id seat.old.me (word_of want oldest) (change want oldest) (λ n m'. (m'.1 ≡ seat.old.me.1) × J.lands (reported want oldest n) m'.0) }
+    requires within { (word_of want (oldest_of buffer.now.items) < shared.now.table_id.words) × (shared.now.table_id.words < 2 ^ 32) }
+    requires step { Allows (Ruled shared.now.key.layout (start_of shared.now.key)) shared.now.table_id.slots seat.old.id seat.old.me (word_of want (oldest_of buffer.now.items)) (change want (oldest_of buffer.now.items)) (λ n m'. (m'.1 ≡ seat.old.me.1) × J.lands (reported want (oldest_of buffer.now.items) n) m'.0) }
     ensures seat { (seat.new.table_id ≡ seat.old.table_id) × (seat.new.id ≡ seat.old.id) }
     ensures landed { (seat.new.me.1 ≡ seat.old.me.1) × J.lands result seat.new.me.0 }
 {
-    let (_layout, _call, _begun, _buffer) = (layout, call, begun, buffer);
+    let (_layout, _call, _begun) = (layout, call, begun);
     match want {
         Access::Nothing => shared.load::<Lands<J>>(seat, 0),
         Access::Load(word) => shared.load::<Lands<J>>(seat, 8 * word),
@@ -75,7 +74,7 @@ pub(crate) fn access<J: Landing, M>(
             value,
         } => { shared.compare_exchange::<Lands<J>>(seat, 8 * word, expected, value) }
         Access::Flush(word) => shared.load::<Lands<J>>(seat, 8 * word),
-        Access::Back => match oldest {
+        Access::Back => match oldest(buffer) {
             None => shared.load::<Lands<J>>(seat, 0),
             Some(entry) => {
                 let word = 8 * entry.place + 1;
@@ -116,11 +115,19 @@ pub(crate) fn keep(buffer: &mut Buffer, class: Class, want: Access<usize>, found
             class,
             value: found,
         }),
-        Access::Back => {
-            if !buffer.is_empty() {
-                let _entry = buffer.remove(0);
-            }
-        }
+        Access::Back => take_oldest(buffer),
         _ => {}
+    }
+}
+
+// The oldest entry leaves the buffer, if there is one. A buffer mostly has just that one: then no entry moves.
+#[inline(always)]
+fn take_oldest(buffer: &mut Buffer)
+    ensures { buffer.new.items ≡ rest_of buffer.old.items }
+{
+    if buffer.len() < 2 {
+        buffer.clear();
+    } else {
+        let _entry = buffer.remove(0);
     }
 }

@@ -53,6 +53,7 @@ impl SharedSheet {
         if pass.stopped {
             return Ended::Refused(Refusal::Stopped);
         }
+        self.board.fetch(pass.process, pass.number, text.len());
         let (mut call, content) = match prepared(
             alloc,
             &self.board.layout,

@@ -58,7 +58,7 @@ access-found-requires-clause-within g c =
     let is : c.numbered-wanted.result ≡ asked g.M.Machine.rules c.args.board.now.layout c.loop-end.call = c.numbered-wanted.ensures ∙ ap (access_at c.args.board.now.layout) c.want-asked.ensures in
     let began = c.args.board.now.began in
     let words = c.args.board.now.sized.0 in (
-      rw (is, c.oldest.ensures) (within c.args.board.now.layout _ (asked g.M.Machine.rules c.args.board.now.layout c.loop-end.call) c.loop-end.buffer.items (some_words c.args.board.now.layout)
+      rw is (within c.args.board.now.layout _ (asked g.M.Machine.rules c.args.board.now.layout c.loop-end.call) c.loop-end.buffer.items (some_words c.args.board.now.layout)
           (below c.args.board.now.layout _ c.loop-end.invariant.serves.0) c.loop-end.invariant.serves.1 words),
       (let v = ap (λ (s : Starts). s.words) began.is in let m = began.few in omega (arith, v, m, words)),
     )
@@ -68,7 +68,7 @@ access-found-requires-clause-step g c =
     let is : c.numbered-wanted.result ≡ asked g.M.Machine.rules c.args.board.now.layout c.loop-end.call = c.numbered-wanted.ensures ∙ ap (access_at c.args.board.now.layout) c.want-asked.ensures in
     let me : Me ℕ View = c.loop-end.seat.me in
     let p = c.law.ensures.poised c.args.call.now c.args.seat.now.me c.loop-end.invariant.held c.loop-end.begun me c.loop-end.call c.loop-end.buffer.items c.in-GoesOn.ensures c.loop-end.invariant.drives in
-    rw (is, c.oldest.ensures, c.args.board.now.sized.1) (c.law.ensures.steps _ _ _ (due g.M.Machine.rules c.args.board.now.layout c.loop-end.begun c.loop-end.call) me c.loop-end.call c.loop-end.buffer.items c.loop-end.invariant.fits c.in-GoesOn.ensures p)
+    rw (is, c.args.board.now.sized.1) (c.law.ensures.steps _ _ _ (due g.M.Machine.rules c.args.board.now.layout c.loop-end.begun c.loop-end.call) me c.loop-end.call c.loop-end.buffer.items c.loop-end.invariant.fits c.in-GoesOn.ensures p)
 
 pub keep-requires : goal.keep-requires
 keep-requires g c =
