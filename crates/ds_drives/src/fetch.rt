@@ -41,7 +41,7 @@ impl Board {
         }
     }
 
-    // Loads the words of a record that a text of so many parts takes beside the first one.
+    // Loads the words of a record that a text of this many parts takes beside the first one.
     fn fetch_parts(&self, process: usize, number: usize, parts: usize)
         requires process { process < self.now.layout.processes }
         requires number { number < RECORDS }
@@ -57,7 +57,7 @@ impl Board {
         }
     }
 
-    /// Loads the words of a process's record that an edit with a text of so many bytes is to store, where the record has
+    /// Loads the words of a process's record that an edit with a text of this many bytes is to store, where the record has
     /// room for them, and now and then some of the next records: they lie in the cache when the edit comes to them. Its
     /// stores wait for one another, these loads do not. They are no steps of the process, so no clause can say whether
     /// they were made.
