@@ -54,7 +54,8 @@ fn answer_question<A: Analyst>(
     ensures { OnOk result (AnswersQuestion (A.finds analyst.now question script.now) question response.new) }
 {
     let analysis = analyst.analyze(alloc, question, script)?;
-    say_analysis(response, question, analysis)
+    say_analysis(response, question, analysis)?;
+    Ok(())
 }
 
 /// What a question about a script comes to, where the request may act.
