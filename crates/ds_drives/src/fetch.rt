@@ -41,7 +41,7 @@ impl Board {
         }
     }
 
-    // Loads the words of a record that a text of this many parts takes beside the first one.
+    // Loads the words of a record that a text of these parts takes beside the first one.
     fn fetch_parts(&self, process: usize, number: usize, parts: usize)
         requires process { process < self.now.layout.processes }
         requires number { number < RECORDS }
@@ -57,10 +57,10 @@ impl Board {
         }
     }
 
-    /// Loads the words of a process's record that an edit with a text of this many bytes is to store, where the record has
-    /// room for them, and now and then some of the next records: they lie in the cache when the edit comes to them. Its
-    /// stores wait for one another, these loads do not. They are no steps of the process, so no clause can say whether
-    /// they were made.
+    /// Loads the words of a process's record that an edit with a text of these bytes is to store, where the record has room
+    /// for them, and at each eighth record the first words of the next ones: they lie in the cache when the edit comes to
+    /// them. Its stores wait for one another, these loads do not. They are no steps of the process, so no clause can say
+    /// whether they were made.
     #[inline(always)]
     pub fn fetch(&self, process: usize, number: usize, bytes: usize)
         requires { process < self.now.layout.processes }

@@ -245,6 +245,16 @@ impl<P: Structured> Board<P> {
         self.table.shared.split_seat::<Behead<P>>(rest)
     }
 
+    /// Loads a word, so that it lies in the cache when a call comes to it: the stores of a call wait for one another, such
+    /// loads do not. It is no step of a process, so no clause can say that it was made.
+    #[inline(always)]
+    pub fn fetch(&self, word: usize)
+        requires { word < P.structure.words self.now.key }
+    {
+        let _words = P::words(&self.key);
+        let _found = self.table.shared.peek(8 * word);
+    }
+
     /// A seat of no process, which remembers what another one knows. It can go to another thread, whose seat takes it in by
     /// `join` and `look`.
     pub fn note(

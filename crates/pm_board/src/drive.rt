@@ -6,7 +6,7 @@ ghost use Rattle.pm_board.specs.Machines.{Breaks, CanBegin, IsServed, Settles};
 
 use crate::board::{Board, TableSeat};
 use crate::fuse::Fuse;
-use crate::steps::{Buffer, access, answer, flushed, keep, oldest};
+use crate::steps::{Buffer, access, answer, flushed, keep};
 use arrayvec::ArrayVec;
 use pm_base::machine::{Machine, Structured};
 use std::marker::Brand;
@@ -51,7 +51,6 @@ pub fn drive<P: Structured, M: Machine<P>, F: Fuse>(
             begun,
             &buffer,
             wanted,
-            oldest(&buffer),
         );
         begun = true;
         keep(&mut buffer, class, wanted, found);

@@ -19,7 +19,7 @@ pub(crate) type Buffer = ArrayVec<BufferEntry<usize>, BUFFER_ENTRIES>;
 
 /// The oldest entry.
 #[inline(always)]
-pub(crate) fn oldest(buffer: &Buffer) -> Option<BufferEntry<usize>>
+fn oldest(buffer: &Buffer) -> Option<BufferEntry<usize>>
     ensures { result ≡ oldest_of buffer.now.items }
 {
     if buffer.is_empty() {
@@ -40,8 +40,8 @@ pub(crate) fn flushed(access: Access<usize>) -> usize
     }
 }
 
-/// Makes the access on the table, and answers what its step tells. The key, the call, whether it has begun and the buffer
-/// say to the proof whose step it is.
+/// Makes the access on the table, with the oldest entry of the buffer where it writes that back, and answers what its
+/// step reports. The key, the call and whether it has begun show the proof whose step it is.
 #[inline(always)]
 pub(crate) fn access<P: Structured, J: Landing<P::Doing, P::Response>, M>(
     shared: &Shared<u8, View<P::Doing, P::Response>, Fixed<P::Key, P::Doing, P::Response>, Law<P>>,
@@ -51,15 +51,14 @@ pub(crate) fn access<P: Structured, J: Landing<P::Doing, P::Response>, M>(
     begun: bool,
     buffer: &Buffer,
     want: Access<usize>,
-    oldest: Option<BufferEntry<usize>>,
 ) -> u64
     requires table { seat.old.table_id ≡ shared.now.table_id }
-    requires within { (word_of want oldest < shared.now.table_id.words) × (shared.now.table_id.words < 2 ^ 32) }
-    requires step { Allows (Ruled P.structure shared.now.key.own (start_of shared.now.key)) shared.now.table_id.slots seat.old.id seat.old.me (word_of want oldest) (change want oldest) (λ n m'. (m'.1 ≡ seat.old.me.1) × J.lands (reported want oldest n) m'.0) }
+    requires within { (word_of want (oldest_of buffer.now.items) < shared.now.table_id.words) × (shared.now.table_id.words < 2 ^ 32) }
+    requires step { Allows (Ruled P.structure shared.now.key.own (start_of shared.now.key)) shared.now.table_id.slots seat.old.id seat.old.me (word_of want (oldest_of buffer.now.items)) (change want (oldest_of buffer.now.items)) (λ n m'. (m'.1 ≡ seat.old.me.1) × J.lands (reported want (oldest_of buffer.now.items) n) m'.0) }
     ensures seat { (seat.new.table_id ≡ seat.old.table_id) × (seat.new.id ≡ seat.old.id) }
     ensures landed { (seat.new.me.1 ≡ seat.old.me.1) × J.lands result seat.new.me.0 }
 {
-    let (_key, _call, _begun, _buffer) = (key, call, begun, buffer);
+    let (_key, _call, _begun) = (key, call, begun);
     match want {
         Access::Nothing => shared.load::<Lands<J>>(seat, 0),
         Access::Load(word) => shared.load::<Lands<J>>(seat, 8 * word),
@@ -74,7 +73,7 @@ pub(crate) fn access<P: Structured, J: Landing<P::Doing, P::Response>, M>(
             value,
         } => { shared.compare_exchange::<Lands<J>>(seat, 8 * word, expected, value) }
         Access::Flush(word) => shared.load::<Lands<J>>(seat, 8 * word),
-        Access::Back => match oldest {
+        Access::Back => match oldest(buffer) {
             None => shared.load::<Lands<J>>(seat, 0),
             Some(entry) => {
                 let word = 8 * entry.place + 1;
@@ -115,11 +114,19 @@ pub(crate) fn keep(buffer: &mut Buffer, class: Class, want: Access<usize>, found
             class,
             value: found,
         }),
-        Access::Back => {
-            if !buffer.is_empty() {
-                let _entry = buffer.remove(0);
-            }
-        }
+        Access::Back => take_oldest(buffer),
         _ => {}
+    }
+}
+
+// The oldest entry leaves the buffer, if there is one. A buffer mostly has just that one: then no entry moves.
+#[inline(always)]
+fn take_oldest(buffer: &mut Buffer)
+    ensures { buffer.new.items ≡ rest_of buffer.old.items }
+{
+    if buffer.len() < 2 {
+        buffer.clear();
+    } else {
+        let _entry = buffer.remove(0);
     }
 }

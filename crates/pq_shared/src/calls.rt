@@ -3,7 +3,7 @@
 ghost use Rattle.std.specs.Prelude.{◌≡◌, ◌*◌, ◌<◌, ℕ, [], MatchOption};
 ghost use Rattle.pm_board.specs.Fuses.{Asked};
 ghost use Rattle.pm_board.specs.Views.{RunsOne, Sits};
-ghost use Rattle.pq.specs.Places.{Belongs};
+ghost use Rattle.pq.specs.Places.{Belongs, nodes};
 ghost use Rattle.pq.specs.declared.calls.Doing.TheVariants.{Idle};
 ghost use Rattle.pq_shared.specs.Endings.{BreaksDequeue, BreaksEnqueue, BreaksRecovery, IsDequeued, IsEnqueued, IsRecovered};
 
@@ -13,8 +13,12 @@ use pm_board::fuse::Fuse;
 use pq::calls::{Doing, Ended, Response};
 use pq::dequeue::Dequeue;
 use pq::enqueue::Enqueue;
+use pq::places::{self, OPERATIONS};
 use pq::queue::Queue;
 use pq::recover::Recover;
+
+/// For how many operations at once the nodes are fetched: as many loads wait for memory together.
+const FETCHED: u64 = 8;
 
 /// An operation that a process may begin.
 #[derive(Clone, Copy, Debug, PartialEq, Eq)]
@@ -36,6 +40,33 @@ pub struct Recovery {
     pub ended: Ended,
 }
 
+// Loads the words of a node.
+#[inline(always)]
+fn fetch_node(board: &Board<Queue>, node: u64)
+    requires { node < nodes board.now.key × (board.now.key < 16384) }
+{
+    board.fetch(places::next(node));
+    board.fetch(places::taker(node));
+    board.fetch(places::value(node));
+    board.fetch(places::linked(node));
+    board.fetch(places::result_of(node));
+}
+
+// Before each operation that begins a row of them, loads the nodes of that row: they lie in the cache when the operations
+// come to them.
+#[inline(always)]
+fn fetch(board: &Board<Queue>, process: usize, operation: u64)
+    requires low { (process < board.now.key) × (board.now.key < 16384) }
+    requires mine { Belongs process operation }
+{
+    if operation % FETCHED == 1 {
+        let last = places::operation(process, OPERATIONS - 1);
+        for node in operation..=last.min(operation + (FETCHED - 1)) {
+            fetch_node(board, node);
+        }
+    }
+}
+
 /// A process puts a value into the queue: how that ended, or None where the fuse broke it off; then it has not begun, or
 /// was answered nothing. Among n processes it takes
 /// at most 9 × (1,024 n + 1) + 15 steps. It ends as `Torn` only on words that are not those of a queue, which no run has.
@@ -55,6 +86,7 @@ pub fn enqueue<F: Fuse>(
     ensures runs { RunsOne place.new.me operation.process }
     ensures ends { MatchOption result ((n : ℕ) × Asked F.said fuse.old fuse.new n 1 × BreaksEnqueue place.old.me place.new.me board.now.key operation.process operation.number value n) (λ e. (n : ℕ) × Asked F.said fuse.old fuse.new n 0 × IsEnqueued place.old.me place.new.me board.now.key operation.process operation.number value e n) }
 {
+    fetch(board, operation.process, operation.number);
     let mut call = Enqueue::new(board.key, operation.process, operation.number, value);
     drive::<Queue, Enqueue, F>(board, place, &mut call, fuse)
 }
@@ -77,6 +109,7 @@ pub fn dequeue<F: Fuse>(
     ensures runs { RunsOne place.new.me operation.process }
     ensures ends { MatchOption result ((n : ℕ) × Asked F.said fuse.old fuse.new n 1 × BreaksDequeue place.old.me place.new.me board.now.key operation.process operation.number n) (λ e. (n : ℕ) × Asked F.said fuse.old fuse.new n 0 × IsDequeued place.old.me place.new.me board.now.key operation.process operation.number e n) }
 {
+    fetch(board, operation.process, operation.number);
     let mut call = Dequeue::new(board.key, operation.process, operation.number);
     drive::<Queue, Dequeue, F>(board, place, &mut call, fuse)
 }

@@ -39,7 +39,7 @@ pub access-found-requires-clause-within : goal.access-found-requires-clause-with
 access-found-requires-clause-within g c =
     let words = c.args.board.now.sized.0 in
     let few = c.args.board.now.some.1 in (
-      rw (c.want-wanted.ensures, c.oldest.ensures) (within (g.P.Structured.structure.words c.args.board.now.key) _ (g.M.Machine.calls.access c.args.board.now.key c.loop-end.call) c.loop-end.buffer.items c.args.board.now.some.0
+      rw c.want-wanted.ensures (within (g.P.Structured.structure.words c.args.board.now.key) _ (g.M.Machine.calls.access c.args.board.now.key c.loop-end.call) c.loop-end.buffer.items c.args.board.now.some.0
           (c.loop-end.invariant.serves c.loop-end.invariant.fits c.in-None.ensures) words),
       omega (arith, words, few),
     )
@@ -47,7 +47,7 @@ access-found-requires-clause-within g c =
 pub access-found-requires-clause-step : goal.access-found-requires-clause-step
 access-found-requires-clause-step g c =
     let p = poised g.P.Structured.structure g.M.Machine.calls c.args.board.now.key c.law.ensures c.law-2.ensures c.args.call.now c.args.seat.now.me c.loop-end.begun c.loop-end.seat.me c.loop-end.call c.loop-end.buffer.items c.loop-end.invariant.taken c.loop-end.invariant.drives in
-    rw (c.want-wanted.ensures, c.oldest.ensures, c.args.board.now.sized.1)
+    rw (c.want-wanted.ensures, c.args.board.now.sized.1)
     (poised_steps g.P.Structured.structure g.M.Machine.calls c.args.board.now.key c.law.ensures c.law-2.ensures _ _ _ c.loop-end.begun c.loop-end.seat.me c.loop-end.call c.loop-end.buffer.items c.loop-end.invariant.fits c.in-None.ensures p)
 
 pub keep-requires : goal.keep-requires
