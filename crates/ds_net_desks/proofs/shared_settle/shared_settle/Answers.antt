@@ -11,14 +11,14 @@ returns-in_err-found-clause-err g c =
 pub loop-init : goal.loop-init
 loop-init g c = record { worked = c.shared_sweep.ensures.works; sheet = same_sheet (sheet_of c.args.seat.now) c.args.seat.now c.shared_sweep.new.seat refl c.shared_sweep.ensures.works }
 
-pub returns-in_err-shared_round-clause-err : goal.returns-in_err-shared_round-clause-err
-returns-in_err-shared_round-clause-err g c =
-    let e = c.in_err-shared_round.field-0.0 in
-    let breaks_off = breaks_after (sheet_of c.args.seat.now) c.args.seat.now c.loop.seat c.shared_round.new.seat e c.loop.invariant.worked c.loop.invariant.sheet c.in_err-shared_round.ensures.err in
-    broke (sheet_of c.args.seat.now) c.args.seat.now c.shared_round.new.seat c.from_residual.result e c.from_residual.ensures.1 breaks_off
+pub returns-in_err-found-2-clause-err : goal.returns-in_err-found-2-clause-err
+returns-in_err-found-2-clause-err g c =
+    let e = c.in_err-found-2.field-0.0 in
+    let breaks_off = breaks_after (sheet_of c.args.seat.now) c.args.seat.now c.loop.seat c.shared_round.new.seat e c.loop.invariant.worked c.loop.invariant.sheet c.in_err-found-2.ensures.err in
+    broke (sheet_of c.args.seat.now) c.args.seat.now c.shared_round.new.seat c.from_residual-in_err-found-2.result e c.from_residual-in_err-found-2.ensures.1 breaks_off
 
-pub returns-in_err-shared_round-clause-works : goal.returns-in_err-shared_round-clause-works
-returns-in_err-shared_round-clause-works g c = works_after (sheet_of c.args.seat.now) c.args.seat.now c.loop.seat c.shared_round.new.seat c.loop.invariant.worked c.loop.invariant.sheet c.shared_round.ensures.works
+pub returns-in_err-found-2-clause-works : goal.returns-in_err-found-2-clause-works
+returns-in_err-found-2-clause-works g c = works_after (sheet_of c.args.seat.now) c.args.seat.now c.loop.seat c.shared_round.new.seat c.loop.invariant.worked c.loop.invariant.sheet c.shared_round.ensures.works
 
 pub loop-preserved : goal.loop-preserved
 loop-preserved g c = record {

@@ -1,4 +1,4 @@
-use Rattle.std.proofs.Common.{◌≡◌, ℕ}
+use Rattle.std.proofs.Common.{◌≡◌}
 use Rattle.ds_formula.specs.Cells.{count_of}
 use Rattle.ds_shared_seats.specs.Sheets.{IsSeatOf}
 use Rattle.ds_net_desks.specs.SharedDesks.{HasWorked, sheet_of}
