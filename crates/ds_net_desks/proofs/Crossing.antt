@@ -12,7 +12,6 @@ use Rattle.atomic_table.proofs.send_lease.SendLease.TheSendSync.{the_sync as lea
 use Rattle.crossbeam_queue.specs.contracts.array_queue.plain.ArrayQueue as ArrayQueue
 use Rattle.ds_shared_seats.proofs.Crossing.{seat_send}
 use Rattle.ds_net_floor.proofs.Crossing.{keeping_sync}
-use Rattle.ds_analyst.specs.declared.question.Analyst.{Ghosts}
 use Rattle.ds_order.specs.contracts.known.KnownReferences as KnownReferences
 use Rattle.ds_net_desks.specs.contracts.numbering.Numbering as Numbering
 use Rattle.ds_net_desks.specs.contracts.numbered_seat.NumberedSeat as NumberedSeat
@@ -37,7 +36,7 @@ queue_sync = search (sendable, crosses, shared_sync, lease_sync, numbered_send) 
 pub pool_sync : IsSync SeatPool.the_row
 pool_sync = search (sendable, crosses, queue_sync) depth 60 fits 100000
 
-module _ (κ : NamedLft) (A : RattleType) (a : Ghosts A.Denot) (analyst_sync : IsSync A) where
+module _ (κ : NamedLft) (A : RattleType) (analyst_sync : IsSync A) where
   -- a sheet, as it is served, may be shared by threads where its analyst may be
-  pub floor_sync : IsSync (StoredFloor.the_row κ A a)
+  pub floor_sync : IsSync (StoredFloor.the_row κ A)
   floor_sync = search (sendable, references_sync, pool_sync, keeping_sync, analyst_sync) depth 60
