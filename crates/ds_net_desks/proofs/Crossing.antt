@@ -1,7 +1,7 @@
 -- That pools of seats, and a sheet as it is served, may be shared by threads.
 use Rattle.std.proofs.Crossing.{crosses}
 use denote.Param.Send.{IsSend, IsSync, sendable}
-use denote.Param.SendFields.{declared_send}
+use denote.Param.SendFields.{declared_send, declared_sync}
 use denote.Struct.Record.{declared}
 use denote.RattleType.{RattleType}
 use denote.Ref.{NamedLft}
@@ -39,4 +39,4 @@ pool_sync = search (sendable, crosses, queue_sync) depth 60 fits 100000
 module _ (κ : NamedLft) (A : RattleType) (analyst_sync : IsSync A) where
   -- a sheet, as it is served, may be shared by threads where its analyst may be
   pub floor_sync : IsSync (StoredFloor.the_row κ A)
-  floor_sync = search (sendable, references_sync, pool_sync, keeping_sync, analyst_sync) depth 60
+  floor_sync = declared_sync (declared (StoredFloor.struct κ A) _) (search sendable depth 20, (search (sendable, pool_sync) depth 40, (search sendable depth 20, (search sendable depth 20, (search (sendable, references_sync) depth 40, (search (sendable, keeping_sync) depth 40, (search (sendable, analyst_sync) depth 20, tt)))))))
