@@ -109,7 +109,8 @@ copy_kept() {
 
 # Whether `rt ci` takes names of crates.
 takes_names() {
-    rt help 2>&1 | grep -qE '^ *rt ci .*NAME'
+    # (a grep that ends at its first match would break the pipe of what still prints)
+    grep -qE '^ *rt ci .*NAME' <<<"$(rt help 2>&1)"
 }
 
 # Notes the edits of a crate that were refused, by what was said, beside those that were before, and says whether all are.
