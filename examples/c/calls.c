@@ -85,7 +85,7 @@ static void refusals(void) {
     uint32_t (*const calls[])(struct dsheet_world *, size_t, struct dsheet_answer *) = {
         dsheet_world_begin_report, dsheet_world_begin_recovery, dsheet_world_step,   dsheet_world_offer,
         dsheet_world_stop,         dsheet_world_report,         dsheet_world_recover, dsheet_world_settle,
-        dsheet_world_migrate,      dsheet_world_begin_migration};
+        dsheet_world_migrate,      dsheet_world_begin_migration, dsheet_world_recalculate};
     for (size_t at = 0; at < sizeof calls / sizeof *calls; at++) {
         WANT(calls[at](NULL, 0, &answer) == DSHEET_NULL);
         WANT(calls[at](w, 0, NULL) == DSHEET_NULL);
@@ -130,6 +130,8 @@ static void whole_calls(void) {
     WANT(dsheet_world_work(&world, 1, 0, 0, &answer) == DSHEET_OK && answer.kind == DSHEET_NOT_DIRTY);
     WANT(dsheet_world_value(&world, 0, 0, &value) == DSHEET_OK && value.kind == DSHEET_NUMBER && value.number == 20);
     WANT(dsheet_world_settle(&world, 0, &answer) == DSHEET_OK && answer.kind == DSHEET_LEFT && answer.number == 0);
+    WANT(dsheet_world_recalculate(&world, 1, &answer) == DSHEET_OK);
+    WANT(answer.kind == DSHEET_LEFT && answer.number == 0);
     WANT(dsheet_world_report(&world, 0, &answer) == DSHEET_OK && answer.kind == DSHEET_SETTLED);
     WANT(dsheet_world_values(&world, 0, values, 5, &count) == DSHEET_TOO_SMALL && count == 6);
     WANT(dsheet_world_values(&world, 0, values, 6, &count) == DSHEET_OK && count == 6);

@@ -249,6 +249,7 @@ uint32_t ds_c_world_report(struct dsheet_world *, size_t process, struct dsheet_
 uint32_t ds_c_world_recover(struct dsheet_world *, size_t process, struct dsheet_answer *);
 uint32_t ds_c_world_migrate(struct dsheet_world *, size_t process, struct dsheet_answer *);
 uint32_t ds_c_world_settle(struct dsheet_world *, size_t process, struct dsheet_answer *);
+uint32_t ds_c_world_recalculate(struct dsheet_world *, size_t process, struct dsheet_answer *);
 uint32_t ds_c_world_size(struct dsheet_world *, struct dsheet_size *);
 uint32_t ds_c_world_value(struct dsheet_world *, size_t column, size_t row, struct dsheet_value *);
 uint32_t ds_c_world_mark(struct dsheet_world *, size_t column, size_t row, struct dsheet_mark *);
@@ -448,6 +449,15 @@ DSHEET_FUNCTION uint32_t dsheet_world_settle(struct dsheet_world *world, size_t 
     if (!world || !answer)
         return DSHEET_NULL;
     return ds_c_world_settle(world, process, answer);
+}
+
+/* A whole work on each cell that is marked in its turn, once, in the order of the references of the texts that the sheet
+ * shows; then a settle. Its end is that of a settle. Where no memory is left for the order, it settles at once. */
+DSHEET_FUNCTION uint32_t dsheet_world_recalculate(struct dsheet_world *world, size_t process,
+                                                  struct dsheet_answer *answer) {
+    if (!world || !answer)
+        return DSHEET_NULL;
+    return ds_c_world_recalculate(world, process, answer);
 }
 
 /* ---- What a world shows ----

@@ -10,9 +10,11 @@ use Rattle.ds_core.specs.declared.reply.Reply.TheVariants.{Evicted, Crashed}
 use Rattle.ds_calls.specs.Traces.{Leads, call_trace, settle_trace}
 use Rattle.ds_calls.specs.declared.settle.SettleStage.TheVariants.{Ends}
 use Rattle.ds_calls.proofs.Runs.{call_leads, settle_leads}
+use Rattle.ds_recalculation.specs.Recalculations.{recalculation_trace}
+use Rattle.ds_recalculation.proofs.Recalculated.{recalculation_leads}
 use Rattle.ds_c.specs.declared.answer.AnswerRow.{AnswerRow}
 use Rattle.ds_c.specs.declared.rows.PlaceRow.{PlaceRow}
-use Rattle.ds_c.specs.Events.{evaluated, one_event, Replies, Ended, Migrates, Settles, Offers, Evicts, Crashes}
+use Rattle.ds_c.specs.Events.{evaluated, one_event, Replies, Ended, Migrates, Settles, Recalculates, Offers, Evicts, Crashes}
 
 event_leads : (event : Event) (reply : Reply) (old new : WorldValue) → Fits old event reply new → Leads old (one_event event reply) new
 event_leads event reply old new fits = (new, fits, refl)
@@ -44,3 +46,7 @@ migrates_lead p old row new h = call_leads _ p (BeginMigrate p) old h.came_to ne
 -- a settle leads on
 pub settles_lead : (p : ℕ) (old : WorldValue) (row : AnswerRow) (new : WorldValue) (h : Settles p old row new) → Leads old (settle_trace p old (Ends h.end) new h.settles) new
 settles_lead p old row new h = settle_leads p old (Ends h.end) new h.settles
+
+-- a recalculation leads on
+pub recalculates_lead : (p : ℕ) (old : WorldValue) (row : AnswerRow) (new : WorldValue) (h : Recalculates p old row new) → Leads old (recalculation_trace p h.recalculates.order old h.end new h.recalculates.ends) new
+recalculates_lead p old row new h = recalculation_leads p h.recalculates.order old h.end new h.recalculates.ends

@@ -19,6 +19,7 @@ use Rattle.ds_calls.specs.Whole.{HasProcess, IsWhole, IsWholeMigration}
 use Rattle.ds_calls.specs.Settling.{Settling}
 use Rattle.ds_calls.specs.Traces.{Trace}
 use Rattle.ds_calls.specs.declared.settle.SettleEnd.{SettleEnd}
+use Rattle.ds_recalculation.specs.Recalculations as recalculations
 use Rattle.ds_calls.specs.declared.settle.SettleStage.TheVariants.{Ends}
 use Rattle.ds_layout.specs.declared.place.Place.{Place}
 use Rattle.ds_layout.specs.Places.{IsPlace}
@@ -59,6 +60,12 @@ pub record Migrates (p : ℕ) (old : WorldValue) (row : AnswerRow) (new : WorldV
 pub record Settles (p : ℕ) (old : WorldValue) (row : AnswerRow) (new : WorldValue) : Type 0 where
   pub end : SettleEnd
   pub settles : Settling p old (Ends end) new
+  pub row_is : row ≡ settle_row end
+
+-- a recalculation of the process, in some order; the row says how it ended
+pub record Recalculates (p : ℕ) (old : WorldValue) (row : AnswerRow) (new : WorldValue) : Type 0 where
+  pub end : SettleEnd
+  pub recalculates : recalculations.Recalculates p old end new
   pub row_is : row ≡ settle_row end
 
 -- a task with its entry

@@ -9,7 +9,7 @@ ghost use Rattle.ds_c.specs.Calls.{Does};
 ghost use Rattle.ds_layout.specs.Places.{IsPlace};
 ghost use Rattle.ds_c.specs.Rows.{place_named};
 ghost use Rattle.ds_c.specs.Reading.{Never};
-ghost use Rattle.ds_c.specs.Events.{evaluated, Replies, Ended, Migrates, Settles, Offers, Evicts, Crashes, LacksProcess, LacksRequest, LacksTask, LacksWord};
+ghost use Rattle.ds_c.specs.Events.{evaluated, Replies, Ended, Migrates, Settles, Recalculates, Offers, Evicts, Crashes, LacksProcess, LacksRequest, LacksTask, LacksWord};
 
 use crate::answer::AnswerRow;
 use crate::failure::Failure;
@@ -20,6 +20,7 @@ use ds_core::take::take;
 use ds_eval::task::{Task, evaluate};
 use ds_formula::cells::Cell;
 use ds_layout::place::Place;
+use ds_recalculation::recalculation;
 use ds_state::world::World;
 use ds_work::offer::{TaskFault, task_of};
 use std::alloc::Global;
@@ -235,4 +236,13 @@ pub fn settle(alloc: Global, world: &mut World, process: usize) -> Result<Answer
 {
     find_process(world, process)?;
     Ok(AnswerRow::of_settle(settle::settle(alloc, world, process)))
+}
+
+/// Works on each marked cell in the order of the references, and then settles.
+pub fn recalculate(alloc: Global, world: &mut World, process: usize) -> Result<AnswerRow, Failure>
+    ensures { Does (Recalculates process) (LacksProcess process) world.old result world.new }
+{
+    find_process(world, process)?;
+    let end = recalculation::recalculate(alloc, world, process);
+    Ok(AnswerRow::of_settle(end))
 }

@@ -12,10 +12,11 @@ ghost use Rattle.ds_core.specs.declared.reply.Reply.TheVariants.{Evicted, Crashe
 ghost use Rattle.ds_state.specs.declared.answer.Answer.TheVariants.{Edit, Work, Show, Recovery, Migration};
 ghost use Rattle.ds_calls.specs.Traces.{Trace, Leads, both, call_trace, settle_trace};
 ghost use Rattle.ds_calls.specs.declared.settle.SettleStage.TheVariants.{Ends};
+ghost use Rattle.ds_recalculation.specs.Recalculations.{recalculation_trace};
 ghost use Rattle.ds_c.specs.declared.answer.AnswerRow.{AnswerRow};
 ghost use Rattle.ds_c.specs.declared.rows.PlaceRow.{PlaceRow};
 ghost use Rattle.ds_c.specs.Making.{IsMade};
-ghost use Rattle.ds_c.specs.Events.{evaluated, one_event, Replies, Ended, Migrates, Settles, Offers, Evicts, Crashes};
+ghost use Rattle.ds_c.specs.Events.{evaluated, one_event, Replies, Ended, Migrates, Settles, Recalculates, Offers, Evicts, Crashes};
 
 /// What each call of the library does to a world is a run of `ds_core::take`: of just the events and replies that the call
 /// consists of, whose last one is what its row reports. So what is proved of runs from a new sheet is true of every
@@ -41,6 +42,8 @@ pub fn calls_are_runs()
         → Leads old (call_trace Migration p (BeginMigrate p) old h.came_to new h.whole.whole) new }
     ensures settles { (p : ℕ) (old : WorldValue) (row : AnswerRow) (new : WorldValue) (h : Settles p old row new)
         → Leads old (settle_trace p old (Ends h.end) new h.settles) new }
+    ensures recalculations { (p : ℕ) (old : WorldValue) (row : AnswerRow) (new : WorldValue) (h : Recalculates p old row new)
+        → Leads old (recalculation_trace p h.recalculates.order old h.end new h.recalculates.ends) new }
 {}
 
 /// Two runs, one after the other, are a run: of the events of the first, then those of the second.

@@ -4,7 +4,7 @@ ghost use Rattle.ds_core.specs.declared.event.Event.TheVariants.{BeginEdit, Begi
 ghost use Rattle.ds_state.specs.declared.answer.Answer.TheVariants.{Edit, Work, Show, Recovery};
 ghost use Rattle.ds_calls.specs.Whole.{request};
 ghost use Rattle.ds_c.specs.Calls.{OnHandle, Does, Tells};
-ghost use Rattle.ds_c.specs.Events.{cell_of, Ended, Migrates, Settles, LacksProcess, LacksRequest};
+ghost use Rattle.ds_c.specs.Events.{cell_of, Ended, Migrates, Settles, Recalculates, LacksProcess, LacksRequest};
 
 use crate::answer::AnswerRow;
 use crate::calls;
@@ -126,6 +126,24 @@ pub extern "C" fn ds_c_world_settle(
         return Failure::Empty.number();
     };
     let told = calls::settle(alloc, &mut world, process);
+    *handle = Handle::of(world);
+    tell(told, answer)
+}
+
+/// Works on each marked cell in the order of the references, and then settles, by whole works of a process.
+#[unsafe(no_mangle)]
+pub extern "C" fn ds_c_world_recalculate(
+    alloc: Global,
+    handle: &mut Handle,
+    process: usize,
+    answer: &mut AnswerRow,
+) -> u32
+    ensures { OnHandle (Does (Recalculates process) (LacksProcess process)) (Tells answer.old answer.new) handle.old handle.new result }
+{
+    let Some(mut world) = handle.take(alloc) else {
+        return Failure::Empty.number();
+    };
+    let told = calls::recalculate(alloc, &mut world, process);
     *handle = Handle::of(world);
     tell(told, answer)
 }

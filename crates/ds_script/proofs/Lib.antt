@@ -6,3 +6,4 @@ pub mod Settles
 pub mod Scripts
 pub mod RecoverPlayed
 pub mod Settled
+pub mod Recalculated

@@ -1,9 +1,9 @@
 //! Carries commands out, and says how each ended.
 
-ghost use Rattle.std.specs.Prelude.{◌≡◌, ◌≤◌, IfOk};
+ghost use Rattle.std.specs.Prelude.{ℕ, List, ◌≡◌, ◌≤◌, IfOk};
 ghost use Rattle.ds_state.specs.Value.{WorldValue, world_of};
 ghost use Rattle.ds_script.specs.Orders.{CanDo, command_view, beginning};
-ghost use Rattle.ds_script.specs.Doing.{Once, Calls, Drives, settle, to_point};
+ghost use Rattle.ds_script.specs.Doing.{Once, Calls, Drives, IsOrderOf, in_order, settle, to_point};
 ghost use Rattle.ds_script.specs.Plays.{Played, IsNoRound, halt_text};
 ghost use Rattle.ds_script_json.specs.CommandEnds.{CanShow, Obeys, text_of};
 
@@ -32,7 +32,7 @@ pub enum CommandEnd {
     Replied(usize, Reply),
     /// The call of this process has passed this point.
     At(usize, PointName),
-    /// A settle by this process has ended so.
+    /// A settle or a recalculation by this process has ended so.
     Settled(usize, SettleEnd),
     /// It asks what this cell shows.
     Peeked(Cell),
@@ -127,6 +127,20 @@ fn settle(alloc: Global, world: &mut World, process: usize) -> CommandEnd
     CommandEnd::Settled(process, ds_calls::settle::settle(alloc, world, process))
 }
 
+// `recalc P`.
+fn recalculate(alloc: Global, world: &mut World, process: usize) -> CommandEnd
+    ensures played { (order : List ℕ) × IsOrderOf world.old order × Played (in_order world.old process order) world.old (text_of world.new result) world.new }
+    ensures shows { CanShow world.new result }
+{
+    if process >= world.words.layout().processes {
+        return settle_nobody(alloc, world, process);
+    }
+    CommandEnd::Settled(
+        process,
+        ds_recalculation::recalculation::recalculate(alloc, world, process),
+    )
+}
+
 /// Carries a command out, and says how it has ended: the text of that is the answer that `ds_script::carry::carry_out`
 /// gives. An error means that an allocation failed.
 #[tactic(auto, using(crate::proofs::Carrying::says_so))]
@@ -151,6 +165,7 @@ pub fn carry_out(
         Command::Whole(process, call) => whole(alloc, world, process, call),
         Command::Begin(process, call) => begin(alloc, world, process, call),
         Command::Settle(process) => settle(alloc, world, process),
+        Command::Recalculate(process) => recalculate(alloc, world, process),
         Command::Step(process) => run(alloc, world, process, Until::OneStep),
         Command::RunTo(process, name) => run_to(alloc, world, process, name),
         Command::Run(process) => run(alloc, world, process, Until::ToAnswer),

@@ -1,4 +1,5 @@
 pub mod Turning
+pub mod InOrder
 pub mod Playing
 pub mod Opening
 pub mod Carrying

@@ -1,5 +1,5 @@
 -- What is left of a command after an event.
-use Rattle.std.proofs.Common.{ℕ, ◌≡◌, ◌<◌, ◌∙◌, ◌⊎◌, inl, inr, Bool, true, false, Some, None, refl, sym, ap, subst, lit<}
+use Rattle.std.proofs.Common.{ℕ, All, ◌≡◌, ◌<◌, ◌∙◌, ◌⊎◌, inl, inr, Bool, true, false, Some, None, refl, sym, ap, subst, lit<}
 use Rattle.std.specs.Prelude.{Option, IfSome, if◌then◌else◌}
 use Rattle.ds_formula.specs.declared.cells.Shape.{Shape}
 use Rattle.ds_formula.specs.Cells.{cell_at}
@@ -46,6 +46,8 @@ stays_within old new event reply (left.Drives p (ToPoint name)) fits h = tt
 stays_within old new event reply (left.Drives p ToAnswer) fits h = tt
 stays_within old new event reply (left.Drives p (InRound rounds cell)) fits h = subst (λ (l : Layout). cell < cells_of l) (sym (same_layout old new event reply fits.takes)) h
 stays_within old new event reply (left.Works p rounds cell) fits h = subst (λ (l : Layout). cell < cells_of l) (sym (same_layout old new event reply fits.takes)) h
+stays_within old new event reply (left.WorksInOrder p cell rest) fits h = subst (λ (l : Layout). (cell < cells_of l) × All (λ c. c < cells_of l) rest.items) (sym (same_layout old new event reply fits.takes)) h
+stays_within old new event reply (left.DrivesInOrder p rest) fits h = subst (λ (l : Layout). All (λ c. c < cells_of l) rest.items) (sym (same_layout old new event reply fits.takes)) h
 
 pub within_by : (w : WorldValue) (p : ℕ) (until : Until) (rounds cell : ℕ) → until ≡ InRound rounds cell → IsWithin w (left.Drives p until) → cell < cells_of w.sheet.layout
 within_by w p until rounds cell is h = subst (λ (u : Until). IsWithin w (left.Drives p u)) is h
@@ -84,7 +86,7 @@ near_at : (p : ℕ) (shape : Shape) (e : PlainWorkCall) (s : WorkStage) → even
 near_at p shape e Wait = lit< tt
 near_at p shape e s = lit< tt
 
-near : (p : ℕ) (shape : Shape) (s : Situation) → events_from (Some (wanted p shape s)) < 3
+pub near : (p : ℕ) (shape : Shape) (s : Situation) → events_from (Some (wanted p shape s)) < 3
 near p shape (Working e) = near_at p shape e e.stage
 near p shape s = lit< tt
 
@@ -156,7 +158,7 @@ step_answers old new p until answer next wants fits remains within = record {
 }
 
 -- a step that cannot be taken
-untaken : (p : ℕ) (reply : Reply) → (reply ≡ Stepped → ⊥) → ((answer : Answer) → reply ≡ Answered answer → ⊥) → step_taken (Step p) reply ≡ 0
+pub untaken : (p : ℕ) (reply : Reply) → (reply ≡ Stepped → ⊥) → ((answer : Answer) → reply ≡ Answered answer → ⊥) → step_taken (Step p) reply ≡ 0
 untaken p Stepped a b = absurd (a refl)
 untaken p (Answered answer) a b = absurd (b answer refl)
 untaken p reply a b = refl

@@ -1,5 +1,5 @@
 -- A command, event by event, as the code plays it.
-use Rattle.std.specs.Prelude.{ℕ, ◌≡◌, ◌<◌, Bool, true, false, List, Option, Some, None, IfSome}
+use Rattle.std.specs.Prelude.{ℕ, ◌≡◌, ◌<◌, All, Bool, true, false, List, Option, Some, None, IfSome}
 use Rattle.ds_layout.specs.Places.{cells_of}
 use Rattle.ds_state.specs.Value.{WorldValue}
 use Rattle.ds_core.specs.Takes.{Fits}
@@ -7,7 +7,7 @@ use Rattle.ds_core.specs.declared.event.Event.{Event}
 use Rattle.ds_core.specs.declared.event.Event.TheVariants.{Step, Offer}
 use Rattle.ds_core.specs.declared.reply.Reply.{Reply}
 use Rattle.ds_script.specs.declared.drive.Until.TheVariants.{InRound}
-use Rattle.ds_script.specs.Doing.{Doing, Says, Drives, Works, asks, told}
+use Rattle.ds_script.specs.Doing.{Doing, Says, Drives, Works, WorksInOrder, DrivesInOrder, asks, told}
 use Rattle.ds_script.specs.Script.{step_taken}
 use Rattle.ds_script_stops.specs.declared.turn.Left.{Left}
 use Rattle.ds_script_stops.specs.declared.turn.Left.TheVariants as left
@@ -17,17 +17,21 @@ use Rattle.ds_script_stops.specs.declared.turn.CommandTurn.{CommandTurn}
 abbrev pub doing_of : Left → Doing
 doing_of (left.Drives p until) = Drives p until
 doing_of (left.Works p rounds cell) = Works p rounds cell
+doing_of (left.WorksInOrder p cell rest) = WorksInOrder p cell rest.items
+doing_of (left.DrivesInOrder p rest) = DrivesInOrder p rest.items
 
 -- what is left of a command whose machine stands here: nothing where it has ended with a text
 abbrev pub Remains : Option Left → Doing → Type 0
 Remains None doing = (text : List ℕ) × (doing ≡ Says text)
 Remains (Some l) doing = doing ≡ doing_of l
 
--- the cell that a settle works on is one of the sheet
+-- the cells that a settle or a recalculation works on are some of the sheet
 abbrev pub IsWithin : WorldValue → Left → Type 0
 IsWithin w (left.Drives p (InRound rounds cell)) = cell < cells_of w.sheet.layout
 IsWithin w (left.Drives p until) = Unit {0}
 IsWithin w (left.Works p rounds cell) = cell < cells_of w.sheet.layout
+IsWithin w (left.WorksInOrder p cell rest) = (cell < cells_of w.sheet.layout) × All (λ c. c < cells_of w.sheet.layout) rest.items
+IsWithin w (left.DrivesInOrder p rest) = All (λ c. c < cells_of w.sheet.layout) rest.items
 
 -- the event with its reply is a step that was taken, or it is none
 abbrev pub IsStep : Bool → Event → Reply → Type 0

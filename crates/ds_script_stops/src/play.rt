@@ -1,13 +1,14 @@
 //! Plays commands up to a step.
 
-ghost use Rattle.std.specs.Prelude.{◌≡◌, ◌<◌, ◌+◌, ◌-◌, ◌^◌, IfSome, IfOk};
+ghost use Rattle.std.specs.Prelude.{ℕ, List, ◌≡◌, ◌<◌, ◌+◌, ◌-◌, ◌^◌, IfSome, IfOk};
 ghost use Rattle.ds_script.specs.Orders.{CanDo, beginning, command_view};
-ghost use Rattle.ds_script.specs.Doing.{Calls, settle};
+ghost use Rattle.ds_script.specs.Doing.{Calls, IsOrderOf, in_order, settle};
 ghost use Rattle.ds_script_stops.specs.ScriptTurns.{IsWithin, Remains, doing_of, steps_of};
 ghost use Rattle.ds_script_stops.specs.Reaching.{Opens, OpensOrder, IsPlayed, IsCarried, taken_before};
 
-use crate::turn::{Left, after_begin, left_of, take_turn, to_point};
+use crate::turn::{Left, after_begin, in_order, left_of, take_turn, to_point};
 use ds_calls::settle::first_turn;
+use ds_recalculation::recalculation::planned;
 use ds_script::carry::{begins, carry_out};
 use ds_script::drive::Until;
 use ds_script::order::{Call, Command};
@@ -15,7 +16,7 @@ use ds_state::world::World;
 use std::alloc::{AllocError, Global};
 
 /// How far a command was played, in a run that goes up to a step.
-#[derive(Clone, Copy, Debug)]
+#[derive(Debug, Drop)]
 pub enum Played {
     /// To its end: how many steps the run has taken then, fewer than up to that step.
     Ended(u64),
@@ -40,6 +41,15 @@ fn settle(world: &World, process: usize) -> Option<Left>
     left_of(process, first_turn(world))
 }
 
+// A recalculation, in the order of the references.
+fn recalculate(alloc: Global, world: &World, process: usize) -> Option<Left>
+    ensures opens { (order : List ℕ) × IsOrderOf world.now order × Remains result (in_order world.now process order) }
+    ensures within { IfSome result (IsWithin world.now) }
+{
+    let order = planned(alloc, world);
+    in_order(world, process, order)
+}
+
 // Carries a command out up to its first step, and gives what is left of it then. An error means that an allocation
 // failed.
 fn open(alloc: Global, world: &mut World, command: Command<'_>) -> Result<Option<Left>, AllocError>
@@ -50,6 +60,7 @@ fn open(alloc: Global, world: &mut World, command: Command<'_>) -> Result<Option
     match command {
         Command::Whole(process, begun) => Ok(call(alloc, world, process, begun)),
         Command::Settle(process) => Ok(settle(world, process)),
+        Command::Recalculate(process) => Ok(recalculate(alloc, world, process)),
         Command::Step(process) => Ok(Some(Left::Drives(process, Until::OneStep))),
         Command::RunTo(process, name) => Ok(to_point(world, process, name)),
         Command::Run(process) => Ok(Some(Left::Drives(process, Until::ToAnswer))),

@@ -27,7 +27,7 @@ pub struct StepPoint {
 }
 
 /// Where a run of a script stands, between two events.
-#[derive(Clone, Copy, Debug)]
+#[derive(Debug, Drop)]
 pub struct ScriptPosition<'a> {
     /// How many lines have begun.
     pub lines: usize,
@@ -40,7 +40,7 @@ pub struct ScriptPosition<'a> {
 }
 
 // How far a line was carried out, in a run that goes up to a step.
-#[derive(Clone, Copy, Debug)]
+#[derive(Debug, Drop)]
 enum Advance {
     // To its end: the point after it.
     Passed(StepPoint),

@@ -1,19 +1,22 @@
 //! A command, event by event.
 
-ghost use Rattle.std.specs.Prelude.{◌≡◌, ◌<◌, IfSome};
+ghost use Rattle.std.specs.Prelude.{◌≡◌, ◌<◌, ℕ, All, IfSome, Ok};
 ghost use Rattle.ds_layout.specs.Places.{cells_of};
 ghost use Rattle.ds_state.specs.Value.{WorldValue, world_of};
 ghost use Rattle.ds_state.specs.declared.answer.Answer.TheVariants.{Work};
+ghost use Rattle.ds_core.specs.declared.event.Event.TheVariants.{Step};
 ghost use Rattle.ds_core.specs.declared.reply.Reply.TheVariants.{Answered};
 ghost use Rattle.ds_script.specs.declared.drive.Until.TheVariants.{InRound, ToPoint};
 ghost use Rattle.ds_calls.specs.Settling.{IsInTurn};
-ghost use Rattle.ds_script.specs.Doing.{at_turn, called, offered, stepped, ended, to_point};
+ghost use Rattle.ds_recalculation.specs.Recalculations.{stop_of};
+ghost use Rattle.ds_script.specs.Doing.{after_work, at_turn, called, ended, entered, gone, in_order, offered, stepped, to_point};
 ghost use Rattle.ds_script.specs.Plays.{WantsStep};
-ghost use Rattle.ds_script_stops.specs.ScriptTurns.{Remains, IsWithin, TakesTurn};
+ghost use Rattle.ds_script_stops.specs.ScriptTurns.{Remains, IsStep, IsWithin, TakesTurn};
 
 use ds_calls::finish::step_once;
 use ds_calls::settle;
 use ds_core::reply::Reply;
+use ds_recalculation::recalculation::{is_marked, stop_of};
 use ds_script::drive::{Until, has_come};
 use ds_script::point::PointName;
 use ds_script::settle::begin;
@@ -24,7 +27,7 @@ use ds_work::offer::offer_own;
 use std::alloc::Global;
 
 /// What is left of a command that has not ended.
-#[derive(Clone, Copy, Debug)]
+#[derive(Debug, Drop)]
 pub enum Left {
     /// The process is driven.
     Drives(usize, Until),
@@ -38,10 +41,26 @@ pub enum Left {
         /// The cell, by its number.
         cell: usize,
     },
+    /// A recalculation of the process works on the cell with this number, and goes on with the rest of its order.
+    WorksInOrder {
+        /// The process.
+        process: usize,
+        /// The cell, by its number.
+        cell: usize,
+        /// The cells that are left of the order.
+        rest: Vec<usize>,
+    },
+    /// The process is driven through a work of a recalculation, which goes on with the rest of its order.
+    DrivesInOrder {
+        /// The process.
+        process: usize,
+        /// The cells that are left of the order.
+        rest: Vec<usize>,
+    },
 }
 
 /// One event of a command.
-#[derive(Clone, Copy, Debug)]
+#[derive(Debug, Drop)]
 pub struct CommandTurn {
     /// Whether it was a step that was taken.
     pub stepped: bool,
@@ -206,6 +225,126 @@ fn go(alloc: Global, world: &mut World, process: usize, until: Until) -> Command
     }
 }
 
+/// What is left of a recalculation by the process with these cells left of its order: it works on the first of them that is
+/// marked; where none is, it settles.
+pub fn in_order(world: &World, process: usize, order: Vec<usize>) -> Option<Left>
+    requires { All (λ c. c < cells_of world.now.sheet.layout) order.entry.items }
+    ensures remains { Remains result (in_order world.now process order.entry.items) }
+    ensures within { IfSome result (IsWithin world.now) }
+{
+    let mut rest = order;
+    while !rest.is_empty() {
+        let cell = rest.remove(0);
+        if is_marked(world, cell) {
+            return Some(Left::WorksInOrder {
+                process,
+                cell,
+                rest,
+            });
+        }
+    }
+    left_of(process, settle::first_turn(world))
+}
+
+// What is left of a recalculation once a work of its has ended so.
+fn after_work_in_order(
+    world: &World,
+    process: usize,
+    rest: Vec<usize>,
+    end: WorkEnd,
+) -> Option<Left>
+    requires { All (λ c. c < cells_of world.now.sheet.layout) rest.entry.items }
+    ensures remains { Remains result (after_work world.now process rest.entry.items (stop_of (Ok end))) }
+    ensures within { IfSome result (IsWithin world.now) }
+{
+    match stop_of(Ok(end)) {
+        Some(_) => None,
+        None => in_order(world, process, rest),
+    }
+}
+
+/// What is left of a recalculation once a step of the work that it drives had this reply.
+pub fn gone(world: &World, process: usize, rest: Vec<usize>, reply: Reply) -> Option<Left>
+    requires { All (λ c. c < cells_of world.now.sheet.layout) rest.entry.items }
+    ensures remains { Remains result (gone world.now process rest.entry.items reply) }
+    ensures within { IfSome result (IsWithin world.now) }
+{
+    match reply {
+        Reply::Stepped => Some(Left::DrivesInOrder { process, rest }),
+        Reply::Answered(Answer::Work(end)) => after_work_in_order(world, process, rest, end),
+        _ => None,
+    }
+}
+
+/// What is left of a recalculation once the beginning of a work of its had this reply.
+pub fn entered(process: usize, rest: Vec<usize>, reply: Reply) -> Option<Left>
+    ensures remains { (w : WorldValue) → Remains result (entered w process rest.entry.items reply) }
+    ensures same { IfSome result (λ next. next ≡ Left.DrivesInOrder process rest.entry) }
+{
+    match reply {
+        Reply::Begun(_) | Reply::Entered => Some(Left::DrivesInOrder { process, rest }),
+        _ => None,
+    }
+}
+
+// Work of a recalculation begins, or is refused.
+fn begin_in_order(
+    alloc: Global,
+    world: &mut World,
+    process: usize,
+    cell: usize,
+    rest: Vec<usize>,
+) -> CommandTurn
+    requires { IsWithin world.old (Left.WorksInOrder process cell rest.entry) }
+    ensures { TakesTurn (Left.WorksInOrder process cell rest.entry) world.old result world.new }
+{
+    let reply = begin(alloc, world, process, cell);
+    CommandTurn {
+        stepped: false,
+        left: entered(process, rest, reply),
+    }
+}
+
+// Whether the reply says that a step was taken.
+fn is_taken(reply: Reply) -> bool
+    ensures { (p : ℕ) → IsStep result (Step p) reply }
+{
+    match reply {
+        Reply::Stepped | Reply::Answered(_) => true,
+        _ => false,
+    }
+}
+
+// A process in a work of a recalculation makes a step, if it can.
+fn step_in_order(alloc: Global, world: &mut World, process: usize, rest: Vec<usize>) -> CommandTurn
+    requires wants { WantsStep world.old process }
+    requires within { IsWithin world.old (Left.DrivesInOrder process rest.entry) }
+    ensures { TakesTurn (Left.DrivesInOrder process rest.entry) world.old result world.new }
+{
+    let reply = step_once(alloc, world, process);
+    CommandTurn {
+        stepped: is_taken(reply),
+        left: gone(world, process, rest, reply),
+    }
+}
+
+// A process in a work of a recalculation is offered the entry that its work waits for, or else makes a step.
+fn go_in_order(alloc: Global, world: &mut World, process: usize, rest: Vec<usize>) -> CommandTurn
+    requires { IsWithin world.old (Left.DrivesInOrder process rest.entry) }
+    ensures { TakesTurn (Left.DrivesInOrder process rest.entry) world.old result world.new }
+{
+    world.is_always_good();
+    if offer_own(world, process) {
+        world.is_always_good();
+        CommandTurn {
+            stepped: false,
+            left: Some(Left::DrivesInOrder { process, rest }),
+        }
+    } else {
+        step_in_order(alloc, world, process, rest)
+    }
+}
+
 /// Takes the next event of a command.
 pub fn take_turn(alloc: Global, world: &mut World, left: Left) -> CommandTurn
     requires { IsWithin world.old left }
@@ -218,5 +357,11 @@ pub fn take_turn(alloc: Global, world: &mut World, left: Left) -> CommandTurn
             rounds,
             cell,
         } => begin_work(alloc, world, process, rounds, cell),
+        Left::WorksInOrder {
+            process,
+            cell,
+            rest,
+        } => begin_in_order(alloc, world, process, cell, rest),
+        Left::DrivesInOrder { process, rest } => go_in_order(alloc, world, process, rest),
     }
 }

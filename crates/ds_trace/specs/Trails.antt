@@ -6,7 +6,7 @@ use Rattle.ds_core.specs.Takes.{Fits}
 use Rattle.ds_core.specs.declared.event.Event.{Event}
 use Rattle.ds_core.specs.declared.reply.Reply.{Reply}
 use Rattle.ds_script.specs.Orders.{Order, Make, Does}
-use Rattle.ds_script.specs.Doing.{Doing, Says, asks, told, plan}
+use Rattle.ds_script.specs.Doing.{Doing, Says, IsOrderOf, asks, told, plan}
 use Rattle.ds_script.specs.Plays.{Plays}
 use Rattle.ds_script.specs.Script.{IsMade}
 use Rattle.ds_script_stops.specs.declared.turn.Left.{Left}
@@ -63,10 +63,10 @@ BreaksOff doing old before NoMemory = Unit {0}
 -- why an order is not carried out after these rows
 abbrev pub Hinders : WorldValue → Order → List TraceRow → NoTrace → Type 0
 Hinders old (Make first columns rows processes edition) before why = why ≡ NoMemory
-Hinders old (Does deed) before why = BreaksOff (plan old deed) old before why
+Hinders old (Does deed) before why = (order : List ℕ) × IsOrderOf old order × BreaksOff (plan old order deed) old before why
 
 -- an order is carried out: a new sheet is made, without rows; or the deed is played to its end, and the rows of its
 -- events stand after the others
 abbrev pub ObeysBy : List Place → WorldValue → Order → WorldValue → List TraceRow → List TraceRow → Type 0
 ObeysBy places old (Make first columns rows processes edition) new before after = IsMade columns rows processes edition new × (after ≡ [])
-ObeysBy places old (Does deed) new before after = Trail places (plan old deed) old new before after
+ObeysBy places old (Does deed) new before after = (order : List ℕ) × IsOrderOf old order × Trail places (plan old order deed) old new before after

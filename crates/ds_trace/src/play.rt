@@ -1,11 +1,11 @@
 //! Carries commands out, and keeps their events.
 
-ghost use Rattle.std.specs.Prelude.{◌≡◌, ◌<◌, ◌≤◌, List, [], IfErr, IfOk, IfSome, OnOk, length};
+ghost use Rattle.std.specs.Prelude.{ℕ, ◌≡◌, ◌<◌, ◌≤◌, List, [], IfErr, IfOk, IfSome, OnOk, length};
 ghost use Rattle.ds_layout.specs.Places.{cells_of};
 ghost use Rattle.ds_core.specs.declared.event.Event.TheVariants.{Step};
 ghost use Rattle.ds_core.specs.declared.reply.Reply.TheVariants.{Answered};
 ghost use Rattle.ds_script.specs.Orders.{CanDo, beginning, command_view};
-ghost use Rattle.ds_script.specs.Doing.{Doing, Calls, Once, driven, ended, offered, stepped, to_point, settle};
+ghost use Rattle.ds_script.specs.Doing.{Doing, Calls, IsOrderOf, Once, driven, ended, in_order, offered, stepped, to_point, settle};
 ghost use Rattle.ds_script.specs.Plays.{WantsStep};
 ghost use Rattle.ds_script.specs.Script.{IsMade};
 ghost use Rattle.ds_script.specs.declared.drive.Until.TheVariants.{InRound};
@@ -22,12 +22,14 @@ use ds_calls::settle;
 use ds_core::reply::Reply;
 use ds_layout::layout::Layout;
 use ds_layout::place::{Edition, Place};
+use ds_recalculation::recalculation::planned;
 use ds_script::carry::new_world;
 use ds_script::drive::Until;
 use ds_script::order::{Call, Command};
 use ds_script::point::PointName;
 use ds_script_stops::turn::{
-    Left, after_answer, after_begin, after_offer, after_step, left_of, to_point,
+    Left, after_answer, after_begin, after_offer, after_step, entered, gone, in_order, left_of,
+    to_point,
 };
 use ds_state::world::World;
 use ds_work::offer::offer_own;
@@ -110,6 +112,70 @@ fn go(
     }
 }
 
+// Work of a recalculation begins, or is refused.
+fn begin_in_order(
+    alloc: Global,
+    world: &mut World,
+    places: &[Place],
+    process: usize,
+    cell: usize,
+    rest: Vec<usize>,
+    rows: &mut Vec<TraceRow>,
+) -> Result<Option<Left>, NoTrace>
+    requires { IsWithin world.old (Left.WorksInOrder process cell rest.entry) }
+    ensures turn { IfOk result (λ left. TakesTurn places.now (Left.WorksInOrder process cell rest.entry) world.old left world.new rows.old.items rows.new.items) }
+    ensures few { OnOk result (length rows.new.items ≤ EVENT_LIMIT) }
+    ensures full { IfErr result (IsFull rows.old.items) }
+{
+    let call = Call::Work(world.words.layout().shape.cell(cell));
+    let reply = begin(alloc, world, places, process, call, rows)?;
+    Ok(entered(process, rest, reply))
+}
+
+// A process in a work of a recalculation makes a step, if it can.
+fn step_in_order(
+    alloc: Global,
+    world: &mut World,
+    places: &[Place],
+    process: usize,
+    rest: Vec<usize>,
+    rows: &mut Vec<TraceRow>,
+) -> Result<Option<Left>, NoTrace>
+    requires wants { WantsStep world.old process }
+    requires within { IsWithin world.old (Left.DrivesInOrder process rest.entry) }
+    ensures turn { IfOk result (λ left. TakesTurn places.now (Left.DrivesInOrder process rest.entry) world.old left world.new rows.old.items rows.new.items) }
+    ensures few { OnOk result (length rows.new.items ≤ EVENT_LIMIT) }
+    ensures full { IfErr result (IsFull rows.old.items) }
+{
+    let reply = step(alloc, world, places, process, rows)?;
+    Ok(gone(world, process, rest, reply))
+}
+
+// A process in a work of a recalculation is given the entry that its work waits for, or else makes a step.
+fn go_in_order(
+    alloc: Global,
+    world: &mut World,
+    places: &[Place],
+    process: usize,
+    rest: Vec<usize>,
+    rows: &mut Vec<TraceRow>,
+) -> Result<Option<Left>, NoTrace>
+    requires { IsWithin world.old (Left.DrivesInOrder process rest.entry) }
+    ensures turn { IfOk result (λ left. TakesTurn places.now (Left.DrivesInOrder process rest.entry) world.old left world.new rows.old.items rows.new.items) }
+    ensures few { OnOk result (length rows.new.items ≤ EVENT_LIMIT) }
+    ensures full { IfErr result (IsFull rows.old.items) }
+{
+    world.is_always_good();
+    if offer_own(world, process) {
+        world.is_always_good();
+        let taking = Happening::TakesEntry(process);
+        note(alloc, world, places, taking, Reply::Stepped, &[], rows)?;
+        Ok(Some(Left::DrivesInOrder { process, rest }))
+    } else {
+        step_in_order(alloc, world, places, process, rest, rows)
+    }
+}
+
 // The next event of a command.
 fn take_turn(
     alloc: Global,
@@ -130,6 +196,14 @@ fn take_turn(
             rounds,
             cell,
         } => begin_work(alloc, world, places, process, rounds, cell, rows),
+        Left::WorksInOrder {
+            process,
+            cell,
+            rest,
+        } => begin_in_order(alloc, world, places, process, cell, rest, rows),
+        Left::DrivesInOrder { process, rest } => {
+            go_in_order(alloc, world, places, process, rest, rows)
+        }
     }
 }
 
@@ -204,6 +278,22 @@ fn settle(
     play_on(alloc, world, places, left, rows)
 }
 
+// `recalc P`.
+fn recalculate(
+    alloc: Global,
+    world: &mut World,
+    places: &[Place],
+    process: usize,
+    rows: &mut Vec<TraceRow>,
+) -> Result<(), NoTrace>
+    ensures trail { OnOk result ((order : List ℕ) × IsOrderOf world.old order × Trail places.now (in_order world.old process order) world.old world.new rows.old.items rows.new.items) }
+    ensures breaks_off { IfErr result (λ why. (order : List ℕ) × IsOrderOf world.old order × BreaksOff (in_order world.old process order) world.old rows.old.items why) }
+{
+    let order = planned(alloc, world);
+    let left = in_order(world, process, order);
+    play_on(alloc, world, places, left, rows)
+}
+
 // `run P to POINT`.
 fn run_to(
     alloc: Global,
@@ -272,6 +362,7 @@ pub fn carry_out(
         Command::Whole(process, call) => whole(alloc, world, places, process, call, rows),
         Command::Begin(process, call) => begin_only(alloc, world, places, process, call, rows),
         Command::Settle(process) => settle(alloc, world, places, process, rows),
+        Command::Recalculate(process) => recalculate(alloc, world, places, process, rows),
         Command::Step(process) => {
             play(
                 alloc,

@@ -1,5 +1,5 @@
 use Rattle.ds_state.specs.declared.answer.Answer.TheVariants.{Edit, Work, Show, Recovery}
-use Rattle.ds_c.proofs.CallRuns.{replies_lead, offers_lead, evicts_lead, crashes_lead, ended_lead, migrates_lead, settles_lead}
+use Rattle.ds_c.proofs.CallRuns.{replies_lead, offers_lead, evicts_lead, crashes_lead, ended_lead, migrates_lead, settles_lead, recalculates_lead}
 use Rattle.ds_c.proofs.laws.calls_are_runs.Goals as goal
 
 pub returns-clause-events : goal.returns-clause-events
@@ -31,3 +31,6 @@ returns-clause-migrations c = migrates_lead
 
 pub returns-clause-settles : goal.returns-clause-settles
 returns-clause-settles c = settles_lead
+
+pub returns-clause-recalculations : goal.returns-clause-recalculations
+returns-clause-recalculations c = recalculates_lead

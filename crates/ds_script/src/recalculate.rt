@@ -1,0 +1,22 @@
+//! Works on the marked cells in the order of their references, then settles.
+
+ghost use Rattle.std.specs.Prelude.{ℕ, List, IfOk};
+ghost use Rattle.ds_script.specs.Doing.{IsOrderOf, in_order};
+ghost use Rattle.ds_script.specs.Plays.{Played};
+
+use crate::settle::settle;
+use crate::texts::end_bytes;
+use ds_state::world::World;
+use std::alloc::{AllocError, Global};
+
+/// Works on each cell that is marked in its turn, once, in the order of the references of the texts that the sheet shows;
+/// then settles; and the text of that. An error means that an allocation failed.
+pub fn recalculate(alloc: Global, world: &mut World, process: usize) -> Result<Vec<u8>, AllocError>
+    ensures { IfOk result (λ answer. (order : List ℕ) × IsOrderOf world.old order × Played (in_order world.old process order) world.old answer.items world.new) }
+{
+    if process >= world.words.layout().processes {
+        return settle(alloc, world, process);
+    }
+    let end = ds_recalculation::recalculation::recalculate(alloc, world, process);
+    end_bytes(alloc, world, process, end)
+}

@@ -1,0 +1,17 @@
+use Rattle.std.proofs.Common.{ℕ, List}
+use Rattle.ds_script.specs.Doing.{IsOrderOf, in_order}
+use Rattle.ds_trace.specs.Trails.{BreaksOff, Trail}
+use Rattle.ds_trace.proofs.Trails.{on_err, on_ok}
+use Rattle.ds_trace.proofs.play.recalculate.Goals as goal
+
+pub returns-clause-trail : goal.returns-clause-trail
+returns-clause-trail c =
+    on_ok c.play_on.result (Trail c.args.places.now (in_order c.args.world.now c.args.process c.planned-order.result.items) c.args.world.now c.play_on.new.world c.args.rows.now.items c.play_on.new.rows.items)
+    ((order : List ℕ) × IsOrderOf c.args.world.now order × Trail c.args.places.now (in_order c.args.world.now c.args.process order) c.args.world.now c.play_on.new.world c.args.rows.now.items c.play_on.new.rows.items)
+    (λ h. (c.planned-order.result.items, c.planned-order.ensures, h)) (c.play_on.ensures.trail (in_order c.args.world.now c.args.process c.planned-order.result.items) c.in_order-left.ensures.remains)
+
+pub returns-clause-breaks_off : goal.returns-clause-breaks_off
+returns-clause-breaks_off c =
+    on_err c.play_on.result (BreaksOff (in_order c.args.world.now c.args.process c.planned-order.result.items) c.args.world.now c.args.rows.now.items)
+    (λ why. (order : List ℕ) × IsOrderOf c.args.world.now order × BreaksOff (in_order c.args.world.now c.args.process order) c.args.world.now c.args.rows.now.items why)
+    (λ why h. (c.planned-order.result.items, c.planned-order.ensures, h)) (c.play_on.ensures.breaks_off (in_order c.args.world.now c.args.process c.planned-order.result.items) c.in_order-left.ensures.remains)
