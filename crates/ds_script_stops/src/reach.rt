@@ -205,15 +205,21 @@ pub fn go_on<'a>(
     ensures short { IfOk result (λ now. now.lines + length now.rest.now ≤ place.entry.lines + length place.entry.rest.now) }
     ensures falls { IfErr result (λ short. (script : List ℕ) → IsAt whole script place.entry world.old → FallsShort whole script last world.new short) }
 {
-    let Some(left) = place.left else {
-        return through_lines(alloc, whole, place, last, world);
-    };
     let ScriptPosition {
         lines,
         point,
+        left,
         rest,
-        ..
     } = place;
+    let Some(left) = left else {
+        let between = ScriptPosition {
+            lines,
+            point,
+            left: None,
+            rest,
+        };
+        return through_lines(alloc, whole, between, last, world);
+    };
     let begun = point.begun;
     match play(alloc, world, left, point.taken, last) {
         Played::Halted(left) => {

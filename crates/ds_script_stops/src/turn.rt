@@ -228,8 +228,8 @@ fn go(alloc: Global, world: &mut World, process: usize, until: Until) -> Command
 /// What is left of a recalculation by the process with these cells left of its order: it works on the first of them that is
 /// marked; where none is, it settles.
 pub fn in_order(world: &World, process: usize, order: Vec<usize>) -> Option<Left>
-    requires { All (λ c. c < cells_of world.now.sheet.layout) order.entry.items }
-    ensures remains { Remains result (in_order world.now process order.entry.items) }
+    requires { All (λ c. c < cells_of world.now.sheet.layout) order.items }
+    ensures remains { Remains result (in_order world.now process order.items) }
     ensures within { IfSome result (IsWithin world.now) }
 {
     let mut rest = order;
@@ -253,8 +253,8 @@ fn after_work_in_order(
     rest: Vec<usize>,
     end: WorkEnd,
 ) -> Option<Left>
-    requires { All (λ c. c < cells_of world.now.sheet.layout) rest.entry.items }
-    ensures remains { Remains result (after_work world.now process rest.entry.items (stop_of (Ok end))) }
+    requires { All (λ c. c < cells_of world.now.sheet.layout) rest.items }
+    ensures remains { Remains result (after_work world.now process rest.items (stop_of (Ok end))) }
     ensures within { IfSome result (IsWithin world.now) }
 {
     match stop_of(Ok(end)) {
@@ -265,8 +265,8 @@ fn after_work_in_order(
 
 /// What is left of a recalculation once a step of the work that it drives had this reply.
 pub fn gone(world: &World, process: usize, rest: Vec<usize>, reply: Reply) -> Option<Left>
-    requires { All (λ c. c < cells_of world.now.sheet.layout) rest.entry.items }
-    ensures remains { Remains result (gone world.now process rest.entry.items reply) }
+    requires { All (λ c. c < cells_of world.now.sheet.layout) rest.items }
+    ensures remains { Remains result (gone world.now process rest.items reply) }
     ensures within { IfSome result (IsWithin world.now) }
 {
     match reply {
@@ -278,8 +278,8 @@ pub fn gone(world: &World, process: usize, rest: Vec<usize>, reply: Reply) -> Op
 
 /// What is left of a recalculation once the beginning of a work of its had this reply.
 pub fn entered(process: usize, rest: Vec<usize>, reply: Reply) -> Option<Left>
-    ensures remains { (w : WorldValue) → Remains result (entered w process rest.entry.items reply) }
-    ensures same { IfSome result (λ next. next ≡ Left.DrivesInOrder process rest.entry) }
+    ensures remains { (w : WorldValue) → Remains result (entered w process rest.items reply) }
+    ensures same { IfSome result (λ next. next ≡ Left.DrivesInOrder process rest) }
 {
     match reply {
         Reply::Begun(_) | Reply::Entered => Some(Left::DrivesInOrder { process, rest }),
@@ -295,8 +295,8 @@ fn begin_in_order(
     cell: usize,
     rest: Vec<usize>,
 ) -> CommandTurn
-    requires { IsWithin world.old (Left.WorksInOrder process cell rest.entry) }
-    ensures { TakesTurn (Left.WorksInOrder process cell rest.entry) world.old result world.new }
+    requires { IsWithin world.old (Left.WorksInOrder process cell rest) }
+    ensures { TakesTurn (Left.WorksInOrder process cell rest) world.old result world.new }
 {
     let reply = begin(alloc, world, process, cell);
     CommandTurn {
@@ -318,8 +318,8 @@ fn is_taken(reply: Reply) -> bool
 // A process in a work of a recalculation makes a step, if it can.
 fn step_in_order(alloc: Global, world: &mut World, process: usize, rest: Vec<usize>) -> CommandTurn
     requires wants { WantsStep world.old process }
-    requires within { IsWithin world.old (Left.DrivesInOrder process rest.entry) }
-    ensures { TakesTurn (Left.DrivesInOrder process rest.entry) world.old result world.new }
+    requires within { IsWithin world.old (Left.DrivesInOrder process rest) }
+    ensures { TakesTurn (Left.DrivesInOrder process rest) world.old result world.new }
 {
     let reply = step_once(alloc, world, process);
     CommandTurn {
@@ -330,8 +330,8 @@ fn step_in_order(alloc: Global, world: &mut World, process: usize, rest: Vec<usi
 
 // A process in a work of a recalculation is offered the entry that its work waits for, or else makes a step.
 fn go_in_order(alloc: Global, world: &mut World, process: usize, rest: Vec<usize>) -> CommandTurn
-    requires { IsWithin world.old (Left.DrivesInOrder process rest.entry) }
-    ensures { TakesTurn (Left.DrivesInOrder process rest.entry) world.old result world.new }
+    requires { IsWithin world.old (Left.DrivesInOrder process rest) }
+    ensures { TakesTurn (Left.DrivesInOrder process rest) world.old result world.new }
 {
     world.is_always_good();
     if offer_own(world, process) {

@@ -122,8 +122,8 @@ fn begin_in_order(
     rest: Vec<usize>,
     rows: &mut Vec<TraceRow>,
 ) -> Result<Option<Left>, NoTrace>
-    requires { IsWithin world.old (Left.WorksInOrder process cell rest.entry) }
-    ensures turn { IfOk result (λ left. TakesTurn places.now (Left.WorksInOrder process cell rest.entry) world.old left world.new rows.old.items rows.new.items) }
+    requires { IsWithin world.old (Left.WorksInOrder process cell rest) }
+    ensures turn { IfOk result (λ left. TakesTurn places.now (Left.WorksInOrder process cell rest) world.old left world.new rows.old.items rows.new.items) }
     ensures few { OnOk result (length rows.new.items ≤ EVENT_LIMIT) }
     ensures full { IfErr result (IsFull rows.old.items) }
 {
@@ -142,8 +142,8 @@ fn step_in_order(
     rows: &mut Vec<TraceRow>,
 ) -> Result<Option<Left>, NoTrace>
     requires wants { WantsStep world.old process }
-    requires within { IsWithin world.old (Left.DrivesInOrder process rest.entry) }
-    ensures turn { IfOk result (λ left. TakesTurn places.now (Left.DrivesInOrder process rest.entry) world.old left world.new rows.old.items rows.new.items) }
+    requires within { IsWithin world.old (Left.DrivesInOrder process rest) }
+    ensures turn { IfOk result (λ left. TakesTurn places.now (Left.DrivesInOrder process rest) world.old left world.new rows.old.items rows.new.items) }
     ensures few { OnOk result (length rows.new.items ≤ EVENT_LIMIT) }
     ensures full { IfErr result (IsFull rows.old.items) }
 {
@@ -160,8 +160,8 @@ fn go_in_order(
     rest: Vec<usize>,
     rows: &mut Vec<TraceRow>,
 ) -> Result<Option<Left>, NoTrace>
-    requires { IsWithin world.old (Left.DrivesInOrder process rest.entry) }
-    ensures turn { IfOk result (λ left. TakesTurn places.now (Left.DrivesInOrder process rest.entry) world.old left world.new rows.old.items rows.new.items) }
+    requires { IsWithin world.old (Left.DrivesInOrder process rest) }
+    ensures turn { IfOk result (λ left. TakesTurn places.now (Left.DrivesInOrder process rest) world.old left world.new rows.old.items rows.new.items) }
     ensures few { OnOk result (length rows.new.items ≤ EVENT_LIMIT) }
     ensures full { IfErr result (IsFull rows.old.items) }
 {
