@@ -1,6 +1,7 @@
 -- Turns of a recalculation.
-use Rattle.std.proofs.Common.{ℕ, suc, [], ◌∷◌, length, slice_index_or, remove, ◌≡◌, ◌<◌, ◌∙◌, Bool, true, false, List, Vec, All, Some, None, refl, sym, ap, subst, lit<, arith}
+use Rattle.std.proofs.Common.{ℕ, suc, [], ◌∷◌, length, slice_index_or, remove, ◌≡◌, ◌<◌, ◌∙◌, Bool, true, false, List, All, Some, None, refl, sym, ap, subst, lit<, arith}
 use Rattle.std.specs.Prelude.{Option, IfSome}
+use Rattle.std.specs.Global.{Vec}
 use Rattle.ds_formula.specs.Cells.{cell_at}
 use Rattle.ds_eval.specs.declared.inputs.Entry.{Entry}
 use Rattle.ds_layout.specs.Places.{cells_of}
@@ -11,7 +12,7 @@ use Rattle.ds_core.specs.Takes.{Fits}
 use Rattle.ds_core.specs.declared.event.Event.{Event}
 use Rattle.ds_core.specs.declared.event.Event.TheVariants.{Step, BeginWork}
 use Rattle.ds_core.specs.declared.reply.Reply.{Reply}
-use Rattle.ds_core.specs.declared.reply.Reply.TheVariants.{Stepped, Answered}
+use Rattle.ds_core.specs.declared.reply.Reply.TheVariants.{Begun, Entered, Stepped, Answered}
 use Rattle.ds_calls.proofs.Driving.{offer_event, offer_fits}
 use Rattle.ds_script.specs.declared.drive.Until.TheVariants.{OneStep}
 use Rattle.ds_script.specs.ScriptTexts.{reply_text}
@@ -33,6 +34,12 @@ pub entered_within : (old new : WorldValue) (p cell : ℕ) (rest : Vec ℕ) (rep
 entered_within old new p cell rest reply next within fits same =
     if_some next (λ l. l ≡ left.DrivesInOrder p rest) (IsWithin new)
     (λ l is. subst (λ (x : Left). IsWithin new x) (sym is) (stays_within old new (BeginWork p (cell_at old.sheet.layout.shape cell)) reply (left.DrivesInOrder p rest) fits within.1)) same
+
+-- a work that has not begun ends the recalculation
+pub not_entered : (w : WorldValue) (p : ℕ) (rest : List ℕ) (reply : Reply) → ((n : ℕ) → reply ≡ Begun n → ⊥) → (reply ≡ Entered → ⊥) → entered w p rest reply ≡ Says (reply_text w p reply)
+not_entered w p rest (Begun n) a b = absurd (a n refl)
+not_entered w p rest Entered a b = absurd (b refl)
+not_entered w p rest reply a b = refl
 
 -- a beginning of work
 pub begins : (old new : WorldValue) (p cell : ℕ) (rest : Vec ℕ) (reply : Reply) (next : Option Left)

@@ -1,6 +1,7 @@
 -- What is left of a command after an event.
-use Rattle.std.proofs.Common.{ℕ, ◌≡◌, ◌<◌, List, Vec, [], Some, refl, sym, ap, subst}
+use Rattle.std.proofs.Common.{ℕ, ◌≡◌, ◌<◌, List, [], Some, refl, sym, ap, subst}
 use Rattle.std.specs.Prelude.{Option, IfSome}
+use Rattle.std.specs.Global.{Vec}
 use Rattle.ds_formula.specs.Cells.{cell_at}
 use Rattle.ds_eval.specs.declared.inputs.Entry.{Entry}
 use Rattle.ds_layout.specs.Places.{cells_of}
