@@ -7,6 +7,8 @@ use Rattle.ds_eval.specs.declared.inputs.Entry.{Entry}
 use Rattle.ds_layout.specs.Places.{cells_of}
 use Rattle.ds_state.specs.Value.{WorldValue, world_of, IsGood}
 use Rattle.ds_state.specs.declared.answer.Answer.{Answer}
+use Rattle.ds_state.specs.declared.answer.Answer.TheVariants.{Work}
+use Rattle.ds_state.specs.declared.work.WorkEnd.{WorkEnd}
 use Rattle.ds_work.specs.WorkTakes.{IsOffered}
 use Rattle.ds_core.specs.Takes.{Fits}
 use Rattle.ds_core.specs.declared.event.Event.{Event}
@@ -137,3 +139,14 @@ module _ (w : WorldValue) (p cell : ℕ) (order rest : List ℕ) (is : order ≡
 
   pub inside_rest : (n : ℕ) → All (λ c. c < n) order → All (λ c. c < n) rest
   inside_rest n h = λ k d l. (subst (λ (xs : List ℕ). All (λ c. c < n) xs) is h) (suc k) d (omega (arith, l))
+
+-- an answer that is none of work ends the recalculation
+pub other_answer : (w : WorldValue) (p : ℕ) (rest : List ℕ) (answer : Answer) → ((end : WorkEnd) → answer ≡ Work end → ⊥) → gone w p rest (Answered answer) ≡ Says (reply_text w p (Answered answer))
+other_answer w p rest (Work end) none = absurd (none end refl)
+other_answer w p rest answer none = refl
+
+-- so does a reply that is neither a step nor an answer
+pub other_reply : (w : WorldValue) (p : ℕ) (rest : List ℕ) (reply : Reply) → (reply ≡ Stepped → ⊥) → ((answer : Answer) → reply ≡ Answered answer → ⊥) → gone w p rest reply ≡ Says (reply_text w p reply)
+other_reply w p rest Stepped a b = absurd (a refl)
+other_reply w p rest (Answered answer) a b = absurd (b answer refl)
+other_reply w p rest reply a b = refl

@@ -6,7 +6,7 @@ ghost use Rattle.ds_script.specs.Doing.{Calls, IsOrderOf, in_order, settle};
 ghost use Rattle.ds_script_stops.specs.ScriptTurns.{IsWithin, Remains, doing_of, steps_of};
 ghost use Rattle.ds_script_stops.specs.Reaching.{Opens, OpensOrder, IsPlayed, IsCarried, taken_before};
 
-use crate::turn::{Left, after_begin, in_order, left_of, take_turn, to_point};
+use crate::turn::{CommandTurn, Left, after_begin, in_order, left_of, take_turn, to_point};
 use ds_calls::settle::first_turn;
 use ds_recalculation::recalculation::planned;
 use ds_script::carry::{begins, carry_out};
@@ -88,12 +88,15 @@ pub fn play(alloc: Global, world: &mut World, first: Left, before: u64, last: u6
     let mut taken = before;
     let mut left = first;
     'turns: loop {
-        let turn = take_turn(alloc, world, left);
-        taken = count(taken, turn.stepped);
+        let CommandTurn {
+            stepped,
+            left: after,
+        } = take_turn(alloc, world, left);
+        taken = count(taken, stepped);
         if taken == last {
-            return Played::Halted(turn.left);
+            return Played::Halted(after);
         }
-        match turn.left {
+        match after {
             Some(next) => left = next,
             None => return Played::Ended(taken),
         }

@@ -263,6 +263,23 @@ fn after_work_in_order(
     }
 }
 
+// What is left of a recalculation once the process's call had this answer.
+fn after_answer_in_order(
+    world: &World,
+    process: usize,
+    rest: Vec<usize>,
+    answer: Answer,
+) -> Option<Left>
+    requires { All (λ c. c < cells_of world.now.sheet.layout) rest.items }
+    ensures remains { Remains result (gone world.now process rest.items (Answered answer)) }
+    ensures within { IfSome result (IsWithin world.now) }
+{
+    match answer {
+        Answer::Work(end) => after_work_in_order(world, process, rest, end),
+        _ => None,
+    }
+}
+
 /// What is left of a recalculation once a step of the work that it drives had this reply.
 pub fn gone(world: &World, process: usize, rest: Vec<usize>, reply: Reply) -> Option<Left>
     requires { All (λ c. c < cells_of world.now.sheet.layout) rest.items }
@@ -271,7 +288,7 @@ pub fn gone(world: &World, process: usize, rest: Vec<usize>, reply: Reply) -> Op
 {
     match reply {
         Reply::Stepped => Some(Left::DrivesInOrder { process, rest }),
-        Reply::Answered(Answer::Work(end)) => after_work_in_order(world, process, rest, end),
+        Reply::Answered(answer) => after_answer_in_order(world, process, rest, answer),
         _ => None,
     }
 }
