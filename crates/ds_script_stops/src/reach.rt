@@ -260,7 +260,7 @@ pub fn reach(
     ensures { Reaches whole script.now last world.new result }
 {
     match go_on(alloc, whole, ScriptPosition::first(script), last, world) {
-        Ok(_) => Ok(()),
+        Ok(_place) => Ok(()),
         Err(short) => Err(short),
     }
 }
