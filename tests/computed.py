@@ -88,6 +88,17 @@ def large():
         yield by_edits
 
 
+def recalculated():
+    """Sheets against the order of their cells, which a recalculation works on in the order of the references."""
+    for name, texts, columns in sheets.sheets():
+        if name in ("chain_backwards", "chain_shuffled", "below"):
+            values = ["1"] * COUNT if name == "below" else in_order(texts)
+            given = sheets.script(texts, columns).replace("settle 0", "recalc 0")
+            done = "".join(f"{k // 256} {k % 256} done\n" for k in range(COUNT))
+            told = f"{done}clean\nsettled\n{sheets.grid(values, columns)}"
+            yield row(f"{name}, recalculated", "run", given.encode(), told.encode())
+
+
 def limits():
     """Inputs of just as many bytes, lines or edits as the limits say, and of one more."""
     lines = b"settle 0\n" + (b"#" * 511 + b"\n") * 2048
@@ -254,7 +265,7 @@ def migrations():
 
 
 def main():
-    parts = (large, limits, stops, works, refusals, records, migrations, sessions)
+    parts = (large, recalculated, limits, stops, works, refusals, records, migrations, sessions)
     return play("computed", sys.argv[1:], [it for part in parts for it in part()])
 
 

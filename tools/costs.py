@@ -1,8 +1,8 @@
 #!/usr/bin/env python3
 """Prints the table of docs/COSTS.md: of crates of crates.txt their lines of code, definitions and proofs, their edits
 (of must-fail, and of more-edits), and the processor minutes that their proofs and tests took, as read from what
-tools/gate_minutes.py wrote to these files; the last file that has a figure counts. Crates that take less than two
-minutes are left out, and so are those of less than 1,500 lines that were not measured.
+tools/gate_minutes.py wrote to these files; the last file that has a figure counts. Crates that take less than four
+minutes are left out, and so are those of less than 3,000 lines that were not measured.
     tools/costs.py FILE ..
 """
 import os
@@ -12,8 +12,8 @@ import sys
 TOP = os.path.dirname(os.path.dirname(os.path.realpath(__file__)))
 # A line of the table, which stands as it is.
 LINE = "    {:20} {:20} {:8} {:6} {}"
-LEAST_MINUTES = 2
-LEAST_LINES = 1_500
+LEAST_MINUTES = 4
+LEAST_LINES = 3_000
 ROW = re.compile(r"\| `(\w+)` \| ([\d.]+) \| ([\d.]+) \| ([\d.]+) \| ")
 
 

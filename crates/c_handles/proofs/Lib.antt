@@ -1,0 +1,5 @@
+pub mod Carried
+pub mod Crossing
+mod HeapBox
+pub mod Moved
+pub mod Walks

@@ -1,5 +1,6 @@
-//! What libraries for C share: boxes whose parts a handle can hold, and results as numbers and rows.
+//! What libraries for C share: what a handle holds, and results as numbers and rows.
 #![tactic(auto)]
 
+pub mod boxed;
 pub mod parts;
 pub mod tell;

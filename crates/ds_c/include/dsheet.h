@@ -452,7 +452,8 @@ DSHEET_FUNCTION uint32_t dsheet_world_settle(struct dsheet_world *world, size_t 
 }
 
 /* A whole work on each cell that is marked in its turn, once, in the order of the references of the texts that the sheet
- * shows; then a settle. Its end is that of a settle. Where no memory is left for the order, it settles at once. */
+ * shows; then a settle. It ends as a settle does; by DSHEET_WORK_NO_MEMORY also where memory for the order lacks, and then
+ * nothing is done. */
 DSHEET_FUNCTION uint32_t dsheet_world_recalculate(struct dsheet_world *world, size_t process,
                                                   struct dsheet_answer *answer) {
     if (!world || !answer)

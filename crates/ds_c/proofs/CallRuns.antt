@@ -10,8 +10,8 @@ use Rattle.ds_core.specs.declared.reply.Reply.TheVariants.{Evicted, Crashed}
 use Rattle.ds_calls.specs.Traces.{Leads, call_trace, settle_trace}
 use Rattle.ds_calls.specs.declared.settle.SettleStage.TheVariants.{Ends}
 use Rattle.ds_calls.proofs.Runs.{call_leads, settle_leads}
-use Rattle.ds_recalculation.specs.Recalculations.{recalculation_trace}
-use Rattle.ds_recalculation.proofs.Recalculated.{recalculation_leads}
+use Rattle.ds_recalculation.specs.Recalculations.{trace_of}
+use Rattle.ds_recalculation.proofs.Recalculated as recalculated
 use Rattle.ds_c.specs.declared.answer.AnswerRow.{AnswerRow}
 use Rattle.ds_c.specs.declared.rows.PlaceRow.{PlaceRow}
 use Rattle.ds_c.specs.Events.{evaluated, one_event, Replies, Ended, Migrates, Settles, Recalculates, Offers, Evicts, Crashes}
@@ -48,5 +48,5 @@ pub settles_lead : (p : ℕ) (old : WorldValue) (row : AnswerRow) (new : WorldVa
 settles_lead p old row new h = settle_leads p old (Ends h.end) new h.settles
 
 -- a recalculation leads on
-pub recalculates_lead : (p : ℕ) (old : WorldValue) (row : AnswerRow) (new : WorldValue) (h : Recalculates p old row new) → Leads old (recalculation_trace p h.recalculates.order old h.end new h.recalculates.ends) new
-recalculates_lead p old row new h = recalculation_leads p h.recalculates.order old h.end new h.recalculates.ends
+pub recalculates_lead : (p : ℕ) (old : WorldValue) (row : AnswerRow) (new : WorldValue) (h : Recalculates p old row new) → Leads old (trace_of p old h.end new h.recalculates) new
+recalculates_lead p old row new h = recalculated.recalculates_lead p old h.end new h.recalculates

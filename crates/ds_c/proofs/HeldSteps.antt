@@ -1,9 +1,10 @@
 -- What calls on what is held have done, put together.
 use denote.Enum.Bare.{sameb}
-use Rattle.std.proofs.Common.{ℕ, ◌≡◌, Bool, true, false, refl, subst, sym}
+use Rattle.std.proofs.Common.{ℕ, ◌≡◌, true, false, refl, sym}
 use Rattle.std.proofs.lemmas.Bool.{false≢true}
-use Rattle.std.specs.Prelude.{List, Result, Ok, Err}
+use Rattle.std.specs.Prelude.{List, Result, Err}
 use Rattle.std.specs.Arc.{arc_value}
+use Rattle.c_handles.specs.Handles.{content}
 use Rattle.ds_formula.specs.declared.cells.Cell.{Cell}
 use Rattle.ds_shared_seats.specs.Resting as resting
 use Rattle.ds_shared_seats.specs.Sheets as seats
@@ -11,12 +12,11 @@ use Rattle.ds_shared_seats.specs.declared.fault.Fault.{Fault}
 use Rattle.ds_shared_seats.specs.declared.fault.Fault.TheVariants as fault
 use Rattle.ds_shared_seats.specs.declared.resting.RestingSheet.{RestingSheet}
 use Rattle.ds_shared_seats.specs.declared.seat.Seat.{Seat}
-use Rattle.ds_shared_seats.specs.declared.sheet.OpenSheet.{OpenSheet}
 use Rattle.ds_layout.specs.Places.{words_of}
 use Rattle.ds_shared_seats.specs.contracts.fault.Fault.{the_type}
 use Rattle.ds_c.specs.Closed.{CrashesClosed, LacksClosedCell, LacksClosedText, TellsCrash, short, memory}
 use Rattle.ds_c.specs.Failures.{failure_number, failure_of}
-use Rattle.ds_c.specs.Shared.{IsClosed, IsSeat, IsSheet, LacksCellAt, OnClosed, closed}
+use Rattle.ds_c.specs.Shared.{LacksCellAt, OnClosed}
 use Rattle.ds_c.specs.declared.failure.Failure.{Failure}
 use Rattle.ds_c.specs.declared.failure.Failure.TheVariants.{TooSmall, NoMemory}
 use Rattle.ds_c.specs.declared.held.Held.{Held}
@@ -46,29 +46,6 @@ lacks_closed_text c cell fault.NoProcess h = absurd h
 lacks_closed_text c cell fault.SeatTaken h = absurd h
 lacks_closed_text c cell fault.ShortChoice h = absurd h
 
--- ---- what is held is none of these
-
--- what is held is no closed sheet where it is not one of them
-pub no_closed : (h : Held) → ((c : RestingSheet) → h ≡ held.Closed c → ⊥) → IsClosed h → ⊥
-no_closed (held.Closed c) none is = none c refl
-no_closed (held.Sheet s) none is = is
-no_closed (held.Seat s) none is = is
-no_closed held.Spent none is = is
-
--- what is held is no seat where it is not one of them
-pub no_seat : (h : Held) → ((s : Seat) → h ≡ held.Seat s → ⊥) → IsSeat h → ⊥
-no_seat (held.Seat s) none is = none s refl
-no_seat (held.Sheet s) none is = is
-no_seat (held.Closed c) none is = is
-no_seat held.Spent none is = is
-
--- what is held is no open sheet where it is not one of them
-pub no_sheet : (h : Held) → ((s : OpenSheet) → h ≡ held.Sheet s → ⊥) → IsSheet h → ⊥
-no_sheet (held.Sheet s) none is = none s refl
-no_sheet (held.Seat s) none is = is
-no_sheet (held.Closed c) none is = is
-no_sheet held.Spent none is = is
-
 -- ---- crashes that fail
 
 -- how a crash of this closed sheet was told
@@ -78,7 +55,7 @@ CrashTold choice before after number h c = (told : Result (Unit {0}) Failure) ×
 module _ {choice : List ℕ} {before after number : ℕ} {h : Held} {c c' : RestingSheet} where
   -- the choice is too short, and the number of words is told
   pub too_short : h ≡ held.Closed c → c' ≡ c → (f : Fault) → resting.CanNotCrash choice c.sheet f → sameb the_type f fault.ShortChoice ≡ true → after ≡ words_of c.sheet.layout → number ≡ failure_number (failure_of f) → CrashTold choice before after number h c'
-  too_short is same fault.ShortChoice can eq words number_is = (Err TooSmall, closed c c' is refl (short refl can same words), number_is)
+  too_short is same fault.ShortChoice can eq words number_is = (Err TooSmall, content c c' is refl (short refl can same words), number_is)
   too_short is same fault.NoMemory can eq words number_is = absurd (false≢true eq)
   too_short is same fault.NoProcess can eq words number_is = absurd can
   too_short is same fault.NoCell can eq words number_is = absurd can
@@ -86,7 +63,7 @@ module _ {choice : List ℕ} {before after number : ℕ} {h : Held} {c c' : Rest
 
   -- an allocation failed
   pub no_memory : h ≡ held.Closed c → c' ≡ c → (f : Fault) → resting.CanNotCrash choice c.sheet f → sameb the_type f fault.ShortChoice ≡ false → after ≡ before → number ≡ failure_number (failure_of f) → CrashTold choice before after number h c'
-  no_memory is same fault.NoMemory can eq words number_is = (Err NoMemory, closed c c' is refl (memory refl can same words), number_is)
+  no_memory is same fault.NoMemory can eq words number_is = (Err NoMemory, content c c' is refl (memory refl can same words), number_is)
   no_memory is same fault.ShortChoice can eq words number_is = absurd (false≢true (sym eq))
   no_memory is same fault.NoProcess can eq words number_is = absurd can
   no_memory is same fault.NoCell can eq words number_is = absurd can

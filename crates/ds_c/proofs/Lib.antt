@@ -1,7 +1,3 @@
-mod AsBox
 mod CallRuns
-mod Carried
-mod HeldBox
-mod HeldCarried
 mod HeldCrossing
 mod HeldSteps

@@ -1,36 +1,26 @@
 -- What a call does to the world that a handle holds, and what its caller gets.
 use Rattle.std.specs.Prelude.{ℕ, ◌≡◌, ◌<◌, ◌≤◌, ◌++◌, List, length, drop, Result, Ok, Err}
-use Rattle.c_handles.specs.Calls as handles
+use Rattle.c_handles.specs.Calls as calls
 pub use Rattle.c_handles.specs.Calls.{Does}
+use Rattle.c_handles.specs.Handles as handles
 use Rattle.ds_state.specs.Value.{WorldValue}
 use Rattle.ds_c.specs.declared.handle.Handle.{Handle}
 use Rattle.ds_c.specs.declared.failure.Failure.{Failure}
-use Rattle.ds_c.specs.declared.failure.Failure.TheVariants.{Empty, TooSmall}
+use Rattle.ds_c.specs.declared.failure.Failure.TheVariants.{TooSmall}
 use Rattle.ds_c.specs.Failures.{failure_number}
-use Rattle.ds_c.specs.Handles.{Holds, IsEmpty}
-
--- the call was made on the world that the handle held, and the handle holds what it led to
-pub record OnWorld {R : Type 0} (Call : WorldValue → Result R Failure → WorldValue → Type 0) (Tells : Result R Failure → ℕ → Type 0) (old new : Handle) (number : ℕ) : Type 0 where
-  pub world : WorldValue
-  pub next : WorldValue
-  pub told : Result R Failure
-  pub held : Holds old world
-  pub holds : Holds new next
-  pub does : Call world told next
-  pub tells : Tells told number
+use Rattle.ds_c.specs.Handles.{worlds}
 
 -- the call was made on the world of the handle; or the handle is empty and stays, which is the failure that its number names
-pub data OnHandle {R : Type 0} (Call : WorldValue → Result R Failure → WorldValue → Type 0) (Tells : Result R Failure → ℕ → Type 0) (old new : Handle) (number : ℕ) : Type 0 where
-  called : OnWorld Call Tells old new number → OnHandle Call Tells old new number
-  empty : IsEmpty old → new ≡ old → Tells (Err Empty) number → OnHandle Call Tells old new number
+abbrev pub OnHandle : {R : Type 0} → (WorldValue → Result R Failure → WorldValue → Type 0) → (Result R Failure → ℕ → Type 0) → Handle → Handle → ℕ → Type 0
+OnHandle Call Tells old new number = handles.OnHandle worlds Call Tells old new number
 
 -- a result as a number alone
 abbrev pub Numbers : {R : Type 0} → Result R Failure → ℕ → Type 0
-Numbers told number = handles.Numbers failure_number told number
+Numbers told number = calls.Numbers failure_number told number
 
 -- a result as a number, and as a row of the caller's
 abbrev pub Tells : {R : Type 0} → R → R → Result R Failure → ℕ → Type 0
-Tells before after told number = handles.Tells failure_number before after told number
+Tells before after told number = calls.Tells failure_number before after told number
 
 -- the items stand in the caller's buffer from its start, and what comes after them stays; or it is too small for them,
 -- and stays

@@ -62,7 +62,7 @@ pub record Settles (p : ℕ) (old : WorldValue) (row : AnswerRow) (new : WorldVa
   pub settles : Settling p old (Ends end) new
   pub row_is : row ≡ settle_row end
 
--- a recalculation of the process, in some order; the row says how it ended
+-- a recalculation of the process; the row says how it ended
 pub record Recalculates (p : ℕ) (old : WorldValue) (row : AnswerRow) (new : WorldValue) : Type 0 where
   pub end : SettleEnd
   pub recalculates : recalculations.Recalculates p old end new

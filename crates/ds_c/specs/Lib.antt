@@ -8,8 +8,6 @@ pub mod Flags
 pub mod Handles
 pub mod Holders
 pub mod Making
-pub mod Owned
-pub mod OwnedHeld
 pub mod Reading
 pub mod Rows
 pub mod Shared

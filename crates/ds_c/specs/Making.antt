@@ -1,5 +1,6 @@
 -- Worlds are made, and freed.
 use Rattle.std.specs.Prelude.{ℕ, ◌≡◌, ◌≤◌}
+use Rattle.c_handles.specs.Handles as handles
 use Rattle.ds_formula.specs.Limits.{PROCESSES_MOST}
 use Rattle.ds_formula.specs.Cells.{count_of}
 use Rattle.ds_formula.specs.Shapes.{MayHave}
@@ -10,9 +11,9 @@ use Rattle.ds_state.specs.Fresh.{IsNew}
 use Rattle.ds_layout.specs.declared.place.Edition.{Edition}
 use Rattle.ds_c.specs.declared.handle.Handle.{Handle}
 use Rattle.ds_c.specs.declared.failure.Failure.{Failure}
-use Rattle.ds_c.specs.declared.failure.Failure.TheVariants.{Empty, Full, BadShape, NoMemory}
+use Rattle.ds_c.specs.declared.failure.Failure.TheVariants.{Empty, BadShape, NoMemory}
 use Rattle.ds_c.specs.Failures.{failure_number}
-use Rattle.ds_c.specs.Handles.{Holds, IsEmpty, IsFull}
+use Rattle.ds_c.specs.Handles.{Holds, IsEmpty, worlds}
 
 -- a new and good sheet with these numbers of columns, rows and processes, in this layout, of which no call was answered
 pub record IsMade (columns rows processes : ℕ) (edition : Edition) (v : WorldValue) : Type 0 where
@@ -39,10 +40,8 @@ CanNotMake columns rows processes NoMemory = MayBe columns rows processes
 CanNotMake columns rows processes why = ⊥
 
 -- an empty handle gets a new world, in this layout; or it stays, for a cause that holds; or it is full, and stays
-pub data Makes (columns rows processes : ℕ) (edition : Edition) (old new : Handle) (number : ℕ) : Type 0 where
-  made : (v : WorldValue) → IsEmpty old → IsMade columns rows processes edition v → Holds new v → number ≡ 0 → Makes columns rows processes edition old new number
-  fails : (why : Failure) → IsEmpty old → CanNotMake columns rows processes why → new ≡ old → number ≡ failure_number why → Makes columns rows processes edition old new number
-  full : IsFull old → new ≡ old → number ≡ failure_number Full → Makes columns rows processes edition old new number
+abbrev pub Makes : ℕ → ℕ → ℕ → Edition → Handle → Handle → ℕ → Type 0
+Makes columns rows processes edition old new number = handles.Makes worlds (IsMade columns rows processes edition) (CanNotMake columns rows processes) old new number
 
 -- a handle that held a world is empty; or it was empty, and stays
 pub data Frees (old new : Handle) (number : ℕ) : Type 0 where

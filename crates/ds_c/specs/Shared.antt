@@ -1,95 +1,54 @@
 -- What calls do with what holders hold.
-use Rattle.std.specs.Prelude.{ℕ, ◌≡◌, List, [], map, Option, Result, Ok, Err, Vec, false, true}
+use Rattle.std.specs.Prelude.{ℕ, ◌≡◌, List, map, Option, Result, Vec}
 use Rattle.std.specs.Arc.{arc_value}
 use Rattle.std.specs.Global.{Global}
-use Rattle.std.specs.Mem.Slots.{slots_items}
+use Rattle.c_handles.specs.Handles as handles
 use Rattle.ds_eval.specs.declared.value.Value.{Value}
 use Rattle.ds_formula.specs.declared.cells.Cell.{Cell}
-use Rattle.ds_formula.specs.Cells.{IsInside, index_of}
-use Rattle.ds_layout.specs.SheetMemory.{memory_at}
-use Rattle.ds_state.specs.Shown.{mark_at, value_at}
-use Rattle.ds_drives.specs.Table.{two_sided}
+use Rattle.ds_formula.specs.Cells.{IsInside}
 use Rattle.ds_shared.specs.declared.ended.Ended.{Ended}
 use Rattle.ds_state.specs.declared.answer.Answer.{Answer}
 use Rattle.ds_state.specs.declared.answer.Answer.TheVariants.{Edit, Work, Show, Recovery}
 use Rattle.ds_state.specs.declared.show.ShowEnd.{ShowEnd}
 use Rattle.ds_shared.specs.declared.pass.Pass.{Pass}
-use Rattle.ds_shared.specs.declared.sheet.ClosedSheet.{ClosedSheet}
 use Rattle.ds_shared.specs.declared.sheet.SharedSheet.{SharedSheet}
 use Rattle.ds_shared_seats.specs.Calls.{Edits, Works, Recovers, Reports, last_of}
-use Rattle.ds_shared_seats.specs.Resting as resting
 use Rattle.ds_shared_seats.specs.Sheets.{IsSeatOf}
 use Rattle.ds_shared_seats.specs.declared.resting.RestingSheet.{RestingSheet}
 use Rattle.ds_shared_seats.specs.declared.seat.Seat.{Seat}
 use Rattle.ds_c.specs.declared.answer.AnswerRow.{AnswerRow}
 use Rattle.ds_c.specs.declared.failure.Failure.{Failure}
-use Rattle.ds_c.specs.declared.failure.Failure.TheVariants.{Empty, Full, NoCell, NoMemory, TooSmall, WrongHolder}
+use Rattle.ds_c.specs.declared.failure.Failure.TheVariants.{NoCell, WrongHolder}
 use Rattle.ds_c.specs.declared.held.Held.{Held}
 use Rattle.ds_c.specs.declared.held.Held.TheVariants as held
 use Rattle.ds_c.specs.declared.holder.Holder.{Holder}
-use Rattle.ds_c.specs.declared.rows.MarkRow.{MarkRow}
 use Rattle.ds_c.specs.declared.rows.ValueRow.{ValueRow}
 use Rattle.ds_c.specs.Answers.{ended_row}
-use Rattle.ds_c.specs.Calls.{Does}
-use Rattle.ds_c.specs.Failures.{failure_number}
-use Rattle.ds_c.specs.Holders.{HasHeld, HasNone, HasSome}
-use Rattle.ds_c.specs.Rows.{mark_row, value_row}
+use Rattle.ds_c.specs.Holders.{holders}
+use Rattle.ds_c.specs.Rows.{value_row}
 
 -- ---- holders
 
--- the call was made on what the holder held, and it holds what that led to
-pub record OnThing {R : Type 0} (Call : Held → Result R Failure → Held → Type 0) (Tells : Result R Failure → ℕ → Type 0) (old new : Holder) (number : ℕ) : Type 0 where
-  pub thing : Held
-  pub next : Held
-  pub told : Result R Failure
-  pub held : HasHeld old thing
-  pub holds : HasHeld new next
-  pub does : Call thing told next
-  pub tells : Tells told number
-
 -- the call was made on what the holder held; or it holds nothing and stays, which is the failure that its number names
-pub data OnHolder {R : Type 0} (Call : Held → Result R Failure → Held → Type 0) (Tells : Result R Failure → ℕ → Type 0) (old new : Holder) (number : ℕ) : Type 0 where
-  called : OnThing Call Tells old new number → OnHolder Call Tells old new number
-  empty : HasNone old → new ≡ old → Tells (Err Empty) number → OnHolder Call Tells old new number
-
--- a sheet in the hands of its owner
-abbrev pub IsSheet : Held → Type 0
-IsSheet (held.Sheet s) = Unit {0}
-IsSheet h = ⊥
-
--- a seat
-abbrev pub IsSeat : Held → Type 0
-IsSeat (held.Seat s) = Unit {0}
-IsSeat h = ⊥
-
--- a closed sheet
-abbrev pub IsClosed : Held → Type 0
-IsClosed (held.Closed c) = Unit {0}
-IsClosed h = ⊥
+abbrev pub OnHolder : {R : Type 0} → (Held → Result R Failure → Held → Type 0) → (Result R Failure → ℕ → Type 0) → Holder → Holder → ℕ → Type 0
+OnHolder Call Tells old new number = handles.OnHandle holders Call Tells old new number
 
 -- the call was made on the seat that is held; or something else is, which stays and is refused
-pub data OnSeat {R : Type 0} (Call : Seat → Result R Failure → Seat → Type 0) (old : Held) (told : Result R Failure) (new : Held) : Type 0 where
-  seat : (s s' : Seat) → old ≡ held.Seat s → new ≡ held.Seat s' → Call s told s' → OnSeat Call old told new
-  other : (IsSeat old → ⊥) → new ≡ old → told ≡ Err WrongHolder → OnSeat Call old told new
+abbrev pub OnSeat : {R : Type 0} → (Seat → Result R Failure → Seat → Type 0) → Held → Result R Failure → Held → Type 0
+OnSeat Call old told new = handles.OnKind held.Seat WrongHolder Call old told new
 
 -- the call was made on the closed sheet that is held; or something else is, which stays and is refused
-pub data OnClosed {R : Type 0} (Call : RestingSheet → Result R Failure → RestingSheet → Type 0) (old : Held) (told : Result R Failure) (new : Held) : Type 0 where
-  closed : (c c' : RestingSheet) → old ≡ held.Closed c → new ≡ held.Closed c' → Call c told c' → OnClosed Call old told new
-  other : (IsClosed old → ⊥) → new ≡ old → told ≡ Err WrongHolder → OnClosed Call old told new
+abbrev pub OnClosed : {R : Type 0} → (RestingSheet → Result R Failure → RestingSheet → Type 0) → Held → Result R Failure → Held → Type 0
+OnClosed Call old told new = handles.OnKind held.Closed WrongHolder Call old told new
 
--- what was of this kind is freed, and the holder holds nothing; or something else is held, or nothing, and stays
-pub data FreesHeld (IsKind : Held → Type 0) (old new : Holder) (number : ℕ) : Type 0 where
-  freed : (h : Held) → HasHeld old h → IsKind h → HasNone new → number ≡ 0 → FreesHeld IsKind old new number
-  other : (h : Held) → HasHeld old h → (IsKind h → ⊥) → HasHeld new h → number ≡ failure_number WrongHolder → FreesHeld IsKind old new number
-  empty : HasNone old → new ≡ old → number ≡ failure_number Empty → FreesHeld IsKind old new number
+-- a content of this kind is freed, and the holder holds nothing; or something else is held, or nothing, and stays
+abbrev pub FreesHeld : {P : Type 0} → (P → Held) → Holder → Holder → ℕ → Type 0
+FreesHeld kind old new number = handles.Frees holders kind old new number
 
 -- what a holder held becomes what another one holds that held nothing, by this; or that fails for a cause that holds, and
 -- what it held may have become something else by that; or nothing is to be moved, or nowhere to
-pub data Moves (Did : Held → Held → Type 0) (Fails : Held → Failure → Held → Type 0) (old new before after : Holder) (number : ℕ) : Type 0 where
-  moved : (h k : Held) → HasHeld old h → HasNone new → HasNone before → HasHeld after k → Did h k → number ≡ 0 → Moves Did Fails old new before after number
-  fails : (h k : Held) (why : Failure) → HasHeld old h → HasHeld new k → HasNone before → after ≡ before → Fails h why k → number ≡ failure_number why → Moves Did Fails old new before after number
-  empty : HasNone old → new ≡ old → HasNone before → after ≡ before → number ≡ failure_number Empty → Moves Did Fails old new before after number
-  full : HasSome before → new ≡ old → after ≡ before → number ≡ failure_number Full → Moves Did Fails old new before after number
+abbrev pub Moves : (Held → Held → Type 0) → (Held → Failure → Held → Type 0) → Holder → Holder → Holder → Holder → ℕ → Type 0
+Moves Did Fails old new before after number = handles.Moves holders Did Fails old new before after number
 
 -- ---- seats
 

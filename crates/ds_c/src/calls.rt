@@ -238,7 +238,7 @@ pub fn settle(alloc: Global, world: &mut World, process: usize) -> Result<Answer
     Ok(AnswerRow::of_settle(settle::settle(alloc, world, process)))
 }
 
-/// Works on each marked cell in the order of the references, and then settles.
+/// Works on each marked cell in the order of the references, and then settles. Without memory for the order it does nothing.
 pub fn recalculate(alloc: Global, world: &mut World, process: usize) -> Result<AnswerRow, Failure>
     ensures { Does (Recalculates process) (LacksProcess process) world.old result world.new }
 {

@@ -1,9 +1,10 @@
 //! Exports: closed sheets.
 
+ghost use Rattle.ds_c.specs.declared.held.Held.TheVariants.{Closed};
 ghost use Rattle.ds_c.specs.Calls.{Does, Hands, Tells};
 ghost use Rattle.ds_c.specs.Closed.{ClosedSize, ClosedValue, ClosedMark, ClosedText, CrashesClosed, TellsCrash, LacksClosedCell, LacksClosedText, NeverClosed};
 ghost use Rattle.ds_c.specs.Events.{cell_of};
-ghost use Rattle.ds_c.specs.Shared.{OnHolder, OnClosed, IsClosed, FreesHeld, Moves};
+ghost use Rattle.ds_c.specs.Shared.{OnHolder, OnClosed, FreesHeld, Moves};
 ghost use Rattle.ds_c.specs.Sheets.{Opens, OpensNot};
 
 use crate::failure::Failure;
@@ -134,7 +135,7 @@ pub extern "C" fn ds_c_closed_reopen(alloc: Global, closed: &mut Holder, sheet: 
 /// Gives the memory of a closed sheet back. The holder holds nothing then.
 #[unsafe(no_mangle)]
 pub extern "C" fn ds_c_closed_free(alloc: Global, closed: &mut Holder) -> u32
-    ensures { FreesHeld IsClosed closed.old closed.new result }
+    ensures { FreesHeld Closed closed.old closed.new result }
 {
     let Some(held) = closed.take(alloc) else {
         return Failure::Empty.number();

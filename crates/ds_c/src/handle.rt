@@ -1,63 +1,54 @@
 //! Handles: what a C program has of a world.
 
-ghost use Rattle.std.specs.Prelude.{◌≡◌, IsTrue, IsFalse, IsSome, IfSome, IfNone, Some, None, Option};
+ghost use Rattle.std.specs.Prelude.{◌≡◌, IsTrue, IsFalse, IsSome, IfSome, IfNone, Option};
+ghost use Rattle.std.specs.Coded.{coded_option};
+ghost use Rattle.c_handles.specs.Owned.{boxed_owns};
+ghost use Rattle.ds_state.specs.contracts.world.World.{the_row};
 ghost use Rattle.ds_state.specs.Value.{WorldValue};
 ghost use Rattle.ds_c.specs.declared.handle.TheConstants.{HELD};
-ghost use Rattle.ds_c.specs.Owned.{state_owns, world_coded};
 
-use c_handles::parts::Parts;
+use c_handles::boxed::Boxed;
 use ds_state::world::World;
 use std::alloc::Global;
 use std::marker::Model;
-use std::ptr;
 
 /// The first word of a handle that holds a world: "dsheet" and a version. One that was filled with zeros, or whose
 /// world was freed, does not have it.
 pub const HELD: u64 = 0x6473_6865_6574_0001;
 
-/// A world in a box, or nothing, under a pointer that names no type: no type that owns memory may cross to C.
+/// A world, or none, under a pointer that names no type: no type that owns memory may cross to C.
 #[repr(C)]
 #[derive(Drop)]
 pub struct BoxedWorld {
     at: *mut u8,
     alloc: Global,
-    pub ghost value: { Option WorldValue } by { world_coded },
+    pub ghost value: { Option WorldValue } by { coded_option the_row.coded },
 }
 
 impl Model for BoxedWorld {
-    ghost also_owns = { λ s. state_owns s.alloc s.at s.value };
+    ghost also_owns = { λ s. boxed_owns the_row s.alloc s.at s.value };
 }
 
-// A state goes where its world may go.
+// It goes where its world may go.
 unsafe impl Send for BoxedWorld {}
 
 impl BoxedWorld {
-    fn of_parts(parts: Parts<World, Global>) -> BoxedWorld
-        ensures { result.value ≡ Some parts.value }
+    fn of_boxed(boxed: Boxed<World>) -> BoxedWorld
+        ensures { result.value ≡ boxed.value }
     {
-        let Parts { ptr, alloc } = parts;
+        let Boxed { at, alloc } = boxed;
         BoxedWorld {
-            at: ptr as *mut u8,
+            at: at as *mut u8,
             alloc,
         }
     }
 
-    fn into_parts(self) -> Parts<World, Global>
-        requires { IsSome self.value }
-        ensures { Some result.value ≡ self.value }
+    fn into_boxed(self) -> Boxed<World>
+        ensures { result.value ≡ self.value }
     {
         let BoxedWorld { at, alloc } = self;
-        Parts {
-            ptr: at as *mut World,
-            alloc,
-        }
-    }
-
-    fn empty(alloc: Global) -> BoxedWorld
-        ensures { result.value ≡ None }
-    {
-        BoxedWorld {
-            at: ptr::null_mut(),
+        Boxed {
+            at: at as *mut World,
             alloc,
         }
     }
@@ -81,7 +72,7 @@ impl Handle {
     {
         Handle {
             held: HELD,
-            state: BoxedWorld::of_parts(Parts::of(world)),
+            state: BoxedWorld::of_boxed(Boxed::of(world)),
         }
     }
 
@@ -91,7 +82,7 @@ impl Handle {
     {
         Handle {
             held: 0,
-            state: BoxedWorld::empty(alloc),
+            state: BoxedWorld::of_boxed(Boxed::empty(alloc)),
         }
     }
 
@@ -112,6 +103,6 @@ impl Handle {
             return None;
         }
         let Handle { held: _, state } = std::mem::replace(self, Handle::empty(alloc));
-        Some(state.into_parts().into_box())
+        Some(state.into_boxed().into_box())
     }
 }

@@ -1,62 +1,53 @@
 //! Holders: what a C program has of a sheet that threads share, of a seat, or of a closed sheet.
 
-ghost use Rattle.std.specs.Prelude.{◌≡◌, IsTrue, IsFalse, IsSome, IfSome, IfNone, Some, None, Option};
+ghost use Rattle.std.specs.Prelude.{◌≡◌, IsTrue, IsFalse, IsSome, IfSome, IfNone, Option};
+ghost use Rattle.std.specs.Coded.{coded_option};
+ghost use Rattle.c_handles.specs.Owned.{boxed_owns};
+ghost use Rattle.ds_c.specs.contracts.held.Held.{the_row};
 ghost use Rattle.ds_c.specs.declared.held.Held.{Held};
 ghost use Rattle.ds_c.specs.declared.holder.TheConstants.{FULL};
-ghost use Rattle.ds_c.specs.OwnedHeld.{held_owns, held_coded};
 
 use crate::held::Held;
-use c_handles::parts::Parts;
+use c_handles::boxed::Boxed;
 use std::alloc::Global;
 use std::marker::Model;
-use std::ptr;
 
 /// The first word of a holder that holds something: "dsheet" and a version. It is not that of a `Handle`.
 pub const FULL: u64 = 0x6473_6865_6574_0002;
 
-/// What is held, in a box, or nothing, under a pointer that names no type: no type that owns memory may cross to C.
+/// What is held, or nothing, under a pointer that names no type: no type that owns memory may cross to C.
 #[repr(C)]
 #[derive(Drop)]
 pub struct BoxedHeld {
     at: *mut u8,
     alloc: Global,
-    pub ghost value: { Option Held } by { held_coded },
+    pub ghost value: { Option Held } by { coded_option the_row.coded },
 }
 
 impl Model for BoxedHeld {
-    ghost also_owns = { λ s. held_owns s.alloc s.at s.value };
+    ghost also_owns = { λ s. boxed_owns the_row s.alloc s.at s.value };
 }
 
-// A state goes where what is held may go.
+// It goes where what is held may go.
 unsafe impl Send for BoxedHeld {}
 
 impl BoxedHeld {
-    fn of_parts(parts: Parts<Held, Global>) -> BoxedHeld
-        ensures { result.value ≡ Some parts.value }
+    fn of_boxed(boxed: Boxed<Held>) -> BoxedHeld
+        ensures { result.value ≡ boxed.value }
     {
-        let Parts { ptr, alloc } = parts;
+        let Boxed { at, alloc } = boxed;
         BoxedHeld {
-            at: ptr as *mut u8,
+            at: at as *mut u8,
             alloc,
         }
     }
 
-    fn into_parts(self) -> Parts<Held, Global>
-        requires { IsSome self.value }
-        ensures { Some result.value ≡ self.value }
+    fn into_boxed(self) -> Boxed<Held>
+        ensures { result.value ≡ self.value }
     {
         let BoxedHeld { at, alloc } = self;
-        Parts {
-            ptr: at as *mut Held,
-            alloc,
-        }
-    }
-
-    fn empty(alloc: Global) -> BoxedHeld
-        ensures { result.value ≡ None }
-    {
-        BoxedHeld {
-            at: ptr::null_mut(),
+        Boxed {
+            at: at as *mut Held,
             alloc,
         }
     }
@@ -81,7 +72,7 @@ impl Holder {
     {
         Holder {
             held: FULL,
-            state: BoxedHeld::of_parts(Parts::of(held)),
+            state: BoxedHeld::of_boxed(Boxed::of(held)),
         }
     }
 
@@ -91,7 +82,7 @@ impl Holder {
     {
         Holder {
             held: 0,
-            state: BoxedHeld::empty(alloc),
+            state: BoxedHeld::of_boxed(Boxed::empty(alloc)),
         }
     }
 
@@ -112,6 +103,6 @@ impl Holder {
             return None;
         }
         let Holder { held: _, state } = std::mem::replace(self, Holder::empty(alloc));
-        Some(state.into_parts().into_box())
+        Some(state.into_boxed().into_box())
     }
 }

@@ -12,7 +12,7 @@ ghost use Rattle.ds_core.specs.declared.reply.Reply.TheVariants.{Evicted, Crashe
 ghost use Rattle.ds_state.specs.declared.answer.Answer.TheVariants.{Edit, Work, Show, Recovery, Migration};
 ghost use Rattle.ds_calls.specs.Traces.{Trace, Leads, both, call_trace, settle_trace};
 ghost use Rattle.ds_calls.specs.declared.settle.SettleStage.TheVariants.{Ends};
-ghost use Rattle.ds_recalculation.specs.Recalculations.{recalculation_trace};
+ghost use Rattle.ds_recalculation.specs.Recalculations.{trace_of};
 ghost use Rattle.ds_c.specs.declared.answer.AnswerRow.{AnswerRow};
 ghost use Rattle.ds_c.specs.declared.rows.PlaceRow.{PlaceRow};
 ghost use Rattle.ds_c.specs.Making.{IsMade};
@@ -43,7 +43,7 @@ pub fn calls_are_runs()
     ensures settles { (p : ℕ) (old : WorldValue) (row : AnswerRow) (new : WorldValue) (h : Settles p old row new)
         → Leads old (settle_trace p old (Ends h.end) new h.settles) new }
     ensures recalculations { (p : ℕ) (old : WorldValue) (row : AnswerRow) (new : WorldValue) (h : Recalculates p old row new)
-        → Leads old (recalculation_trace p h.recalculates.order old h.end new h.recalculates.ends) new }
+        → Leads old (trace_of p old h.end new h.recalculates) new }
 {}
 
 /// Two runs, one after the other, are a run: of the events of the first, then those of the second.

@@ -1,8 +1,9 @@
 //! Exports: seats.
 
+ghost use Rattle.ds_c.specs.declared.held.Held.TheVariants.{Seat};
 ghost use Rattle.ds_c.specs.Calls.{Does, Hands, Tells};
 ghost use Rattle.ds_c.specs.Events.{cell_of};
-ghost use Rattle.ds_c.specs.Shared.{OnHolder, OnSeat, IsSeat, FreesHeld, SeatEdits, SeatWorks, SeatRecovers, SeatReports, SeatShows, LacksCellAt, NeverAt};
+ghost use Rattle.ds_c.specs.Shared.{OnHolder, OnSeat, FreesHeld, SeatEdits, SeatWorks, SeatRecovers, SeatReports, SeatShows, LacksCellAt, NeverAt};
 
 use crate::answer::AnswerRow;
 use crate::failure::Failure;
@@ -114,7 +115,7 @@ pub extern "C" fn ds_c_seat_values(
 /// The seat goes back to its sheet, and can be taken again. The holder holds nothing then.
 #[unsafe(no_mangle)]
 pub extern "C" fn ds_c_seat_free(alloc: Global, seat: &mut Holder) -> u32
-    ensures { FreesHeld IsSeat seat.old seat.new result }
+    ensures { FreesHeld Seat seat.old seat.new result }
 {
     let Some(mut held) = seat.take(alloc) else {
         return Failure::Empty.number();

@@ -1,6 +1,7 @@
 //! Exports: sheets that threads share, in the hands of their owner.
 
-ghost use Rattle.ds_c.specs.Shared.{FreesHeld, IsSheet, Moves};
+ghost use Rattle.ds_c.specs.declared.held.Held.TheVariants.{Sheet};
+ghost use Rattle.ds_c.specs.Shared.{FreesHeld, Moves};
 ghost use Rattle.ds_c.specs.Sheets.{MakesSheet, TakesSeat, Closes, ClosesNot};
 
 use crate::failure::Failure;
@@ -86,7 +87,7 @@ pub extern "C" fn ds_c_sheet_close(alloc: Global, sheet: &mut Holder, closed: &m
 /// The owner lets the sheet go. Its memory is given back once its seats are freed, too. The holder holds nothing then.
 #[unsafe(no_mangle)]
 pub extern "C" fn ds_c_sheet_free(alloc: Global, sheet: &mut Holder) -> u32
-    ensures { FreesHeld IsSheet sheet.old sheet.new result }
+    ensures { FreesHeld Sheet sheet.old sheet.new result }
 {
     let Some(held) = sheet.take(alloc) else {
         return Failure::Empty.number();

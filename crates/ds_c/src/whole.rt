@@ -130,7 +130,8 @@ pub extern "C" fn ds_c_world_settle(
     tell(told, answer)
 }
 
-/// Works on each marked cell in the order of the references, and then settles, by whole works of a process.
+/// Works on each marked cell in the order of the references, and then settles, by whole works of a process; it does nothing
+/// without memory for the order.
 #[unsafe(no_mangle)]
 pub extern "C" fn ds_c_world_recalculate(
     alloc: Global,

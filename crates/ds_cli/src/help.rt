@@ -45,6 +45,7 @@ Commands, one a line. P is a process, from 0; C is a cell, as A1.
   set P C TEXT                   an edit: sets the text of a cell
   work P C                       works on a cell that is marked, and gives it its value
   settle P                       works until no cell is marked
+  recalc P                       the same, first in the order of the references
   report P                       shows all values as CSV
   recover P                      tells, after a crash or a stop, whether its last edit counts
   migrate P                      takes a sheet of layout 1 to layout 2, where all processes have stopped

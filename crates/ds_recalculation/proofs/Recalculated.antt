@@ -27,7 +27,8 @@ use Rattle.ds_calls.specs.Traces.{Leads, call_trace, settle_trace}
 use Rattle.ds_calls.proofs.Runs.{both_lead, call_leads, settle_leads, whole_runs, run_keeps_layout}
 use Rattle.ds_calls.proofs.LoneFacts.{CallLeft, wanted, lacked, worked_so, whole_left}
 use Rattle.ds_calls.proofs.LoneSettles.{settles_clean}
-use Rattle.ds_recalculation.specs.Recalculations.{IsPlanned, Ordered, begins, passes, works, TakesTurn, passes_it, works_on_it, Stops, stop_of, EndsInOrder, Recalculates, order_trace, recalculation_trace}
+use Rattle.ds_order.specs.Orders.{IsOrder}
+use Rattle.ds_recalculation.specs.Recalculations.{Ordered, begins, passes, works, TakesTurn, passes_it, works_on_it, Stops, stop_of, EndsInOrder, Recalculates, lacks_order, recalculates, order_trace, recalculation_trace, trace_of}
 
 -- ---- runs
 
@@ -46,6 +47,11 @@ recalculation_leads p order first end new (inl s) =
 recalculation_leads p order first end new (inr s) =
     both_lead (order_trace p order first [] s.mid s.all) (settle_trace p s.mid (Ends end) new s.settling) first s.mid new
     (order_leads p order first [] s.mid s.all) (settle_leads p s.mid (Ends end) new s.settling)
+
+-- so do they where it may have lacked its order
+pub recalculates_lead : (p : ℕ) (first : WorldValue) (end : SettleEnd) (new : WorldValue) → (h : Recalculates p first end new) → Leads first (trace_of p first end new h) new
+recalculates_lead p first end new lacks_order = refl
+recalculates_lead p first end new (recalculates order e n is ends) = recalculation_leads p order first end new ends
 
 -- a whole work keeps the layout
 pub work_keeps_layout : (p cell : ℕ) (old : WorldValue) (result : Result WorkEnd Refusal) (new : WorldValue) → Whole Work p (BeginWork p (cell_at old.sheet.layout.shape cell)) old result new
@@ -170,28 +176,22 @@ module _ (p : ℕ) (first : WorldValue) (good : IsGood first) (there : HasProces
       stops_clean s.cell s.old s.result end new (left_of s.cell s.rest s.old s.result new (alone order (s.cell ∷ s.rest) s.old h s.so_far) s.marked s.whole) s.stop_is
   ends_clean order end new h (inr s) = settles_alone end s.mid new (alone order [] s.mid h s.all) s.settling
 
-  begins_alone : AreIdle (world_of first) → AreYoung (world_of first) (2 * cells_of first.sheet.layout + 2) → (order : List ℕ) → IsPlanned (cells_of first.sheet.layout) order → Lone order first
-  begins_alone idle young order (inl o) = record {
+  begins_alone : AreIdle (world_of first) → AreYoung (world_of first) (2 * cells_of first.sheet.layout + 2) → (order : List ℕ) → IsOrder (cells_of first.sheet.layout) order → Lone order first
+  begins_alone idle young order o = record {
     good = good;
     layout_is = refl;
     idle = idle;
     young = λ c l. (let y = young.each c l in let n = o.count in omega (arith, y, n));
     inside = o.below;
   }
-  begins_alone idle young order (inr none) = subst (λ (xs : List ℕ). Lone xs first) (sym none) (record {
-    good = good;
-    layout_is = refl;
-    idle = idle;
-    young = λ c l. (let y = young.each c l in omega (arith, y));
-    inside = λ k d l. absurd (omega (arith, l));
-  })
 
--- the cells of an order are some of the sheet
-pub planned_inside : (cells : ℕ) (order : List ℕ) → IsPlanned cells order → All (λ c. c < cells) order
-planned_inside cells order (inl o) = o.below
-planned_inside cells order (inr none) = subst (λ (xs : List ℕ). All (λ c. c < cells) xs) (sym none) (λ k d l. absurd (omega (arith, l)))
+-- a recalculation in an order, where each process is idle and marks are young, ends clean, or out of memory
+pub ends_in_order_clean : (p : ℕ) (order : List ℕ) (old : WorldValue) (end : SettleEnd) (new : WorldValue) → IsGood old → HasProcess old p → AreIdle (world_of old) → AreYoung (world_of old) (2 * cells_of old.sheet.layout + 2)
+    → IsOrder (cells_of old.sheet.layout) order → EndsInOrder p order old end new → EndsClean (world_of new) end
+ends_in_order_clean p order old end new good there idle young is ends = ends_clean p old good there order end new (begins_alone p old good there idle young order is) ends
 
--- a recalculation where each process is idle and marks are young ends clean, or out of memory
+-- so does any
 pub recalculates_clean : (p : ℕ) (old : WorldValue) (end : SettleEnd) (new : WorldValue) → IsGood old → HasProcess old p → AreIdle (world_of old) → AreYoung (world_of old) (2 * cells_of old.sheet.layout + 2)
     → Recalculates p old end new → EndsClean (world_of new) end
-recalculates_clean p old end new good there idle young h = ends_clean p old good there h.order end new (begins_alone p old good there idle young h.order h.planned) h.ends
+recalculates_clean p old end new good there idle young lacks_order = tt
+recalculates_clean p old end new good there idle young (recalculates order e n is ends) = ends_in_order_clean p order old end new good there idle young is ends

@@ -18,10 +18,6 @@ use Rattle.ds_calls.specs.Whole.{Whole, KeepsFree}
 use Rattle.ds_calls.specs.Settling.{Settling}
 use Rattle.ds_calls.specs.Traces.{Trace, no_trace, both, call_trace, settle_trace}
 
--- what a recalculation may take for its order on a sheet of as many cells: each cell once, or none
-abbrev pub IsPlanned : ℕ → List ℕ → Type 0
-IsPlanned cells order = IsOrder cells order ⊎ (order ≡ [])
-
 -- how a recalculation ends by a work that ended so: where the begin was refused or an allocation failed; else it goes on
 abbrev pub stop_of : Result WorkEnd Refusal → Option SettleEnd
 stop_of (Err why) = Some (Refused why)
@@ -72,11 +68,12 @@ pub record Settles (p : ℕ) (order : List ℕ) (first : WorldValue) (end : Sett
 abbrev pub EndsInOrder : ℕ → List ℕ → WorldValue → SettleEnd → WorldValue → Type 0
 EndsInOrder p order first end new = Stops p order first end new ⊎ Settles p order first end new
 
--- a recalculation by the process, in some order, ends so
-pub record Recalculates (p : ℕ) (first : WorldValue) (end : SettleEnd) (new : WorldValue) : Type 0 where
-  pub order : List ℕ
-  pub planned : IsPlanned (cells_of first.sheet.layout) order
-  pub ends : EndsInOrder p order first end new
+-- a recalculation by the process ends so: it lacks the memory for its order, and has done nothing; or it has worked in an
+-- order with each cell once
+pub data Recalculates (p : ℕ) (first : WorldValue) : SettleEnd → WorldValue → Type 0 where
+  lacks_order : Recalculates p first NoMemory first
+  recalculates : (order : List ℕ) (end : SettleEnd) (new : WorldValue) → IsOrder (cells_of first.sheet.layout) order → EndsInOrder p order first end new
+      → Recalculates p first end new
 
 -- ---- its events
 
@@ -91,3 +88,8 @@ order_trace p order first rest new (works cell r old result n so_far marked whol
 abbrev pub recalculation_trace : (p : ℕ) (order : List ℕ) (first : WorldValue) (end : SettleEnd) (new : WorldValue) → EndsInOrder p order first end new → Trace
 recalculation_trace p order first end new (inl s) = both (order_trace p order first (s.cell ∷ s.rest) s.old s.so_far) (call_trace _ p _ s.old s.result new s.whole)
 recalculation_trace p order first end new (inr s) = both (order_trace p order first [] s.mid s.all) (settle_trace p s.mid (Ends end) new s.settling)
+
+-- the same, whether it had an order or not
+abbrev pub trace_of : (p : ℕ) (first : WorldValue) (end : SettleEnd) (new : WorldValue) → Recalculates p first end new → Trace
+trace_of p first end new lacks_order = no_trace
+trace_of p first end new (recalculates order e n is ends) = recalculation_trace p order first end new ends

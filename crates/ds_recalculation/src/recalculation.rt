@@ -9,7 +9,7 @@ ghost use Rattle.ds_core.specs.declared.event.Event.TheVariants.{BeginWork};
 ghost use Rattle.ds_calls.specs.Marked.{state_at, is_marked};
 ghost use Rattle.ds_calls.specs.Whole.{HasProcess, IsWhole, KeepsFree};
 ghost use Rattle.ds_order.specs.Orders.{IsOrder};
-ghost use Rattle.ds_recalculation.specs.Recalculations.{IsPlanned, Ordered, Recalculates, Stops, TakesTurn, WorksOn, stop_of};
+ghost use Rattle.ds_recalculation.specs.Recalculations.{EndsInOrder, Ordered, Recalculates, Stops, TakesTurn, WorksOn, stop_of};
 
 use crate::references::ShownReferences;
 use ds_calls::call::whole_work;
@@ -44,22 +44,13 @@ pub fn stop_of(answered: Result<WorkEnd, Refusal>) -> Option<SettleEnd>
     }
 }
 
-fn ordered(alloc: Global, world: &World) -> Result<Vec<usize>, AllocError>
+/// The order of a recalculation: the cells by their numbers, each once, after those that the text that it shows refers to
+/// where no references run in a circle. An error is that an allocation failed.
+pub fn planned(alloc: Global, world: &World) -> Result<Vec<usize>, AllocError>
     ensures { IfOk result (λ order. IsOrder (cells_of world.now.sheet.layout) order.items) }
 {
     let references = ShownReferences::of(alloc, world)?;
     order(alloc, &references, world.words.layout().cells())
-}
-
-/// The order of a recalculation: the cells by their numbers, each after those that the text that it shows refers to, where
-/// no references run in a circle; no cell, where an allocation failed.
-pub fn planned(alloc: Global, world: &World) -> Vec<usize>
-    ensures { IsPlanned (cells_of world.now.sheet.layout) result.items }
-{
-    match ordered(alloc, world) {
-        Ok(order) => order,
-        Err(_) => Vec::new(alloc),
-    }
 }
 
 // A whole work on the cell with this number.
@@ -122,19 +113,40 @@ fn work_in_order(
     None
 }
 
-/// Works on each cell that is marked in its turn, once, in the order of the references, and then settles; each work is
-/// a whole one by a process of the sheet. Where an allocation for the order fails, it settles at once.
+/// Works on each cell that is marked in its turn, in this order, and then settles; each work is a whole one by a process of
+/// the sheet.
 ///
 /// It ends as a settle does: by how many cells are marked or held; or by a work whose begin was refused, or that lacked
 /// memory.
+pub fn recalculate_in(
+    alloc: Global,
+    world: &mut World,
+    process: usize,
+    order: &[usize],
+) -> SettleEnd
+    requires process { HasProcess world.old process }
+    requires inside { All (λ cell. cell < cells_of world.old.sheet.layout) order.now }
+    ensures ends { EndsInOrder process order.now world.old result world.new }
+    ensures free { KeepsFree process world.old world.new }
+{
+    match work_in_order(alloc, world, process, order) {
+        Some(end) => end,
+        None => settle(alloc, world, process),
+    }
+}
+
+/// Works on each cell that is marked in its turn, once, in the order of the references, and then settles; each work is
+/// a whole one by a process of the sheet.
+///
+/// It ends as a settle does: by how many cells are marked or held; or by a work whose begin was refused, or that lacked
+/// memory. So it ends too where the memory for the order lacks: then it has done nothing.
 pub fn recalculate(alloc: Global, world: &mut World, process: usize) -> SettleEnd
     requires { HasProcess world.old process }
     ensures recalculates { Recalculates process world.old result world.new }
     ensures free { KeepsFree process world.old world.new }
 {
-    let order = planned(alloc, world);
-    match work_in_order(alloc, world, process, order.as_slice()) {
-        Some(end) => end,
-        None => settle(alloc, world, process),
+    match planned(alloc, world) {
+        Ok(order) => recalculate_in(alloc, world, process, order.as_slice()),
+        Err(_) => SettleEnd::NoMemory,
     }
 }

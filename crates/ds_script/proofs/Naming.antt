@@ -1,5 +1,5 @@
 -- The first of some things that a word names.
-use Rattle.std.proofs.Common.{◌≡◌, ◌<◌, ◌≤◌, ℕ, zero, suc, List, [], ◌∷◌, length, Option, Some, None, true, false, drop, slice_index_or, if◌then◌else◌, refl, arith}
+use Rattle.std.proofs.Common.{◌≡◌, ◌<◌, ◌≤◌, ℕ, zero, suc, List, [], ◌∷◌, length, Some, None, true, false, drop, slice_index_or, refl, arith}
 use Rattle.std.specs.Str.{bytes_eq}
 use Rattle.ds_script.specs.Named.{named_in}
 

@@ -6,9 +6,8 @@ use Rattle.ds_state.specs.Value.{WorldValue}
 use Rattle.ds_core.specs.Takes.{Fits, WorldRun}
 use Rattle.ds_core.specs.declared.event.Event.{Event}
 use Rattle.ds_core.specs.declared.reply.Reply.{Reply}
-use Rattle.ds_script.specs.declared.drive.Until.{Until}
-use Rattle.ds_script.specs.Doing.{Doing, Says, Drives, asks, told}
-use Rattle.ds_script.specs.Plays.{Plays, Leads, Played, GoesOn}
+use Rattle.ds_script.specs.Doing.{Doing, Says, asks, told}
+use Rattle.ds_script.specs.Plays.{Plays, Leads, Played}
 
 -- two plays of a command, one after the other, are a play
 pub plays_on : (events : List Event) (replies : List Reply) (events' : List Event) (replies' : List Reply) (a b c : Doing) (old mid new : WorldValue)
@@ -48,10 +47,6 @@ leads_from a b c old new is h = subst (λ (d : Doing). Leads d old c new) (sym i
 -- one event
 pub one : (a b : Doing) (old new : WorldValue) (event : Event) (reply : Reply) → asks a old ≡ Some event → Fits old event reply new → told a event reply new ≡ b → Leads a old b new
 one a b old new event reply asked fits is = record { events = event ∷ []; replies = reply ∷ []; plays = (new, asked, fits, (sym is, refl)) }
-
--- one event that leaves a process driven on leads the command from where it stands to there
-pub goes : (old new : WorldValue) (p : ℕ) (until : Until) → GoesOn old p until new → Leads (Drives p until) old (Drives p until) new
-goes old new p until h = one (Drives p until) (Drives p until) old new h.event h.reply h.asked h.fits h.on
 
 -- ---- texts
 

@@ -1,5 +1,5 @@
 -- A whole recovery of a stopped process that is played to its end leaves the process idle, and the others as they were.
-use Rattle.std.proofs.Common.{ℕ, ◌≡◌, ◌≢◌, ◌<◌, List, [], ◌∷◌, refl, ap, sym, ◌∙◌, subst, Some, None}
+use Rattle.std.proofs.Common.{ℕ, ◌≡◌, ◌≢◌, List, [], ◌∷◌, ap, sym, ◌∙◌, subst, Some, None}
 use Rattle.ds_state.specs.Works.{PlainRecoverCall}
 use Rattle.ds_state.specs.Value.{WorldValue, world_of, IsGood}
 use Rattle.ds_state.specs.declared.situation.Situation.{Situation}
@@ -27,7 +27,7 @@ use Rattle.ds_core.proofs.Turns.{recovery_turn}
 use Rattle.ds_calls.specs.Wanted.{wants, wanted}
 use Rattle.ds_calls.specs.Whole.{HasProcess}
 use Rattle.ds_script.specs.declared.drive.Until.TheVariants.{ToAnswer}
-use Rattle.ds_script.specs.Doing.{Doing, Says, Calls, Drives, asks, told}
+use Rattle.ds_script.specs.Doing.{Says, Calls, Drives, told}
 use Rattle.ds_script.specs.Plays.{Plays}
 
 -- the process is idle now, and nobody else did anything

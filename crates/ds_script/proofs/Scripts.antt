@@ -15,7 +15,6 @@ use Rattle.ds_script_io.specs.declared.input.InputEnd.{InputEnd}
 use Rattle.ds_script_io.specs.ScriptLines.{AtFront, ALine, next_of}
 use Rattle.ds_script_io.proofs.Known.{Appends-both}
 use Rattle.ds_script.specs.declared.order.Begun.{Begun}
-use Rattle.ds_script.specs.declared.order.Begun.TheVariants as begun
 use Rattle.ds_script.specs.declared.script.Hindrance.{Hindrance}
 use Rattle.ds_script.specs.declared.script.Hindrance.TheVariants as hindrances
 use Rattle.ds_script.specs.declared.script.Break.{Break}
@@ -33,22 +32,22 @@ pub carried_runs : (whole : Bool) (script : List ℕ) (lines : ℕ) (p : Progres
 carried_runs whole script lines p out rest (begins w made) = refl
 carried_runs whole script lines p out rest (skips n q o r line behind before next asks) = carried_runs whole script n q o r before
 carried_runs whole script lines p out rest (makes n q o r line behind first columns rows processes edition w before next asks made) = refl
-carried_runs whole script lines p out rest (obeys n q o r line behind deed events replies answer new before next asks plays) =
-    run_both q.events q.replies events replies q.start q.world new (carried_runs whole script n q o r before) (play_runs events replies (plan q.world deed) (Says answer) q.world new plays)
+carried_runs whole script lines p out rest (obeys n q o r line behind deed order events replies answer new before next asks planned plays) =
+    run_both q.events q.replies events replies q.start q.world new (carried_runs whole script n q o r before) (play_runs events replies (plan q.world order deed) (Says answer) q.world new plays)
 
 -- the world that a point of a script began in is new
 pub carried_new : (whole : Bool) (script : List ℕ) (lines : ℕ) (p : Progress) (out rest : List ℕ) → Carried whole script lines p out rest → IsNew (world_of p.start)
 carried_new whole script lines p out rest (begins w made) = made.new
 carried_new whole script lines p out rest (skips n q o r line behind before next asks) = carried_new whole script n q o r before
 carried_new whole script lines p out rest (makes n q o r line behind first columns rows processes edition w before next asks made) = made.new
-carried_new whole script lines p out rest (obeys n q o r line behind deed events replies answer new before next asks plays) = carried_new whole script n q o r before
+carried_new whole script lines p out rest (obeys n q o r line behind deed order events replies answer new before next asks planned plays) = carried_new whole script n q o r before
 
 -- the world that a point of a script began in is good
 pub carried_good : (whole : Bool) (script : List ℕ) (lines : ℕ) (p : Progress) (out rest : List ℕ) → Carried whole script lines p out rest → IsGood p.start
 carried_good whole script lines p out rest (begins w made) = made.good
 carried_good whole script lines p out rest (skips n q o r line behind before next asks) = carried_good whole script n q o r before
 carried_good whole script lines p out rest (makes n q o r line behind first columns rows processes edition w before next asks made) = made.good
-carried_good whole script lines p out rest (obeys n q o r line behind deed events replies answer new before next asks plays) = carried_good whole script n q o r before
+carried_good whole script lines p out rest (obeys n q o r line behind deed order events replies answer new before next asks planned plays) = carried_good whole script n q o r before
 
 -- the run up to a point of a script has the headline
 pub carried_headline : (whole : Bool) (script : List ℕ) (lines : ℕ) (p : Progress) (out rest : List ℕ) → Carried whole script lines p out rest
@@ -75,7 +74,8 @@ obeyed_more whole script lines p out rest line behind (Make first columns rows p
     subst (λ (o : List ℕ). Led whole script (suc lines) first new o behind) (sym (ap (λ (a : List ℕ). out ++ a) h.0 ∙ append-nil out))
     (led_by whole script (suc lines) (begins_at first new) out behind (makes lines p out rest line behind first columns rows processes edition new carried next asks h.1))
 obeyed_more whole script lines p out rest line behind (Does deed) answer new carried next asks h =
-    led_by whole script (suc lines) (goes_on p h.events h.replies new) (out ++ answer) behind (obeys lines p out rest line behind deed h.events h.replies answer new carried next asks h.plays)
+    let played = h.2 in
+    led_by whole script (suc lines) (goes_on p played.events played.replies new) (out ++ answer) behind (obeys lines p out rest line behind deed h.0 played.events played.replies answer new carried next asks h.1 played.plays)
 
 obeyed_at : (whole : Bool) (script : List ℕ) (lines : ℕ) (p : Progress) (out rest line behind : List ℕ) (before now then : Option (List ℕ)) (first' : Begun) (new : WorldValue)
     → Carried whole script lines p out rest → Appends before now out → next_of whole rest ≡ ALine line behind → Obeyed p.begun p.world line first' new now then

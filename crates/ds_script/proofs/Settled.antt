@@ -125,7 +125,7 @@ no_step w mid p NotEnabled fits ns na = record { same = fits.takes.same; waits =
 no_step w mid p _ fits ns na = absurd fits.takes
 
 -- an answer of work is how it ended
-work_of : (answer : Answer) → IsWorkAnswer answer → (end : WorkEnd) × (answer ≡ Work end)
+pub work_of : (answer : Answer) → IsWorkAnswer answer → (end : WorkEnd) × (answer ≡ Work end)
 work_of (Work end) h = (end, refl)
 work_of _ h = absurd h
 
@@ -147,19 +147,19 @@ module _ (p : ℕ) (w mid : WorldValue) (good : IsGood w) (calling : IsCallingAs
       fits.takes.none (record { work = e; waits = record { inside = subst (λ q. q < w.sheet.layout.processes) (sym (its e at)) calling.there; works = ap (λ q. (world_of w).situation q) (its e at) ∙ at; waits = waits }; is = refl })
   only_offered e _ at waits ns fits = fits.takes
 
-  no_other : (reply : Reply) → reply ≢ Stepped → ((answer : Answer) → reply ≢ Answered answer) → Fits w (wants w p) reply mid → ⊥
+  pub no_other : (reply : Reply) → reply ≢ Stepped → ((answer : Answer) → reply ≢ Answered answer) → Fits w (wants w p) reply mid → ⊥
   no_other reply ns na fits = elim step_or_offer [
     | inl step ↦ must_wait IsWorkAnswer w mid p calling (no_step w mid p reply (subst (λ (e : Event). Fits w e reply mid) step fits) ns na) (λ e waits. (let bad : Step p ≡ Offer (evaluated w.sheet.layout.shape e) = sym step ∙ waits_wants e waits in cc))
     | inr offer ↦ only_offered offer.0 reply offer.1 offer.2 ns (subst (λ (e : Event). Fits w e reply mid) offer.3 fits)
   ]
 
-  steps_end : (answer : Answer) → Fits w (wants w p) (Answered answer) mid → Fits w (Step p) (Answered answer) mid
+  pub steps_end : (answer : Answer) → Fits w (wants w p) (Answered answer) mid → Fits w (Step p) (Answered answer) mid
   steps_end answer fits = elim step_or_offer [
     | inl step ↦ subst (λ (e : Event). Fits w e (Answered answer) mid) step fits
     | inr offer ↦ absurd (only_offered offer.0 (Answered answer) offer.1 offer.2 (λ is. cc) (subst (λ (e : Event). Fits w e (Answered answer) mid) offer.3 fits))
   ]
 
-  still_calling : Fits w (wants w p) Stepped mid → IsCallingAs IsWorkAnswer mid p
+  pub still_calling : Fits w (wants w p) Stepped mid → IsCallingAs IsWorkAnswer mid p
   still_calling fits = elim step_or_offer [
     | inl step ↦ calls_on IsWorkAnswer w mid p calling (step_goes w mid p good.sound (record { there = calling.there; calls = calling.calls.0 }) (subst (λ (e : Event). Fits w e Stepped mid) step fits))
     | inr offer ↦ (
@@ -293,7 +293,7 @@ module _ (p : ℕ) (first : WorldValue) (good : IsGood first) (there : HasProces
 
 -- ---- where nobody disturbs it
 
-clean_line : (p : ℕ) (new : WorldValue) (end : SettleEnd) → EndsClean (world_of new) end → SaysClean p (end_text new p end)
+pub clean_line : (p : ℕ) (new : WorldValue) (end : SettleEnd) → EndsClean (world_of new) end → SaysClean p (end_text new p end)
 clean_line p new (settle_ends.Left left) is = inl (ap left_text is.0)
 clean_line p new (settle_ends.Refused why) is = inr (inl (ap (λ (r : Refusal). refused_text p r) is))
 clean_line p new settle_ends.NoMemory is = inr (inr refl)
@@ -307,7 +307,7 @@ lone_says_clean p old text new good there idle young h =
 
 -- ---- in a script
 
-run_good : (events : List Event) (replies : List Reply) (old new : WorldValue) → IsGood old → WorldRun old events replies new → IsGood new
+pub run_good : (events : List Event) (replies : List Reply) (old new : WorldValue) → IsGood old → WorldRun old events replies new → IsGood new
 run_good [] [] old new good run = subst (λ (v : WorldValue). IsGood v) (sym run) good
 run_good (event ∷ events) (reply ∷ replies) old new good run = run_good events replies run.0 new run.1.good run.2
 run_good [] (reply ∷ replies) old new good run = absurd run
@@ -315,8 +315,8 @@ run_good (event ∷ events) [] old new good run = absurd run
 
 -- the same, at a point of a script with few enough events
 pub script_says_clean : (whole : Bool) (script : List ℕ) (lines : ℕ) (at : Progress) (out rest : List ℕ) → Carried whole script lines at out rest → (p : ℕ) (text : List ℕ) (new : WorldValue) → HasProcess at.world p → AreIdle (world_of at.world)
-    → length at.events + 2 * (cells_of at.world.sheet.layout + 2) ≤ SEEN_MOST → Played (plan at.world (Settle p)) at.world text new → SaysClean p text
-script_says_clean whole script lines at out rest carried p text new there idle few h =
+    → length at.events + 2 * (cells_of at.world.sheet.layout + 2) ≤ SEEN_MOST → (order : List ℕ) → Played (plan at.world order (Settle p)) at.world text new → SaysClean p text
+script_says_clean whole script lines at out rest carried p text new there idle few order h =
     let run : WorldRun at.start at.events at.replies at.world = carried_runs whole script lines at out rest carried in
     let good : IsGood at.start = carried_good whole script lines at out rest carried in
     lone_says_clean p at.world text new (run_good at.events at.replies at.start at.world good run) there idle

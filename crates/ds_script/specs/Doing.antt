@@ -1,6 +1,7 @@
 -- What a command does, event by event, and the text that it ends with.
-use Rattle.std.specs.Prelude.{ℕ, List, Option, Some, None, Ok, if◌then◌else◌}
+use Rattle.std.specs.Prelude.{ℕ, ◌≡◌, List, [], ◌∷◌, Option, Some, None, Ok, if◌then◌else◌}
 use Rattle.ds_formula.specs.Cells.{cell_at}
+use Rattle.ds_layout.specs.Places.{cells_of}
 use Rattle.ds_layout.specs.SheetMemory.{memory}
 use Rattle.ds_state.specs.Value.{WorldValue, world_of}
 use Rattle.ds_state.specs.declared.situation.Situation.{Situation}
@@ -17,6 +18,9 @@ use Rattle.ds_calls.specs.declared.settle.SettleStage.{SettleStage}
 use Rattle.ds_calls.specs.declared.settle.SettleStage.TheVariants as turns
 use Rattle.ds_calls.specs.Wanted.{wants}
 use Rattle.ds_calls.specs.Settling.{first_turn, worked}
+use Rattle.ds_calls.specs.Marked.{state_at, is_marked}
+use Rattle.ds_order.specs.Orders.{IsOrder}
+use Rattle.ds_recalculation.specs.Recalculations.{stop_of}
 use Rattle.ds_script.specs.declared.point.PointName.{PointName}
 use Rattle.ds_script.specs.declared.drive.Until.{Until}
 use Rattle.ds_script.specs.declared.drive.Until.TheVariants.{OneStep, ToPoint, ToAnswer, InRound}
@@ -26,13 +30,16 @@ use Rattle.ds_script.specs.Orders.{Deed}
 use Rattle.ds_script.specs.Orders as deed
 
 -- where a command stands: it ends with this text; wants one event; begins a call and drives it; drives the process up
--- to here; or begins work on a cell, in a round of a settle with n rounds left
+-- to here; begins work on a cell, in a round of a settle with n rounds left; begins work on a cell, in a recalculation with
+-- these cells left of its order; or drives the process through that work
 pub data Doing : Type 0 where
   Says : List ℕ → Doing
   Once : ℕ → Event → Doing
   Calls : ℕ → Event → Doing
   Drives : ℕ → Until → Doing
   Works : ℕ → ℕ → ℕ → Doing
+  WorksInOrder : ℕ → ℕ → List ℕ → Doing
+  DrivesInOrder : ℕ → List ℕ → Doing
 
 -- ---- what it wants
 
@@ -43,6 +50,8 @@ asks (Once p event) w = Some event
 asks (Calls p event) w = Some event
 asks (Drives p until) w = Some (wants w p)
 asks (Works p rounds cell) w = Some (events.BeginWork p (cell_at w.sheet.layout.shape cell))
+asks (WorksInOrder p cell rest) w = Some (events.BeginWork p (cell_at w.sheet.layout.shape cell))
+asks (DrivesInOrder p rest) w = Some (wants w p)
 
 -- ---- turns of a settle
 
@@ -57,6 +66,22 @@ end_text w p NoMemory = answer_text w p (answers.Work work_ends.NoMemory)
 abbrev pub at_turn : WorldValue → ℕ → SettleStage → Doing
 at_turn w p (turns.Ends end) = Says (end_text w p end)
 at_turn w p (turns.Works rounds cell) = Works p rounds cell
+
+-- a settle by the process, with two rounds more than the sheet has cells
+abbrev pub settle : WorldValue → ℕ → Doing
+settle w p = at_turn w p (first_turn w)
+
+-- ---- turns of a recalculation
+
+-- a recalculation by the process works on the first of these cells that is marked; where none is, it settles
+abbrev pub in_order : WorldValue → ℕ → List ℕ → Doing
+in_order w p [] = settle w p
+in_order w p (cell ∷ rest) = if is_marked (state_at (world_of w) cell) then WorksInOrder p cell rest else in_order w p rest
+
+-- a recalculation by the process ends by a work of its, or goes on with these cells
+abbrev pub after_work : WorldValue → ℕ → List ℕ → Option SettleEnd → Doing
+after_work w p rest None = in_order w p rest
+after_work w p rest (Some end) = Says (end_text w p end)
 
 -- ---- what a command does at its turn
 
@@ -96,6 +121,18 @@ called w p until (Begun number) = Drives p until
 called w p until Entered = Drives p until
 called w p until reply = Says (reply_text w p reply)
 
+-- what a recalculation does when the work that it begins has this reply
+abbrev pub entered : WorldValue → ℕ → List ℕ → Reply → Doing
+entered w p rest (Begun number) = DrivesInOrder p rest
+entered w p rest Entered = DrivesInOrder p rest
+entered w p rest reply = Says (reply_text w p reply)
+
+-- what a recalculation does when an event of the work that it drives has this reply
+abbrev pub gone : WorldValue → ℕ → List ℕ → Reply → Doing
+gone w p rest Stepped = DrivesInOrder p rest
+gone w p rest (Answered (answers.Work end)) = after_work w p rest (stop_of (Ok end))
+gone w p rest reply = Says (reply_text w p reply)
+
 -- what a command does when the event has this reply, in the world after it
 abbrev pub told : Doing → Event → Reply → WorldValue → Doing
 told (Says text) event reply w = Says text
@@ -103,23 +140,27 @@ told (Once p asked) event reply w = Says (reply_text w p reply)
 told (Calls p asked) event reply w = called w p ToAnswer reply
 told (Drives p until) event reply w = driven w p until event reply
 told (Works p rounds cell) event reply w = called w p (InRound rounds cell) reply
+told (WorksInOrder p cell rest) event reply w = entered w p rest reply
+told (DrivesInOrder p rest) event reply w = gone w p rest reply
 
 -- ---- how it begins
 
--- a settle by the process, with two rounds more than the sheet has cells
-abbrev pub settle : WorldValue → ℕ → Doing
-settle w p = at_turn w p (first_turn w)
+-- the order of cells in which a deed works: of a recalculation one with each cell of the sheet once; no other deed has one
+abbrev pub IsOrderOf : WorldValue → Deed → List ℕ → Type 0
+IsOrderOf w (deed.Recalculate p) order = IsOrder (cells_of w.sheet.layout) order
+IsOrderOf w deed order = order ≡ []
 
--- what a command does first, by the deed that its line asks for
-abbrev pub plan : WorldValue → Deed → Doing
-plan w (deed.Whole p event) = Calls p event
-plan w (deed.Begin p event) = Once p event
-plan w (deed.Settle p) = settle w p
-plan w (deed.Step p) = Drives p OneStep
-plan w (deed.RunTo p name) = to_point p name ((world_of w).situation p)
-plan w (deed.Run p) = Drives p ToAnswer
-plan w (deed.Stop p) = Once p (events.Stop p)
-plan w deed.Crash = Once 0 events.Crash
-plan w (deed.Evict place) = Once 0 (events.Evict place)
-plan w (deed.Peek cell) = Says (peek_text (world_of w) cell)
-plan w (deed.Word place) = Says (word_text (memory w.sheet) place)
+-- what a command does first, by the deed that its line asks for; a recalculation works in this order of cells
+abbrev pub plan : WorldValue → List ℕ → Deed → Doing
+plan w order (deed.Whole p event) = Calls p event
+plan w order (deed.Begin p event) = Once p event
+plan w order (deed.Settle p) = settle w p
+plan w order (deed.Recalculate p) = in_order w p order
+plan w order (deed.Step p) = Drives p OneStep
+plan w order (deed.RunTo p name) = to_point p name ((world_of w).situation p)
+plan w order (deed.Run p) = Drives p ToAnswer
+plan w order (deed.Stop p) = Once p (events.Stop p)
+plan w order deed.Crash = Once 0 events.Crash
+plan w order (deed.Evict place) = Once 0 (events.Evict place)
+plan w order (deed.Peek cell) = Says (peek_text (world_of w) cell)
+plan w order (deed.Word place) = Says (word_text (memory w.sheet) place)

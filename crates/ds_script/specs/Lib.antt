@@ -4,6 +4,7 @@ pub mod Orders
 pub mod ScriptTexts
 pub mod Doing
 pub mod Plays
+pub mod ScriptTurns
 pub mod Script
 pub mod Running
 pub mod LoneSettles

@@ -1,5 +1,5 @@
 -- The commands of a script over a world, and the lines that give them.
-use Rattle.std.specs.Prelude.{◌∷◌, ℕ, ◌≤◌, ◌+◌, ◌*◌, Bool, ◌&&◌, ◌==◌, nat_le, List, [], codes, Option, Some, None, is_none, option_map, unwrap_or, Result, Ok, Err, if◌then◌else◌}
+use Rattle.std.specs.Prelude.{◌∷◌, ℕ, ◌<◌, ◌+◌, ◌*◌, Bool, ◌&&◌, ◌==◌, nat_le, List, [], codes, Option, Some, None, is_none, option_map, unwrap_or, Result, Ok, Err, if◌then◌else◌}
 use Rattle.std.specs.Str.{bytes_eq}
 use Rattle.ds_formula.specs.declared.cells.Shape.{Shape}
 use Rattle.ds_formula.specs.declared.cells.Cell.{Cell}
@@ -38,12 +38,13 @@ use Rattle.ds_script.specs.Named.{named_in}
 use Rattle.ds_script.specs.Points.{lacks, name_of_point}
 
 -- what a line asks of a world: a whole call of a process, by the event that begins it; its beginning alone; rounds of
--- works until no cell is marked; one step; steps up to a point; steps to the end of the call; a stop, a crash, an
--- eviction; what a cell shows; both sides of a word
+-- works until no cell is marked; works in an order of the cells, and then those rounds; one step; steps up to a point;
+-- steps to the end of the call; a stop, a crash, an eviction; what a cell shows; both sides of a word
 pub data Deed : Type 0 where
   Whole : ℕ → Event → Deed
   Begin : ℕ → Event → Deed
   Settle : ℕ → Deed
+  Recalculate : ℕ → Deed
   Step : ℕ → Deed
   RunTo : ℕ → PointName → Deed
   Run : ℕ → Deed
@@ -74,6 +75,7 @@ command_view (commands.Layout layout edition) = Make begun.Command layout.shape.
 command_view (commands.Whole process call) = Does (Whole process (beginning process call))
 command_view (commands.Begin process call) = Does (Begin process (beginning process call))
 command_view (commands.Settle process) = Does (Settle process)
+command_view (commands.Recalculate process) = Does (Recalculate process)
 command_view (commands.Step process) = Does (Step process)
 command_view (commands.RunTo process name) = Does (RunTo process name)
 command_view (commands.Run process) = Does (Run process)
@@ -85,6 +87,7 @@ command_view (commands.Word place) = Does (Word place)
 
 -- a sheet of this layout can carry the command out
 abbrev pub CanDo : Layout → Command → Type 0
+CanDo layout (commands.Recalculate process) = process < layout.processes
 CanDo layout (commands.Evict place) = IsPlace layout place
 CanDo layout (commands.Peek cell) = IsInside layout.shape cell
 CanDo layout (commands.Word place) = IsPlace layout place
@@ -174,6 +177,7 @@ deed_of verbs.Recover process = Some (Whole process (events.BeginRecover process
 deed_of verbs.Report process = Some (Whole process (events.BeginShow process))
 deed_of verbs.Migrate process = Some (Whole process (events.BeginMigrate process))
 deed_of verbs.Settle process = Some (Settle process)
+deed_of verbs.Recalculate process = Some (Recalculate process)
 deed_of verbs.Step process = Some (Step process)
 deed_of verbs.Stop process = Some (Stop process)
 deed_of _ process = None
@@ -281,6 +285,7 @@ name_of_verb verbs.Work = codes "work"
 name_of_verb verbs.Recover = codes "recover"
 name_of_verb verbs.Report = codes "report"
 name_of_verb verbs.Settle = codes "settle"
+name_of_verb verbs.Recalculate = codes "recalc"
 name_of_verb verbs.Begin = codes "begin"
 name_of_verb verbs.Step = codes "step"
 name_of_verb verbs.Run = codes "run"
@@ -294,7 +299,7 @@ name_of_verb verbs.Migrate = codes "migrate"
 
 -- the commands
 abbrev pub all_verbs : List Verb
-all_verbs = verbs.Sheet ∷ verbs.Set ∷ verbs.Work ∷ verbs.Recover ∷ verbs.Report ∷ verbs.Settle ∷ verbs.Begin ∷ verbs.Step ∷ verbs.Run ∷ verbs.Stop ∷ verbs.Crash ∷ verbs.Evict ∷ verbs.Peek ∷ verbs.Word ∷ verbs.Layout ∷ verbs.Migrate ∷ []
+all_verbs = verbs.Sheet ∷ verbs.Set ∷ verbs.Work ∷ verbs.Recover ∷ verbs.Report ∷ verbs.Settle ∷ verbs.Recalculate ∷ verbs.Begin ∷ verbs.Step ∷ verbs.Run ∷ verbs.Stop ∷ verbs.Crash ∷ verbs.Evict ∷ verbs.Peek ∷ verbs.Word ∷ verbs.Layout ∷ verbs.Migrate ∷ []
 
 -- the command that the first word of a line names
 abbrev pub verb_of : List ℕ → Option Verb
@@ -308,6 +313,7 @@ fields_of verbs.Work layout rest = or_bad_field (work_of layout rest)
 fields_of verbs.Recover layout rest = or_bad_field (of_process verbs.Recover layout rest)
 fields_of verbs.Report layout rest = or_bad_field (of_process verbs.Report layout rest)
 fields_of verbs.Settle layout rest = or_bad_field (of_process verbs.Settle layout rest)
+fields_of verbs.Recalculate layout rest = or_bad_field (of_process verbs.Recalculate layout rest)
 fields_of verbs.Begin layout rest = begin_of layout (number_field layout.processes rest)
 fields_of verbs.Step layout rest = or_bad_field (of_process verbs.Step layout rest)
 fields_of verbs.Run layout rest = or_bad_field (run_of layout rest)

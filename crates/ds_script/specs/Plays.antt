@@ -5,11 +5,12 @@ use Rattle.ds_core.specs.Takes.{Fits}
 use Rattle.ds_core.specs.declared.event.Event.{Event}
 use Rattle.ds_core.specs.declared.event.Event.TheVariants.{Step}
 use Rattle.ds_core.specs.declared.reply.Reply.{Reply}
+use Rattle.ds_core.specs.declared.reply.Reply.TheVariants.{Stepped}
 use Rattle.ds_calls.specs.Wanted.{wants}
 use Rattle.ds_script.specs.Doing.{Doing, Says, Drives, asks, told, ended}
 use Rattle.ds_script.specs.ScriptTexts.{at_text, reply_text}
 use Rattle.ds_script.specs.declared.drive.Until.{Until}
-use Rattle.ds_script.specs.declared.drive.Until.TheVariants.{InRound}
+use Rattle.ds_script.specs.declared.drive.Until.TheVariants.{InRound, ToPoint}
 use Rattle.ds_script.specs.declared.drive.Halt.{Halt}
 use Rattle.ds_script.specs.declared.drive.Halt.TheVariants.{At, Replied}
 
@@ -42,6 +43,11 @@ abbrev pub halt_text : WorldValue → ℕ → Halt → List ℕ
 halt_text w p (At name) = at_text p name
 halt_text w p (Replied reply) = reply_text w p reply
 
+-- why a process is driven no further up to here where its last turn was a step or an offer
+abbrev pub at_end : Until → Halt
+at_end (ToPoint name) = At name
+at_end until = Replied Stepped
+
 -- the process is driven, but not in a round of a settle
 abbrev pub IsNoRound : Until → Type 0
 IsNoRound (InRound rounds cell) = ⊥
@@ -50,11 +56,3 @@ IsNoRound until = Unit {0}
 -- the process that is driven wants a step: no work of its waits
 abbrev pub WantsStep : WorldValue → ℕ → Type 0
 WantsStep w p = wants w p ≡ Step p
-
--- one event that the command wants leaves the process driven on, up to the same end
-pub record GoesOn (old : WorldValue) (p : ℕ) (until : Until) (new : WorldValue) : Type 0 where
-  pub event : Event
-  pub reply : Reply
-  pub asked : asks (Drives p until) old ≡ Some event
-  pub fits : Fits old event reply new
-  pub on : told (Drives p until) event reply new ≡ Drives p until

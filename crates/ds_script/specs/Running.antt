@@ -11,14 +11,14 @@ use Rattle.ds_script.specs.declared.script.Hindrance.TheVariants as hindrances
 use Rattle.ds_script.specs.declared.script.Break.{Break}
 use Rattle.ds_script.specs.declared.script.Break.TheVariants as breaks
 use Rattle.ds_script.specs.Orders.{Order, Make, Does, order_of}
-use Rattle.ds_script.specs.Doing.{plan}
+use Rattle.ds_script.specs.Doing.{IsOrderOf, plan}
 use Rattle.ds_script.specs.Plays.{Played}
 use Rattle.ds_script.specs.Script.{IsMade, Finishes, Breaks, Lacks}
 
 -- an order is carried out: a new sheet is made, or the deed is played to its end with this answer
 abbrev pub Obeys : WorldValue → Order → List ℕ → WorldValue → Type 0
 Obeys old (Make first columns rows processes edition) answer new = (answer ≡ []) × IsMade columns rows processes edition new
-Obeys old (Does deed) answer new = Played (plan old deed) old answer new
+Obeys old (Does deed) answer new = (order : List ℕ) × IsOrderOf old deed order × Played (plan old order deed) old answer new
 
 -- how a script has begun once it has carried an order out: with a sheet alone, or with another command
 abbrev pub after : Order → Begun

@@ -22,7 +22,7 @@ use Rattle.ds_script_io.specs.ScriptLines.{AtFront, NoLine, ALine, LongLine, nex
 use Rattle.ds_script.specs.declared.order.Begun.{Begun}
 use Rattle.ds_script.specs.declared.order.Begun.TheVariants as begun
 use Rattle.ds_script.specs.Orders.{Order, Make, Does, Deed, order_of}
-use Rattle.ds_script.specs.Doing.{Doing, Says, plan}
+use Rattle.ds_script.specs.Doing.{Doing, Says, IsOrderOf, plan}
 use Rattle.ds_script.specs.Plays.{Plays}
 
 -- ---- at a point of a script
@@ -71,9 +71,9 @@ pub data Carried (whole : Bool) (script : List ℕ) : ℕ → Progress → List 
   makes : (lines : ℕ) (p : Progress) (out rest line behind : List ℕ) (first : Begun) (columns rows processes : ℕ) (edition : Edition) (w : WorldValue)
       → Carried whole script lines p out rest → next_of whole rest ≡ ALine line behind → Asks p line (Some (Make first columns rows processes edition)) → IsMade columns rows processes edition w
       → Carried whole script (suc lines) (begins_at first w) out behind
-  obeys : (lines : ℕ) (p : Progress) (out rest line behind : List ℕ) (deed : Deed) (events : List Event) (replies : List Reply) (answer : List ℕ) (new : WorldValue)
+  obeys : (lines : ℕ) (p : Progress) (out rest line behind : List ℕ) (deed : Deed) (order : List ℕ) (events : List Event) (replies : List Reply) (answer : List ℕ) (new : WorldValue)
       → Carried whole script lines p out rest → next_of whole rest ≡ ALine line behind → Asks p line (Some (Does deed))
-      → Plays (plan p.world deed) p.world events replies (Says answer) new
+      → IsOrderOf p.world deed order → Plays (plan p.world order deed) p.world events replies (Says answer) new
       → Carried whole script (suc lines) (goes_on p events replies new) (out ++ answer) behind
 
 -- ---- how it ends
@@ -168,11 +168,13 @@ pub record StandsAt (whole : Bool) (script : List ℕ) (steps : ℕ) (w : WorldV
   pub next : next_of whole rest ≡ ALine line behind
   pub deed : Deed
   pub asks : Asks progress line (Some (Does deed))
+  pub order : List ℕ
+  pub order_is : IsOrderOf progress.world deed order
   pub events : List Event
   pub replies : List Reply
   pub p : ℕ
   pub reply : Reply
   pub doing : Doing
-  pub plays : Plays (plan progress.world deed) progress.world (events ++ Step p ∷ []) (replies ++ reply ∷ []) doing w
+  pub plays : Plays (plan progress.world order deed) progress.world (events ++ Step p ∷ []) (replies ++ reply ∷ []) doing w
   pub taken : step_taken (Step p) reply ≡ 1
   pub so_many : steps_taken (progress.events ++ (events ++ Step p ∷ [])) (progress.replies ++ (replies ++ reply ∷ [])) ≡ steps

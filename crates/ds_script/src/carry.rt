@@ -13,6 +13,7 @@ ghost use Rattle.ds_script.specs.Running.{Obeys};
 use crate::drive::{Until, drive, has_come};
 use crate::order::{Call, Command};
 use crate::point::PointName;
+use crate::recalculate::recalculate;
 use crate::settle::settle;
 use crate::texts::{at_line, halt_bytes, peek_line, reply_bytes, word_line};
 use ds_calls::finish::finish;
@@ -154,6 +155,7 @@ pub fn carry_out(
         Command::Whole(process, call) => whole(alloc, world, process, call),
         Command::Begin(process, call) => begin(alloc, world, process, call),
         Command::Settle(process) => settle(alloc, world, process),
+        Command::Recalculate(process) => recalculate(alloc, world, process),
         Command::Step(process) => run(alloc, world, process, Until::OneStep),
         Command::RunTo(process, name) => run_to(alloc, world, process, name),
         Command::Run(process) => run(alloc, world, process, Until::ToAnswer),

@@ -6,6 +6,8 @@ pub mod drive;
 pub mod order;
 pub mod places;
 pub mod point;
+pub mod recalculate;
 pub mod script;
 pub mod settle;
 pub mod texts;
+pub mod turn;

@@ -35,6 +35,8 @@ pub enum Verb {
     Report,
     /// `settle`.
     Settle,
+    /// `recalc`.
+    Recalculate,
     /// `begin`.
     Begin,
     /// `step`.
@@ -69,6 +71,7 @@ impl Verb {
             Verb::Recover => "recover",
             Verb::Report => "report",
             Verb::Settle => "settle",
+            Verb::Recalculate => "recalc",
             Verb::Begin => "begin",
             Verb::Step => "step",
             Verb::Run => "run",
@@ -138,6 +141,8 @@ pub enum Command<'a> {
     Begin(usize, Call<'a>),
     /// `settle PROCESS`: works until no cell is marked.
     Settle(usize),
+    /// `recalc PROCESS`: works on each marked cell in the order of the references, then as `settle`.
+    Recalculate(usize),
     /// `step PROCESS`: one step.
     Step(usize),
     /// `run PROCESS to POINT`: steps until the point is reached.
@@ -393,6 +398,7 @@ fn of_process<'a>(verb: Verb, layout: &Layout, rest: Option<&'a [u8]>) -> Option
         Verb::Report => Some(Command::Whole(process, Call::Show)),
         Verb::Migrate => Some(Command::Whole(process, Call::Migration)),
         Verb::Settle => Some(Command::Settle(process)),
+        Verb::Recalculate => Some(Command::Recalculate(process)),
         Verb::Step => Some(Command::Step(process)),
         Verb::Stop => Some(Command::Stop(process)),
         _ => None,
@@ -400,13 +406,14 @@ fn of_process<'a>(verb: Verb, layout: &Layout, rest: Option<&'a [u8]>) -> Option
 }
 
 // The commands.
-const VERBS: [Verb; 16] = [
+const VERBS: [Verb; 17] = [
     Verb::Sheet,
     Verb::Set,
     Verb::Work,
     Verb::Recover,
     Verb::Report,
     Verb::Settle,
+    Verb::Recalculate,
     Verb::Begin,
     Verb::Step,
     Verb::Run,
@@ -462,7 +469,8 @@ fn fields<'a>(
         Verb::Layout => found(layout, layout_as(layout, rest)),
         Verb::Recover | Verb::Report => found(layout, of_process(verb, layout, rest)),
         Verb::Migrate => found(layout, of_process(verb, layout, rest)),
-        Verb::Settle | Verb::Step | Verb::Stop => found(layout, of_process(verb, layout, rest)),
+        Verb::Settle | Verb::Recalculate => found(layout, of_process(verb, layout, rest)),
+        Verb::Step | Verb::Stop => found(layout, of_process(verb, layout, rest)),
         Verb::Run => found(layout, run(layout, rest)),
         Verb::Crash => found(layout, crash(rest)),
         Verb::Evict => found(layout, evict(layout, rest)),

@@ -14,8 +14,8 @@ ghost use Rattle.ds_script_io.specs.Streams.{reader_of, writer_of, is_flushed, b
 ghost use Rattle.ds_script_io.specs.Input.{Within};
 ghost use Rattle.ds_script_io.specs.declared.ending.ScriptEnd.TheVariants as ends;
 ghost use Rattle.ds_script.specs.declared.script.Hindrance.TheVariants as hindrances;
-ghost use Rattle.ds_script.specs.Orders.{Settle, command_view};
-ghost use Rattle.ds_script.specs.Doing.{plan};
+ghost use Rattle.ds_script.specs.Orders.{Recalculate, Settle, command_view};
+ghost use Rattle.ds_script.specs.Doing.{IsOrderOf, plan};
 ghost use Rattle.ds_script.specs.Plays.{Played};
 ghost use Rattle.ds_script.specs.LoneSettles.{SaysClean};
 ghost use Rattle.ds_script.specs.Script.{Progress, Carried, Writes, Concludes, is_whole};
@@ -263,5 +263,14 @@ pub fn lone_settles_answer_clean()
         → Carried whole script lines at out rest → (p : ℕ) (text : List ℕ) (new : WorldValue)
         → HasProcess at.world p → AreIdle (world_of at.world)
         → length at.events + 2 * (cells_of at.world.sheet.layout + 2) ≤ SEEN_MOST
-        → Played (plan at.world (Settle p)) at.world text new → SaysClean p text }
+        → (order : List ℕ) → Played (plan at.world order (Settle p)) at.world text new → SaysClean p text }
+{}
+
+/// So does a line `recalc P`: in each script with fewer than 2^58 events before it, less some for the recalculation.
+pub fn lone_recalculations_answer_clean()
+    ensures { (whole : Bool) (script : List ℕ) (lines : ℕ) (at : Progress) (out rest : List ℕ)
+        → Carried whole script lines at out rest → (p : ℕ) (order : List ℕ) (text : List ℕ) (new : WorldValue)
+        → HasProcess at.world p → AreIdle (world_of at.world) → IsOrderOf at.world (Recalculate p) order
+        → length at.events + 2 * (2 * cells_of at.world.sheet.layout + 2) ≤ SEEN_MOST
+        → Played (plan at.world order (Recalculate p)) at.world text new → SaysClean p text }
 {}

@@ -77,7 +77,7 @@ const OF_DONE: Form = &[
 ];
 
 // The first words of commands, each with its form. `begin`, `run`, `evict` and `word` have several.
-const COMMANDS: [(&str, Form); 13] = [
+const COMMANDS: [(&str, Form); 14] = [
     ("sheet", SHEET),
     ("layout", LAYOUT),
     ("set", SET),
@@ -86,6 +86,7 @@ const COMMANDS: [(&str, Form); 13] = [
     ("migrate", PROCESS),
     ("report", PROCESS),
     ("settle", PROCESS),
+    ("recalc", PROCESS),
     ("step", PROCESS),
     ("run", PROCESS),
     ("stop", PROCESS),

@@ -29,8 +29,8 @@ is_carried whole script lines p out json rest (skips n q o j r line behind befor
     scripts.skips n q o r line behind (is_carried whole script n q o j r before) next asks
 is_carried whole script lines p out json rest (makes n q o j r line behind first columns rows processes edition w before next asks made) =
     scripts.makes n q o r line behind first columns rows processes edition w (is_carried whole script n q o j r before) next asks made
-is_carried whole script lines p out json rest (obeys n q o j r line behind deed events replies end new before next asks plays) =
-    scripts.obeys n q o r line behind deed events replies (text_of new end) new (is_carried whole script n q o j r before) next asks plays
+is_carried whole script lines p out json rest (obeys n q o j r line behind deed order events replies end new before next asks planned plays) =
+    scripts.obeys n q o r line behind deed order events replies (text_of new end) new (is_carried whole script n q o j r before) next asks planned plays
 
 -- ---- one line more
 
@@ -53,8 +53,8 @@ obeyed_more whole script lines p out json rest line behind (Make first columns r
     (subst (λ (j : List ℕ). Led whole script (suc lines) first new out j behind) (sym (append-nil json))
     (led_by whole script (suc lines) (begins_at first new) out json behind (makes lines p out json rest line behind first columns rows processes edition new answered next asks h.1))))
 obeyed_more whole script lines p out json rest line behind (Does deed) end new answered next asks h =
-    led_by whole script (suc lines) (goes_on p h.events h.replies new) (out ++ text_of new end) (json ++ line_of new end) behind
-    (obeys lines p out json rest line behind deed h.events h.replies end new answered next asks h.plays)
+    led_by whole script (suc lines) (goes_on p h.2.events h.2.replies new) (out ++ text_of new end) (json ++ line_of new end) behind
+    (obeys lines p out json rest line behind deed h.0 h.2.events h.2.replies end new answered next asks h.1 h.2.plays)
 
 -- what the lines so far were answered: the text, and its JSON, which stands after what was written before, and where they led
 pub record So (whole : Bool) (script : List ℕ) (lines : ℕ) (first : Begun) (w : WorldValue) (before now : Option (List ℕ)) (rest : List ℕ) : Type 0 where

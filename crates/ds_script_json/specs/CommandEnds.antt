@@ -4,7 +4,7 @@ use Rattle.ds_formula.specs.Cells.{IsInside}
 use Rattle.ds_layout.specs.Places.{IsPlace}
 use Rattle.ds_layout.specs.SheetMemory.{memory}
 use Rattle.ds_state.specs.Value.{WorldValue, world_of}
-use Rattle.ds_script.specs.Doing.{end_text, plan}
+use Rattle.ds_script.specs.Doing.{IsOrderOf, end_text, plan}
 use Rattle.ds_script.specs.Orders.{Order, Make, Does}
 use Rattle.ds_script.specs.Plays.{Played}
 use Rattle.ds_script.specs.Script.{IsMade}
@@ -30,4 +30,4 @@ CanShow w _ = Unit {0}
 -- an order is carried out, and ends so: a new sheet is made, or the deed is played to its end with the text of that
 abbrev pub Obeys : WorldValue → Order → CommandEnd → WorldValue → Type 0
 Obeys old (Make first columns rows processes edition) end new = (end ≡ Made) × IsMade columns rows processes edition new
-Obeys old (Does deed) end new = Played (plan old deed) old (text_of new end) new
+Obeys old (Does deed) end new = (order : List ℕ) × IsOrderOf old deed order × Played (plan old order deed) old (text_of new end) new

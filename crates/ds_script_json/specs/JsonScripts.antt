@@ -12,7 +12,7 @@ use Rattle.ds_script_io.specs.ScriptLines.{ALine, next_of}
 use Rattle.ds_script.specs.declared.order.Begun.{Begun}
 use Rattle.ds_script.specs.declared.order.Begun.TheVariants as begun
 use Rattle.ds_script.specs.Orders.{Order, Make, Does, Deed, order_of}
-use Rattle.ds_script.specs.Doing.{Says, plan}
+use Rattle.ds_script.specs.Doing.{Says, IsOrderOf, plan}
 use Rattle.ds_script.specs.Plays.{Plays}
 use Rattle.ds_script.specs.Running.{Skipped, after}
 use Rattle.ds_script.specs.Script.{Progress, IsMade, begins_at, goes_on, Asks, Finishes, Breaks, Lacks}
@@ -33,9 +33,9 @@ pub data InJson (whole : Bool) (script : List ℕ) : ℕ → Progress → List �
   makes : (lines : ℕ) (p : Progress) (out json rest line behind : List ℕ) (first : Begun) (columns rows processes : ℕ) (edition : Edition) (w : WorldValue)
       → InJson whole script lines p out json rest → next_of whole rest ≡ ALine line behind → Asks p line (Some (Make first columns rows processes edition)) → IsMade columns rows processes edition w
       → InJson whole script (suc lines) (begins_at first w) out json behind
-  obeys : (lines : ℕ) (p : Progress) (out json rest line behind : List ℕ) (deed : Deed) (events : List Event) (replies : List Reply) (end : CommandEnd) (new : WorldValue)
+  obeys : (lines : ℕ) (p : Progress) (out json rest line behind : List ℕ) (deed : Deed) (order : List ℕ) (events : List Event) (replies : List Reply) (end : CommandEnd) (new : WorldValue)
       → InJson whole script lines p out json rest → next_of whole rest ≡ ALine line behind → Asks p line (Some (Does deed))
-      → Plays (plan p.world deed) p.world events replies (Says (text_of new end)) new
+      → IsOrderOf p.world deed order → Plays (plan p.world order deed) p.world events replies (Says (text_of new end)) new
       → InJson whole script (suc lines) (goes_on p events replies new) (out ++ text_of new end) (json ++ line_of new end) behind
 
 -- some of the first lines of a script were answered with this text, and this is the JSON of that, line by line

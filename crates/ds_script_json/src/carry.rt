@@ -1,9 +1,12 @@
 //! Carries commands out, and says how each ended.
 
-ghost use Rattle.std.specs.Prelude.{◌≡◌, ◌≤◌, IfOk};
+ghost use Rattle.std.specs.Prelude.{ℕ, List, ◌≡◌, ◌≤◌, IfOk};
 ghost use Rattle.ds_state.specs.Value.{WorldValue, world_of};
+ghost use Rattle.ds_layout.specs.Places.{cells_of};
+ghost use Rattle.ds_calls.specs.Whole.{HasProcess};
+ghost use Rattle.ds_order.specs.Orders.{IsOrder};
 ghost use Rattle.ds_script.specs.Orders.{CanDo, command_view, beginning};
-ghost use Rattle.ds_script.specs.Doing.{Once, Calls, Drives, settle, to_point};
+ghost use Rattle.ds_script.specs.Doing.{Once, Calls, Drives, in_order, settle, to_point};
 ghost use Rattle.ds_script.specs.Plays.{Played, IsNoRound, halt_text};
 ghost use Rattle.ds_script_json.specs.CommandEnds.{CanShow, Obeys, text_of};
 
@@ -14,6 +17,7 @@ use ds_core::reply::Reply;
 use ds_core::take::take;
 use ds_formula::cells::Cell;
 use ds_layout::place::{Edition, Place};
+use ds_recalculation::recalculation::{planned, recalculate_in};
 use ds_script::carry::{begins, new_world};
 use ds_script::drive::{Halt, Until, drive, has_come};
 use ds_script::order::{Call, Command};
@@ -32,7 +36,7 @@ pub enum CommandEnd {
     Replied(usize, Reply),
     /// The call of this process has passed this point.
     At(usize, PointName),
-    /// A settle by this process has ended so.
+    /// A settle or a recalculation by this process has ended so.
     Settled(usize, SettleEnd),
     /// It asks what this cell shows.
     Peeked(Cell),
@@ -127,6 +131,18 @@ fn settle(alloc: Global, world: &mut World, process: usize) -> CommandEnd
     CommandEnd::Settled(process, ds_calls::settle::settle(alloc, world, process))
 }
 
+// `recalc P`.
+fn recalculate(alloc: Global, world: &mut World, process: usize) -> Result<CommandEnd, AllocError>
+    requires { HasProcess world.old process }
+    ensures played { IfOk result (λ end. (order : List ℕ) × IsOrder (cells_of world.old.sheet.layout) order
+        × Played (in_order world.old process order) world.old (text_of world.new end) world.new) }
+    ensures shows { IfOk result (CanShow world.new) }
+{
+    let order = planned(alloc, world)?;
+    let end = recalculate_in(alloc, world, process, order.as_slice());
+    Ok(CommandEnd::Settled(process, end))
+}
+
 /// Carries a command out, and says how it has ended: the text of that is the answer that `ds_script::carry::carry_out`
 /// gives. An error means that an allocation failed.
 #[tactic(auto, using(crate::proofs::Carrying::says_so))]
@@ -151,6 +167,7 @@ pub fn carry_out(
         Command::Whole(process, call) => whole(alloc, world, process, call),
         Command::Begin(process, call) => begin(alloc, world, process, call),
         Command::Settle(process) => settle(alloc, world, process),
+        Command::Recalculate(process) => recalculate(alloc, world, process)?,
         Command::Step(process) => run(alloc, world, process, Until::OneStep),
         Command::RunTo(process, name) => run_to(alloc, world, process, name),
         Command::Run(process) => run(alloc, world, process, Until::ToAnswer),

@@ -10,8 +10,8 @@ use Rattle.ds_script.specs.Doing.{Doing, Says, plan}
 use Rattle.ds_script.specs.Plays.{Plays}
 use Rattle.ds_script.specs.Script.{steps_taken}
 use Rattle.ds_script.proofs.Played.{plays_on, play_runs}
-use Rattle.ds_script_stops.specs.declared.turn.Left.{Left}
-use Rattle.ds_script_stops.specs.ScriptTurns.{doing_of}
+use Rattle.ds_script.specs.declared.turn.Left.{Left}
+use Rattle.ds_script.specs.ScriptTurns.{doing_of}
 use Rattle.ds_script_stops.specs.declared.play.Played.{Played}
 use Rattle.ds_script_stops.specs.declared.play.Played.TheVariants as played
 use Rattle.ds_script_stops.specs.Reaching.{Opens, OpensOrder, OnTheWay, Ends, Halts, IsPlayed, IsCarried, EndsOrder, taken_before}
@@ -67,19 +67,23 @@ pub carried_on : (order : Order) (old mid new : WorldValue) (l : Left) (taken be
     → OpensOrder old order (Some l) mid → IsPlayed (doing_of l) mid before last how new → IsCarried old order taken last how new
 carried_on (Make first columns rows processes edition) old mid new l taken before last how is o h = absurd (let n : Some l ≡ None = o.0 in cc)
 carried_on (Does deed) old mid new l taken before last (played.Ended now) is o h =
-    (subst (λ (n : ℕ). Ends (plan old deed) old n now new) is (way_ends (plan old deed) old mid new l before before now (opened (plan old deed) old mid l before o) h.0), h.1)
+    ((o.0, o.1, subst (λ (n : ℕ). Ends (plan old o.0 deed) old n now new) is (way_ends (plan old o.0 deed) old mid new l before before now (opened (plan old o.0 deed) old mid l before o.2) h.0)), h.1)
 carried_on (Does deed) old mid new l taken before last (played.Halted left) is o h =
-    subst (λ (n : ℕ). Halts (plan old deed) old n last left new) is (way_halts (plan old deed) old mid new l before before last left (opened (plan old deed) old mid l before o) h)
+    (o.0, o.1, subst (λ (n : ℕ). Halts (plan old o.0 deed) old n last left new) is (way_halts (plan old o.0 deed) old mid new l before before last left (opened (plan old o.0 deed) old mid l before o.2) h))
 
 pub ends_at_once : (order : Order) (old new : WorldValue) (taken before : ℕ) → before ≡ taken_before order taken → OpensOrder old order None new → EndsOrder old order taken before new
 ends_at_once (Make first columns rows processes edition) old new taken before is o = (is, o.1)
-ends_at_once (Does deed) old new taken before is o = record {
-  events = o.events;
-  replies = o.replies;
-  text = o.remains.0;
-  plays = subst (λ (d : Doing). Plays (plan old deed) old o.events o.replies d new) o.remains.1 o.plays;
-  count = let none = o.none in omega (arith, none, is);
-}
+ends_at_once (Does deed) old new taken before is o = (
+  o.0,
+  o.1,
+  record {
+    events = o.2.events;
+    replies = o.2.replies;
+    text = o.2.remains.0;
+    plays = subst (λ (d : Doing). Plays (plan old o.0 deed) old o.2.events o.2.replies d new) o.2.remains.1 o.2.plays;
+    count = let none = o.2.none in omega (arith, none, is);
+  },
+)
 
 pub before_below : (order : Order) (taken before last : ℕ) → before ≡ taken_before order taken → taken < last → before < last
 before_below (Make first columns rows processes edition) taken before last is below = omega (arith, is, below)

@@ -58,7 +58,7 @@ record EndsWith (start : WorldValue) (before : List Deed) (last : Deed) (all : L
   own : List Event
   told : List Reply
   answer : List ℕ
-  plays : Plays (plan world last) world own told (Says answer) new
+  plays : Plays (plan world [] last) world own told (Says answer) new
   events_are : all ≡ events ++ own
   replies_are : all_replies ≡ replies ++ told
   answers_are : all_answers ≡ answers ++ answer
@@ -76,7 +76,7 @@ ends_with start deeds before last es rs answers new is (one_deed_more ds es1 rs1
       own = own;
       told = told;
       answer = answer;
-      plays = subst (λ (d : Deed). Plays (plan v d) v own told (Says answer) new) s.last plays;
+      plays = subst (λ (d : Deed). Plays (plan v [] d) v own told (Says answer) new) s.last plays;
       events_are = refl;
       replies_are = refl;
       answers_are = refl;

@@ -78,7 +78,7 @@ not_read range limit script out end (inr h) = not_read_with range false (take li
 pub turn_runs : (start : WorldValue) (deeds : List Deed) (events : List Event) (replies : List Reply) (answers : List ℕ) (w : WorldValue) → InTurn start deeds events replies answers w → WorldRun start events replies w
 turn_runs start deeds events replies answers w no_deed = refl
 turn_runs start deeds events replies answers w (one_deed_more before es rs ts v deed own told answer new h plays) =
-    run_both es rs own told start v new (turn_runs start before es rs ts v h) (play_runs own told (plan v deed) (Says answer) v new plays)
+    run_both es rs own told start v new (turn_runs start before es rs ts v h) (play_runs own told (plan v [] deed) (Says answer) v new plays)
 
 module _ (whole : Bool) (script : List ℕ) (k : ℕ) (text : List ℕ) (b : IsBlock whole script k text) where
   -- up to the step that the crash comes after it
@@ -86,7 +86,7 @@ module _ (whole : Bool) (script : List ℕ) (k : ℕ) (text : List ℕ) (b : IsB
   before_runs =
       run_both b.stands.progress.events b.stands.progress.replies (b.stands.events ++ events.Step b.stands.p ∷ []) (b.stands.replies ++ b.stands.reply ∷ []) b.stands.progress.start b.stands.progress.world b.world
       (carried_runs whole script b.stands.lines b.stands.progress b.stands.out b.stands.rest b.stands.carried)
-      (play_runs (b.stands.events ++ events.Step b.stands.p ∷ []) (b.stands.replies ++ b.stands.reply ∷ []) (plan b.stands.progress.world b.stands.deed) b.stands.doing b.stands.progress.world b.world b.stands.plays)
+      (play_runs (b.stands.events ++ events.Step b.stands.p ∷ []) (b.stands.replies ++ b.stands.reply ∷ []) (plan b.stands.progress.world b.stands.order b.stands.deed) b.stands.doing b.stands.progress.world b.world b.stands.plays)
 
   pub block_runs : WorldRun b.stands.progress.start (block_events b) (block_replies b) b.new
   block_runs =

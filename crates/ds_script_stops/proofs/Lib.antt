@@ -1,4 +1,3 @@
-pub mod Turning
 pub mod Playing
 pub mod Opening
 pub mod Carrying

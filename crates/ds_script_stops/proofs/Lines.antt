@@ -20,8 +20,8 @@ use Rattle.ds_script_stops.specs.declared.reach.StepPoint.{StepPoint}
 use Rattle.ds_script_stops.specs.declared.reach.Hindrance.{Hindrance}
 use Rattle.ds_script_stops.specs.declared.reach.Hindrance.TheVariants as hindrances
 use Rattle.ds_script_stops.specs.StopBlocks.{BreaksBefore}
-use Rattle.ds_script_stops.specs.declared.turn.Left.{Left}
-use Rattle.ds_script_stops.specs.ScriptTurns.{doing_of}
+use Rattle.ds_script.specs.declared.turn.Left.{Left}
+use Rattle.ds_script.specs.ScriptTurns.{doing_of}
 use Rattle.ds_script_stops.specs.Reaching.{Ends, Halts, EndsOrder, HaltsOrder, PassesLine, StopsLine, Led, IsInside, IsAtLeft, IsAt, EndsHere, FallsShort, short_at}
 use Rattle.ds_script_stops.proofs.Playing.{count_on}
 use Rattle.ds_script_stops.proofs.Carrying.{way_ends, way_halts}
@@ -44,13 +44,13 @@ ends_led whole script lines p out rest line behind (Make first columns rows proc
   carried = makes lines p out rest line behind first columns rows processes edition new carried next asks h.1;
 }
 ends_led whole script lines p out rest line behind (Does deed) taken now new carried next asks begun_is count h = record {
-  progress = goes_on p h.events h.replies new;
+  progress = goes_on p h.2.events h.2.replies new;
   begun_is = sym begun_is;
   world_is = refl;
-  count = let both = count_on p.events p.replies h.events h.replies p.start p.world (carried_runs whole script lines p out rest carried) in
-      let own = h.count in omega (arith, both, count, own);
-  out = out ++ h.text;
-  carried = obeys lines p out rest line behind deed h.events h.replies h.text new carried next asks h.plays;
+  count = let both = count_on p.events p.replies h.2.events h.2.replies p.start p.world (carried_runs whole script lines p out rest carried) in
+      let own = h.2.count in omega (arith, both, count, own);
+  out = out ++ h.2.text;
+  carried = obeys lines p out rest line behind deed h.0 h.2.events h.2.replies h.2.text new carried next asks h.1 h.2.plays;
 }
 
 module _ (whole : Bool) (script : List ℕ) (lines : ℕ) (point : StepPoint) (w : WorldValue) (rest line behind : List ℕ) (led : Led whole script lines point w rest) (next : next_of whole rest ≡ ALine line behind) where
@@ -85,15 +85,17 @@ module _ (whole : Bool) (script : List ℕ) (lines : ℕ) (point : StepPoint) (w
     next = next;
     deed = deed;
     asks = asks;
-    events = h.events;
-    replies = h.replies;
-    p = h.p;
-    reply = h.reply;
-    doing = h.last;
-    plays = h.plays;
-    taken = h.taken;
-    so_many = let both = count_on led.progress.events led.progress.replies (h.events ++ Step h.p ∷ []) (h.replies ++ h.reply ∷ []) led.progress.start led.progress.world (carried_runs whole script lines led.progress led.out rest led.carried) in
-        let own = h.count in
+    order = h.0;
+    order_is = h.1;
+    events = h.2.events;
+    replies = h.2.replies;
+    p = h.2.p;
+    reply = h.2.reply;
+    doing = h.2.last;
+    plays = h.2.plays;
+    taken = h.2.taken;
+    so_many = let both = count_on led.progress.events led.progress.replies (h.2.events ++ Step h.2.p ∷ []) (h.2.replies ++ h.2.reply ∷ []) led.progress.start led.progress.world (carried_runs whole script lines led.progress led.out rest led.carried) in
+        let own = h.2.count in
         let before = led.count in omega (arith, both, before, own);
   }
 
@@ -102,15 +104,15 @@ module _ (whole : Bool) (script : List ℕ) (lines : ℕ) (point : StepPoint) (w
       → IsAtLeft whole script (lines + 1) (record { begun = begun; taken = last }) behind left new
   at (Make first columns rows processes edition) last begun left new asks is h = absurd h
   at (Does deed) last begun None new asks is h =
-      let over : Ends (plan w deed) w point.taken last new = record {
-        events = h.events ++ Step h.p ∷ [];
-        replies = h.replies ++ h.reply ∷ [];
-        text = h.remains.0;
-        plays = subst (λ (d : Doing). Plays (plan w deed) w (h.events ++ Step h.p ∷ []) (h.replies ++ h.reply ∷ []) d new) h.remains.1 h.plays;
-        count = h.count;
+      let over : Ends (plan w h.0 deed) w point.taken last new = record {
+        events = h.2.events ++ Step h.2.p ∷ [];
+        replies = h.2.replies ++ h.2.reply ∷ [];
+        text = h.2.remains.0;
+        plays = subst (λ (d : Doing). Plays (plan w h.0 deed) w (h.2.events ++ Step h.2.p ∷ []) (h.2.replies ++ h.2.reply ∷ []) d new) h.2.remains.1 h.2.plays;
+        count = h.2.count;
       } in
       let more = ends_led whole script lines led.progress led.out rest line behind (Does deed) point.taken (record { begun = begun; taken = last }) new led.carried next (asked (Ok (Some (Does deed))) asks) is led.count
-      (subst (λ (v : WorldValue). EndsOrder v (Does deed) point.taken last new) (sym led.world_is) over) in
+      (subst (λ (v : WorldValue). EndsOrder v (Does deed) point.taken last new) (sym led.world_is) (h.0, h.1, over)) in
       rw add-one more
   at (Does deed) last begun (Some l) new asks is h = record {
     before = lines;
@@ -124,7 +126,9 @@ module _ (whole : Bool) (script : List ℕ) (lines : ℕ) (point : StepPoint) (w
     deed = deed;
     asks = asks;
     begun_is = is;
-    way = record { events = h.events ++ Step h.p ∷ []; replies = h.replies ++ h.reply ∷ []; last = h.last; plays = h.plays; is = h.remains; count = h.count };
+    order = h.0;
+    order_is = h.1;
+    way = record { events = h.2.events ++ Step h.2.p ∷ []; replies = h.2.replies ++ h.2.reply ∷ []; last = h.2.last; plays = h.2.plays; is = h.2.remains; count = h.2.count };
   }
 
   pub halted : (order : Order) (last : ℕ) (begun : Begun) (left : Option Left) (new : WorldValue) → order_of point.begun w line ≡ Ok (Some order) → begun ≡ after order → HaltsOrder w order point.taken last left new
@@ -160,8 +164,8 @@ module _ (whole : Bool) (script : List ℕ) (lines : ℕ) (point : StepPoint) (r
   -- the command goes on to its end
   pub inside_ends : (now : ℕ) (new : WorldValue) → Ends (doing_of l) w point.taken now new → Led whole script lines (record { begun = point.begun; taken = now }) new rest
   inside_ends now new h =
-      let over = way_ends (plan i.world i.deed) i.world w new l i.from.taken point.taken now i.way h in
-      let ends : PassesLine i.world i.from i.line (record { begun = point.begun; taken = now }) new = inr (record { order = Does i.deed; asks = i.asks; begun_is = i.begun_is; ends = over }) in
+      let over = way_ends (plan i.world i.order i.deed) i.world w new l i.from.taken point.taken now i.way h in
+      let ends : PassesLine i.world i.from i.line (record { begun = point.begun; taken = now }) new = inr (record { order = Does i.deed; asks = i.asks; begun_is = i.begun_is; ends = (i.order, i.order_is, over) }) in
       let more = line_more whole script i.before i.from i.world i.all i.line rest i.led i.next (record { begun = point.begun; taken = now }) new ends in
       let number : suc i.before ≡ lines = sym (add-one i.before) ∙ sym i.lines_are in
       subst (λ (n : ℕ). Led whole script n (record { begun = point.begun; taken = now }) new rest) number more
@@ -171,7 +175,7 @@ module _ (whole : Bool) (script : List ℕ) (lines : ℕ) (point : StepPoint) (r
       → StandsAt whole script last new × IsAtLeft whole script lines (record { begun = point.begun; taken = last }) rest left new
   inside_halts last left new h =
       subst (λ (n : ℕ). StandsAt whole script last new × IsAtLeft whole script n (record { begun = point.begun; taken = last }) rest left new) (sym i.lines_are)
-      (halted whole script i.before i.from i.world i.all i.line rest i.led i.next (Does i.deed) last point.begun left new i.asks i.begun_is (way_halts (plan i.world i.deed) i.world w new l i.from.taken point.taken last left i.way h))
+      (halted whole script i.before i.from i.world i.all i.line rest i.led i.next (Does i.deed) last point.begun left new i.asks i.begun_is (i.order, i.order_is, way_halts (plan i.world i.order i.deed) i.world w new l i.from.taken point.taken last left i.way h))
 
 -- ---- its end
 

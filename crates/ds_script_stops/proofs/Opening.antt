@@ -18,9 +18,9 @@ use Rattle.ds_script.specs.Plays.{Plays, Played}
 use Rattle.ds_script.specs.Script.{step_taken, steps_taken}
 use Rattle.ds_script.specs.Running.{Obeys}
 use Rattle.ds_script.proofs.Driving.{if_some}
-use Rattle.ds_script_stops.specs.declared.turn.Left.{Left}
-use Rattle.ds_script_stops.specs.declared.turn.Left.TheVariants as left
-use Rattle.ds_script_stops.specs.ScriptTurns.{Remains, IsWithin}
+use Rattle.ds_script.specs.declared.turn.Left.{Left}
+use Rattle.ds_script.specs.declared.turn.Left.TheVariants as left
+use Rattle.ds_script.specs.ScriptTurns.{Remains, IsWithin}
 use Rattle.ds_script_stops.specs.Reaching.{Opens, OpensOrder}
 
 -- ---- no event
@@ -95,19 +95,20 @@ says_opens said old text new h = record {
 
 -- a command that takes no step
 pub stepless : (old new : WorldValue) (command : Command) (answer : List ℕ)
-    → ((p : ℕ) (call : Call) → command ≡ commands.Whole p call → ⊥) → ((p : ℕ) → command ≡ commands.Settle p → ⊥) → ((p : ℕ) → command ≡ commands.Step p → ⊥)
+    → ((p : ℕ) (call : Call) → command ≡ commands.Whole p call → ⊥) → ((p : ℕ) → command ≡ commands.Settle p → ⊥) → ((p : ℕ) → command ≡ commands.Recalculate p → ⊥) → ((p : ℕ) → command ≡ commands.Step p → ⊥)
     → ((p : ℕ) (name : PointName) → command ≡ commands.RunTo p name → ⊥) → ((p : ℕ) → command ≡ commands.Run p → ⊥)
     → Obeys old (command_view command) answer new → OpensOrder old (command_view command) None new
-stepless old new (commands.Sheet layout) answer a b c d e h = (refl, h.1)
-stepless old new (commands.Layout layout edition) answer a b c d e h = (refl, h.1)
-stepless old new (commands.Whole p call) answer a b c d e h = absurd (a p call refl)
-stepless old new (commands.Begin p call) answer a b c d e h = once_opens p (beginning p call) (begins_unstepped p call) old answer new h
-stepless old new (commands.Settle p) answer a b c d e h = absurd (b p refl)
-stepless old new (commands.Step p) answer a b c d e h = absurd (c p refl)
-stepless old new (commands.RunTo p name) answer a b c d e h = absurd (d p name refl)
-stepless old new (commands.Run p) answer a b c d e h = absurd (e p refl)
-stepless old new (commands.Stop p) answer a b c d e h = once_opens p (events.Stop p) (λ reply. refl) old answer new h
-stepless old new commands.Crash answer a b c d e h = once_opens 0 events.Crash (λ reply. refl) old answer new h
-stepless old new (commands.Evict place) answer a b c d e h = once_opens 0 (events.Evict place) (λ reply. refl) old answer new h
-stepless old new (commands.Peek cell) answer a b c d e h = says_opens _ old answer new h
-stepless old new (commands.Word place) answer a b c d e h = says_opens _ old answer new h
+stepless old new (commands.Sheet layout) answer a b r c d e h = (refl, h.1)
+stepless old new (commands.Layout layout edition) answer a b r c d e h = (refl, h.1)
+stepless old new (commands.Whole p call) answer a b r c d e h = absurd (a p call refl)
+stepless old new (commands.Begin p call) answer a b r c d e h = (h.0, h.1, once_opens p (beginning p call) (begins_unstepped p call) old answer new h.2)
+stepless old new (commands.Settle p) answer a b r c d e h = absurd (b p refl)
+stepless old new (commands.Recalculate p) answer a b r c d e h = absurd (r p refl)
+stepless old new (commands.Step p) answer a b r c d e h = absurd (c p refl)
+stepless old new (commands.RunTo p name) answer a b r c d e h = absurd (d p name refl)
+stepless old new (commands.Run p) answer a b r c d e h = absurd (e p refl)
+stepless old new (commands.Stop p) answer a b r c d e h = (h.0, h.1, once_opens p (events.Stop p) (λ reply. refl) old answer new h.2)
+stepless old new commands.Crash answer a b r c d e h = (h.0, h.1, once_opens 0 events.Crash (λ reply. refl) old answer new h.2)
+stepless old new (commands.Evict place) answer a b r c d e h = (h.0, h.1, once_opens 0 (events.Evict place) (λ reply. refl) old answer new h.2)
+stepless old new (commands.Peek cell) answer a b r c d e h = (h.0, h.1, says_opens _ old answer new h.2)
+stepless old new (commands.Word place) answer a b r c d e h = (h.0, h.1, says_opens _ old answer new h.2)

@@ -10,9 +10,9 @@ use Rattle.ds_script.specs.Doing.{Doing, asks, told}
 use Rattle.ds_script.specs.Plays.{Plays}
 use Rattle.ds_script.specs.Script.{step_taken, steps_taken}
 use Rattle.ds_script.proofs.Played.{plays_on, play_runs}
-use Rattle.ds_script_stops.specs.declared.turn.Left.{Left}
-use Rattle.ds_script_stops.specs.declared.turn.CommandTurn.{CommandTurn}
-use Rattle.ds_script_stops.specs.ScriptTurns.{Remains, IsStep, TakesTurn, doing_of, steps_of, events_from, events_to_step}
+use Rattle.ds_script.specs.declared.turn.Left.{Left}
+use Rattle.ds_script.specs.declared.turn.CommandTurn.{CommandTurn}
+use Rattle.ds_script.specs.ScriptTurns.{Remains, IsStep, TakesTurn, doing_of, steps_of, events_from, events_to_step}
 use Rattle.ds_script_stops.specs.Reaching.{OnTheWay, Ends, Halts}
 
 -- ---- counting
@@ -50,48 +50,48 @@ was_step false event reply taken last h below is = absurd (let e : ⊥ = omega (
 
 module _ (doing : Doing) (old mid new : WorldValue) (before taken now : ℕ) (l : Left) (turn : CommandTurn) (way : OnTheWay doing old before taken l mid) (turns : TakesTurn l mid turn new) (is_now : now ≡ taken + steps_of turn.stepped) where
   -- the event of a turn, after those before
-  further : Plays doing old (way.events ++ turns.event ∷ []) (way.replies ++ turns.reply ∷ []) (told (doing_of l) turns.event turns.reply new) new
+  further : Plays doing old (way.events ++ turns.event ∷ []) (way.replies ++ turn.reply ∷ []) (told (doing_of l) turns.event turn.reply new) new
   further =
-      plays_on way.events way.replies (turns.event ∷ []) (turns.reply ∷ []) doing (doing_of l) (told (doing_of l) turns.event turns.reply new) old mid new
+      plays_on way.events way.replies (turns.event ∷ []) (turn.reply ∷ []) doing (doing_of l) (told (doing_of l) turns.event turn.reply new) old mid new
       (subst (λ (d : Doing). Plays doing old way.events way.replies d mid) way.is way.plays) (new, turns.asked, turns.fits, (refl, refl))
 
-  counted : before + steps_taken (way.events ++ turns.event ∷ []) (way.replies ++ turns.reply ∷ []) ≡ now
+  counted : before + steps_taken (way.events ++ turns.event ∷ []) (way.replies ++ turn.reply ∷ []) ≡ now
   counted =
-      let one = one_more way.events way.replies turns.event turns.reply doing way.last old mid way.plays in
-      let steps = step_count turn.stepped turns.event turns.reply turns.is in
+      let one = one_more way.events way.replies turns.event turn.reply doing way.last old mid way.plays in
+      let steps = step_count turn.stepped turns.event turn.reply turns.is in
       omega (arith, one, steps, is_now, way.count)
 
-  pub on_way : (next : Left) → Remains (Some next) (told (doing_of l) turns.event turns.reply new) → OnTheWay doing old before now next new
+  pub on_way : (next : Left) → Remains (Some next) (told (doing_of l) turns.event turn.reply new) → OnTheWay doing old before now next new
   on_way next is = record {
     events = way.events ++ turns.event ∷ [];
-    replies = way.replies ++ turns.reply ∷ [];
-    last = told (doing_of l) turns.event turns.reply new;
+    replies = way.replies ++ turn.reply ∷ [];
+    last = told (doing_of l) turns.event turn.reply new;
     plays = further;
     is = is;
     count = counted;
   }
 
-  pub is_over : Remains None (told (doing_of l) turns.event turns.reply new) → Ends doing old before now new
+  pub is_over : Remains None (told (doing_of l) turns.event turn.reply new) → Ends doing old before now new
   is_over is = record {
     events = way.events ++ turns.event ∷ [];
-    replies = way.replies ++ turns.reply ∷ [];
+    replies = way.replies ++ turn.reply ∷ [];
     text = is.0;
-    plays = subst (λ (d : Doing). Plays doing old (way.events ++ turns.event ∷ []) (way.replies ++ turns.reply ∷ []) d new) is.1 further;
+    plays = subst (λ (d : Doing). Plays doing old (way.events ++ turns.event ∷ []) (way.replies ++ turn.reply ∷ []) d new) is.1 further;
     count = counted;
   }
 
   pub stands : (last : ℕ) → taken < last → now ≡ last → Halts doing old before last turn.left new
   stands last below is =
-      let step = was_step turn.stepped turns.event turns.reply taken last turns.is below (sym is_now ∙ is) in
+      let step = was_step turn.stepped turns.event turn.reply taken last turns.is below (sym is_now ∙ is) in
       record {
         events = way.events;
         replies = way.replies;
         p = step.0;
-        reply = turns.reply;
-        last = told (doing_of l) turns.event turns.reply new;
-        plays = subst (λ (e : Event). Plays doing old (way.events ++ e ∷ []) (way.replies ++ turns.reply ∷ []) (told (doing_of l) turns.event turns.reply new) new) step.1 further;
+        reply = turn.reply;
+        last = told (doing_of l) turns.event turn.reply new;
+        plays = subst (λ (e : Event). Plays doing old (way.events ++ e ∷ []) (way.replies ++ turn.reply ∷ []) (told (doing_of l) turns.event turn.reply new) new) step.1 further;
         taken = step.2;
-        count = subst (λ (e : Event). before + steps_taken (way.events ++ e ∷ []) (way.replies ++ turns.reply ∷ []) ≡ last) step.1 (counted ∙ is);
+        count = subst (λ (e : Event). before + steps_taken (way.events ++ e ∷ []) (way.replies ++ turn.reply ∷ []) ≡ last) step.1 (counted ∙ is);
         remains = turns.remains;
         within = turns.within;
       }

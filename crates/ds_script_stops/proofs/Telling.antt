@@ -38,7 +38,7 @@ pub tells_none : (w : WorldValue) (text : List ℕ) → Tells w [] text text w
 tells_none w text = record { events = []; replies = []; answers = []; behind = no_deed; is = sym (append-nil text) }
 
 -- one deed more
-pub tells_more : (start w new : WorldValue) (deeds : List Deed) (deed : Deed) (before text answer now : List ℕ) → Tells start deeds before text w → Played (plan w deed) w answer new → now ≡ text ++ answer
+pub tells_more : (start w new : WorldValue) (deeds : List Deed) (deed : Deed) (before text answer now : List ℕ) → Tells start deeds before text w → Played (plan w [] deed) w answer new → now ≡ text ++ answer
     → Tells start (deeds ++ deed ∷ []) before now new
 tells_more start w new deeds deed before text answer now t h is = record {
   events = t.events ++ h.events;

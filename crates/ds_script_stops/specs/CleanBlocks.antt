@@ -1,5 +1,5 @@
 -- What is reported after the crash of a block, where its settle is alone.
-use Rattle.std.specs.Prelude.{ℕ, ◌≡◌, List, ◌++◌}
+use Rattle.std.specs.Prelude.{ℕ, ◌≡◌, List, [], ◌++◌}
 use Rattle.ds_state.specs.Value.{WorldValue}
 use Rattle.ds_core.specs.declared.event.Event.{Event}
 use Rattle.ds_core.specs.declared.event.Event.TheVariants.{BeginShow}
@@ -23,12 +23,12 @@ pub record TellsClean (crashed : WorldValue) (events : List Event) (replies : Li
   pub settle_replies : List Reply
   pub line : List ℕ
   pub settled : WorldValue
-  pub settles : Plays (plan recovered (Settle 0)) recovered settle_events settle_replies (Says line) settled
+  pub settles : Plays (plan recovered [] (Settle 0)) recovered settle_events settle_replies (Says line) settled
   pub clean : SaysClean 0 line
   pub report_events : List Event
   pub report_replies : List Reply
   pub report : List ℕ
-  pub reports : Plays (plan settled (Whole 0 (BeginShow 0))) settled report_events report_replies (Says report) new
+  pub reports : Plays (plan settled [] (Whole 0 (BeginShow 0))) settled report_events report_replies (Says report) new
   pub events_are : events ≡ (recover_events ++ settle_events) ++ report_events
   pub replies_are : replies ≡ (recover_replies ++ settle_replies) ++ report_replies
   pub answers_are : answers ≡ (told ++ line) ++ report

@@ -1,4 +1,3 @@
 pub mod StopBlocks
-pub mod ScriptTurns
 pub mod Reaching
 pub mod CleanBlocks

@@ -10,14 +10,14 @@ use Rattle.ds_script_io.specs.ScriptLines.{ALine, next_of}
 use Rattle.ds_script_io.specs.declared.ending.ScriptEnd.{ScriptEnd}
 use Rattle.ds_script_io.specs.declared.ending.ScriptEnd.TheVariants as ends
 use Rattle.ds_script.specs.Orders.{Deed, Order, Make, Does, order_of}
-use Rattle.ds_script.specs.Doing.{Doing, Says, plan}
+use Rattle.ds_script.specs.Doing.{Doing, Says, IsOrderOf, plan}
 use Rattle.ds_script.specs.Plays.{Plays}
 use Rattle.ds_script.specs.Running.{after}
 use Rattle.ds_script.specs.declared.order.Begun.{Begun}
 use Rattle.ds_script.specs.Script.{Progress, IsMade, Carried, StandsAt, step_taken, steps_taken}
 use Rattle.ds_script_stops.specs.StopBlocks.{InTurn, deeds_behind, stop_text, IsIn, EndsBefore, BreaksBefore}
 use Rattle.ds_script_stops.specs.declared.range.StopRange.{StopRange}
-use Rattle.ds_script_stops.specs.ScriptTurns.{Remains, IsWithin, doing_of}
+use Rattle.ds_script.specs.ScriptTurns.{Remains, IsWithin, doing_of}
 use Rattle.ds_script_stops.specs.declared.play.Played.{Played}
 use Rattle.ds_script_stops.specs.declared.play.Played.TheVariants as played
 use Rattle.ds_script_stops.specs.declared.reach.Advance.{Advance}
@@ -28,7 +28,7 @@ use Rattle.ds_script_stops.specs.declared.reach.Hindrance.{Hindrance}
 use Rattle.ds_script_stops.specs.declared.reach.Hindrance.TheVariants as hindrances
 use Rattle.ds_script_stops.specs.declared.reach.Short.{Short}
 use Rattle.ds_script_stops.specs.declared.reach.Short.TheVariants as shorts
-use Rattle.ds_script_stops.specs.declared.turn.Left.{Left}
+use Rattle.ds_script.specs.declared.turn.Left.{Left}
 
 -- ---- a command
 
@@ -88,18 +88,18 @@ taken_before (Does deed) taken = taken
 -- the order is carried out up to its first step, without it, and this is left of it there
 abbrev pub OpensOrder : WorldValue → Order → Option Left → WorldValue → Type 0
 OpensOrder old (Make first columns rows processes edition) left new = (left ≡ None) × IsMade columns rows processes edition new
-OpensOrder old (Does deed) left new = Opens (plan old deed) old left new
+OpensOrder old (Does deed) left new = (order : List ℕ) × IsOrderOf old deed order × Opens (plan old order deed) old left new
 
 -- the order is carried out, in a run that had taken m steps before it and has taken n then
 abbrev pub EndsOrder : WorldValue → Order → ℕ → ℕ → WorldValue → Type 0
 EndsOrder old (Make first columns rows processes edition) before now new = (now ≡ 0) × IsMade columns rows processes edition new
-EndsOrder old (Does deed) before now new = Ends (plan old deed) old before now new
+EndsOrder old (Does deed) before now new = (order : List ℕ) × IsOrderOf old deed order × Ends (plan old order deed) old before now new
 
 -- the order is carried out up to a step, with which a run that had taken m steps before has taken n, and
 -- this is left of it there
 abbrev pub HaltsOrder : WorldValue → Order → ℕ → ℕ → Option Left → WorldValue → Type 0
 HaltsOrder old (Make first columns rows processes edition) before now left new = ⊥
-HaltsOrder old (Does deed) before now left new = Halts (plan old deed) old before now left new
+HaltsOrder old (Does deed) before now left new = (order : List ℕ) × IsOrderOf old deed order × Halts (plan old order deed) old before now left new
 
 -- how far the order is carried out, in a run that had taken n steps before it and goes up to the last one
 abbrev pub IsCarried : WorldValue → Order → ℕ → ℕ → Played → WorldValue → Type 0
@@ -167,7 +167,9 @@ pub record IsInside (whole : Bool) (script : List ℕ) (lines : ℕ) (point : St
   pub deed : Deed
   pub asks : order_of from.begun world line ≡ Ok (Some (Does deed))
   pub begun_is : point.begun ≡ after (Does deed)
-  pub way : OnTheWay (plan world deed) world from.taken point.taken l w
+  pub order : List ℕ
+  pub order_is : IsOrderOf world deed order
+  pub way : OnTheWay (plan world order deed) world from.taken point.taken l w
 
 -- a run of the script stands here: between two lines, or in a command
 abbrev pub IsAtLeft : Bool → List ℕ → ℕ → StepPoint → List ℕ → Option Left → WorldValue → Type 0

@@ -18,13 +18,13 @@ use Rattle.ds_script.specs.Script.{Finishes, Breaks, StandsAt, steps_taken}
 
 -- ---- deeds, one after another
 
--- from this world on the deeds are carried out in their order, each to its end; their events, the replies, the texts of
--- their answers, and the world that they lead to
+-- from this world on the deeds, none a recalculation, are carried out in their order, each to its end; their events, the
+-- replies, the texts of their answers, and the world that they lead to
 pub data InTurn (start : WorldValue) : List Deed → List Event → List Reply → List ℕ → WorldValue → Type 0 where
   no_deed : InTurn start [] [] [] [] start
   one_deed_more : (deeds : List Deed) (events : List Event) (replies : List Reply) (answers : List ℕ) (w : WorldValue)
       (deed : Deed) (own : List Event) (told : List Reply) (answer : List ℕ) (new : WorldValue)
-      → InTurn start deeds events replies answers w → Plays (plan w deed) w own told (Says answer) new
+      → InTurn start deeds events replies answers w → Plays (plan w [] deed) w own told (Says answer) new
       → InTurn start (deeds ++ deed ∷ []) (events ++ own) (replies ++ told) (answers ++ answer) new
 
 -- ---- a block

@@ -6,4 +6,3 @@ pub mod play;
 pub mod range;
 pub mod reach;
 pub mod stops;
-pub mod turn;

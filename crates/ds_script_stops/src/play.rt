@@ -1,21 +1,24 @@
 //! Plays commands up to a step.
 
-ghost use Rattle.std.specs.Prelude.{◌≡◌, ◌<◌, ◌+◌, ◌-◌, ◌^◌, IfSome, IfOk};
+ghost use Rattle.std.specs.Prelude.{ℕ, List, ◌≡◌, ◌<◌, ◌+◌, ◌-◌, ◌^◌, IfSome, IfOk};
+ghost use Rattle.ds_layout.specs.Places.{cells_of};
+ghost use Rattle.ds_order.specs.Orders.{IsOrder};
 ghost use Rattle.ds_script.specs.Orders.{CanDo, beginning, command_view};
-ghost use Rattle.ds_script.specs.Doing.{Calls, settle};
-ghost use Rattle.ds_script_stops.specs.ScriptTurns.{IsWithin, Remains, doing_of, steps_of};
+ghost use Rattle.ds_script.specs.Doing.{Calls, in_order, settle};
+ghost use Rattle.ds_script.specs.ScriptTurns.{IsWithin, Remains, doing_of, steps_of};
 ghost use Rattle.ds_script_stops.specs.Reaching.{Opens, OpensOrder, IsPlayed, IsCarried, taken_before};
 
-use crate::turn::{Left, after_begin, left_of, take_turn, to_point};
 use ds_calls::settle::first_turn;
+use ds_recalculation::recalculation::planned;
 use ds_script::carry::{begins, carry_out};
 use ds_script::drive::Until;
 use ds_script::order::{Call, Command};
+use ds_script::turn::{CommandTurn, Left, after_begin, in_order, left_of, take_turn, to_point};
 use ds_state::world::World;
 use std::alloc::{AllocError, Global};
 
 /// How far a command was played, in a run that goes up to a step.
-#[derive(Clone, Copy, Debug)]
+#[derive(Debug, Drop)]
 pub enum Played {
     /// To its end: how many steps the run has taken then, fewer than up to that step.
     Ended(u64),
@@ -40,6 +43,15 @@ fn settle(world: &World, process: usize) -> Option<Left>
     left_of(process, first_turn(world))
 }
 
+// A recalculation, in the order of the references. An error means that an allocation failed.
+fn recalculate(alloc: Global, world: &World, process: usize) -> Result<Option<Left>, AllocError>
+    ensures opens { IfOk result (λ left. (order : List ℕ) × IsOrder (cells_of world.now.sheet.layout) order × Remains left (in_order world.now process order)) }
+    ensures within { IfOk result (λ left. IfSome left (IsWithin world.now)) }
+{
+    let order = planned(alloc, world)?;
+    Ok(in_order(world, process, order))
+}
+
 // Carries a command out up to its first step, and gives what is left of it then. An error means that an allocation
 // failed.
 fn open(alloc: Global, world: &mut World, command: Command<'_>) -> Result<Option<Left>, AllocError>
@@ -50,6 +62,7 @@ fn open(alloc: Global, world: &mut World, command: Command<'_>) -> Result<Option
     match command {
         Command::Whole(process, begun) => Ok(call(alloc, world, process, begun)),
         Command::Settle(process) => Ok(settle(world, process)),
+        Command::Recalculate(process) => recalculate(alloc, world, process),
         Command::Step(process) => Ok(Some(Left::Drives(process, Until::OneStep))),
         Command::RunTo(process, name) => Ok(to_point(world, process, name)),
         Command::Run(process) => Ok(Some(Left::Drives(process, Until::ToAnswer))),
@@ -77,12 +90,16 @@ pub fn play(alloc: Global, world: &mut World, first: Left, before: u64, last: u6
     let mut taken = before;
     let mut left = first;
     'turns: loop {
-        let turn = take_turn(alloc, world, left);
-        taken = count(taken, turn.stepped);
+        let CommandTurn {
+            stepped,
+            reply: _,
+            left: after,
+        } = take_turn(alloc, world, left);
+        taken = count(taken, stepped);
         if taken == last {
-            return Played::Halted(turn.left);
+            return Played::Halted(after);
         }
-        match turn.left {
+        match after {
             Some(next) => left = next,
             None => return Played::Ended(taken),
         }

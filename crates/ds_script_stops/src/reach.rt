@@ -4,14 +4,14 @@ ghost use Rattle.std.specs.Prelude.{◌≡◌, ◌<◌, ◌≤◌, ◌+◌, ◌^
 ghost use Rattle.ds_layout.specs.declared.place.Edition.TheVariants as editions;
 ghost use Rattle.ds_state.specs.Value.{WorldValue};
 ghost use Rattle.ds_script.specs.Script.{IsMade, StandsAt};
-ghost use Rattle.ds_script_stops.specs.ScriptTurns.{IsWithin};
+ghost use Rattle.ds_script.specs.ScriptTurns.{IsWithin};
 ghost use Rattle.ds_script_stops.specs.Reaching.{Advances, StopsLine, IsAt, FallsShort, Reaches, short_at};
 ghost use Rattle.ds_script_stops.specs.declared.reach.Hindrance.TheVariants as hindrances;
 
 use crate::play::{Played, carry_up_to, play};
-use crate::turn::Left;
 use ds_script::order::{Begun, read_order};
 use ds_script::script::begun_by;
+use ds_script::turn::Left;
 use ds_script_io::ending::ScriptFault;
 use ds_script_io::line::{NextLine, next_line};
 use ds_state::world::World;
@@ -27,7 +27,7 @@ pub struct StepPoint {
 }
 
 /// Where a run of a script stands, between two events.
-#[derive(Clone, Copy, Debug)]
+#[derive(Debug, Drop)]
 pub struct ScriptPosition<'a> {
     /// How many lines have begun.
     pub lines: usize,
@@ -40,7 +40,7 @@ pub struct ScriptPosition<'a> {
 }
 
 // How far a line was carried out, in a run that goes up to a step.
-#[derive(Clone, Copy, Debug)]
+#[derive(Debug, Drop)]
 enum Advance {
     // To its end: the point after it.
     Passed(StepPoint),
@@ -205,15 +205,21 @@ pub fn go_on<'a>(
     ensures short { IfOk result (λ now. now.lines + length now.rest.now ≤ place.entry.lines + length place.entry.rest.now) }
     ensures falls { IfErr result (λ short. (script : List ℕ) → IsAt whole script place.entry world.old → FallsShort whole script last world.new short) }
 {
-    let Some(left) = place.left else {
-        return through_lines(alloc, whole, place, last, world);
-    };
     let ScriptPosition {
         lines,
         point,
+        left,
         rest,
-        ..
     } = place;
+    let Some(left) = left else {
+        let between = ScriptPosition {
+            lines,
+            point,
+            left: None,
+            rest,
+        };
+        return through_lines(alloc, whole, between, last, world);
+    };
     let begun = point.begun;
     match play(alloc, world, left, point.taken, last) {
         Played::Halted(left) => {
@@ -254,7 +260,7 @@ pub fn reach(
     ensures { Reaches whole script.now last world.new result }
 {
     match go_on(alloc, whole, ScriptPosition::first(script), last, world) {
-        Ok(_) => Ok(()),
+        Ok(_place) => Ok(()),
         Err(short) => Err(short),
     }
 }

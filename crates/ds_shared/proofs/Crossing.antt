@@ -4,7 +4,7 @@ use denote.Param.Send.{IsSend, IsSync, sendable}
 use denote.Param.SendFields.{declared_send, declared_sync}
 use denote.Struct.Record.{declared}
 use Rattle.atomic_table.proofs.shared.Seat.TheSendSync.{the_send as place_send}
-use Rattle.ds_drives.proofs.Crossing.{board_send, board_sync}
+use Rattle.ds_structure_shared.proofs.Crossing.{board_send, board_sync}
 use Rattle.ds_shared.specs.contracts.pass.Pass as Pass
 use Rattle.ds_shared.specs.contracts.sheet.SharedSheet as SharedSheet
 

@@ -1,5 +1,3 @@
-pub mod Losses
-pub mod Powerless
 pub mod Passing
 pub mod Noting
 pub mod Joined

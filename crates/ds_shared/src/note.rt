@@ -1,7 +1,7 @@
 //! What one pass has seen is shown to another.
 
 ghost use Rattle.std.specs.Prelude.{◌≡◌};
-ghost use Rattle.ds_drives.specs.History.{Extends};
+ghost use Rattle.pm_board.specs.Looks.{Extends};
 ghost use Rattle.ds_shared.specs.Known.{noted_by, seen_by};
 ghost use Rattle.ds_shared.specs.Answers.{HasLooked, IsNoteOf, IsOf};
 
@@ -16,7 +16,7 @@ impl SharedSheet {
         ensures pass { IsOf self.now pass.new × HasLooked pass.old pass.new × (seen_by pass.new.place ≡ seen_by pass.old.place) }
         ensures note { IsNoteOf self.now result × (noted_by result.place ≡ seen_by pass.old.place) }
     {
-        let place = self.board.note(&mut pass.place);
+        let place = self.board.words.note(&mut pass.place);
         Note { place }
     }
 
@@ -30,7 +30,7 @@ impl SharedSheet {
         ensures note { Extends (seen_by pass.new.place) (noted_by note.place) }
     {
         let Note { place } = note;
-        self.board.join(&mut pass.place, place);
-        self.board.look(&mut pass.place);
+        self.board.words.join(&mut pass.place, place);
+        self.board.words.look(&mut pass.place);
     }
 }

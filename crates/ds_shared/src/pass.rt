@@ -6,14 +6,14 @@ ghost use Rattle.ds_shared.specs.Known.{IsKnown, IsMemory, IsNote};
 ghost use Rattle.ds_eval.specs.Code.{plain_code};
 ghost use Rattle.std.specs.Coded.{codes};
 
-use ds_drives::board::TableSeat;
 use ds_layout::place::Edition;
 use ds_state::situation::Rest;
+use ds_structure_shared::calls::SheetSeat;
 
 /// What was answered before a sheet was opened. Its owner keeps it for the close.
 #[derive(Drop)]
 pub struct Past {
-    pub(crate) place: TableSeat,
+    pub(crate) place: SheetSeat,
     pub ghost memory: { IsMemory place } by { Prim.hlevel (codes, plain_code) },
 }
 
@@ -21,14 +21,14 @@ pub struct Past {
 /// shown it by `SharedSheet::learn`.
 #[derive(Drop)]
 pub struct Note {
-    pub(crate) place: TableSeat,
+    pub(crate) place: SheetSeat,
     pub ghost known: { IsNote place } by { Prim.hlevel (codes, plain_code) },
 }
 
 /// The right to act for a process of a sheet.
 #[derive(Drop)]
 pub struct Pass {
-    pub(crate) place: TableSeat,
+    pub(crate) place: SheetSeat,
     pub(crate) process: usize,
     pub(crate) number: usize,
     pub(crate) stopped: bool,
@@ -38,7 +38,7 @@ pub struct Pass {
 
 impl Pass {
     ghost use Rattle.std.specs.Prelude.{◌≡◌};
-    ghost use Rattle.ds_drives.specs.Views.{second_rest};
+    ghost use Rattle.ds_structure.specs.Calls.{second_rest};
 
     /// The process that it acts for.
     pub fn process(&self) -> usize

@@ -33,10 +33,10 @@ use Rattle.ds_core.specs.Takes.{WorldRun, Fits, world_at}
 use Rattle.ds_core.specs.declared.event.Event.{Event}
 use Rattle.ds_core.specs.declared.event.Event.TheVariants.{BeginEdit, BeginWork, BeginShow, BeginRecover, BeginMigrate, Step, Offer, Evict, Stop, Crash}
 use Rattle.ds_core.specs.declared.reply.Reply.{Reply}
-use Rattle.ds_drives.specs.declared.board.CallEvent.{CallEvent}
-use Rattle.ds_drives.specs.declared.board.CallEvent.TheVariants.{Began, Edited, Worked, Recovered, Reported}
-use Rattle.ds_drives.specs.Views.{In}
-use Rattle.ds_drives.specs.History.{Happened, Moves, StepMoves, edit, work, report, recovery, edit_answered, work_answered, show_answered, recovery_answered, answered_at, answered_from}
+use Rattle.ds_shared_runs.specs.declared.history.CallEvent.{CallEvent}
+use Rattle.ds_shared_runs.specs.declared.history.CallEvent.TheVariants.{Began, Edited, Worked, Recovered, Reported}
+use Rattle.pm_base.specs.Structures.{In}
+use Rattle.ds_shared_runs.specs.History.{Happened, Moves, StepMoves, edit, work, report, recovery, edit_answered, work_answered, show_answered, recovery_answered, answered_at, answered_from}
 use Rattle.ds_shared_runs.specs.CallEvents.{event_of, reply_to, IsIn, StandsAt}
 
 -- ---- lists

@@ -13,12 +13,12 @@ use Rattle.ds_state.specs.declared.reports.TheConstants.{SETTLED_MOST}
 use Rattle.ds_state.proofs.Underway.{none_where}
 use Rattle.ds_core.specs.Takes.{WorldRun}
 use Rattle.ds_core.proofs.EachRun.{runs_have_headline}
-use Rattle.ds_drives.specs.History.{Happened, Run, Stood, IsTidy, IsStanding, Moves}
+use Rattle.ds_shared_runs.specs.History.{Happened, Run, Stood, IsTidy, IsStanding, Moves}
 use Rattle.ds_shared_runs.specs.Runs.{events_of, replies_of, begun_in, begun_by, IsRun}
 use Rattle.ds_shared_runs.proofs.Values.{tab_length, tab_low, value_on, value_is}
-use Rattle.ds_drives.specs.declared.board.CallEvent.{CallEvent}
-use Rattle.ds_drives.specs.Views.{In}
-use Rattle.ds_drives.specs.History.{answered_from}
+use Rattle.ds_shared_runs.specs.declared.history.CallEvent.{CallEvent}
+use Rattle.pm_base.specs.Structures.{In}
+use Rattle.ds_shared_runs.specs.History.{answered_from}
 use Rattle.ds_shared_runs.specs.CallEvents.{StandsAt}
 use Rattle.ds_shared_runs.proofs.Answered.{run_more, answered_last, answered_still}
 use Rattle.ds_shared_runs.proofs.Events.{Advanced, advances}

@@ -59,7 +59,7 @@ use Rattle.ds_core.specs.declared.reply.Reply.{Reply}
 use Rattle.ds_core.specs.declared.reply.Reply.TheVariants as reply
 use Rattle.ds_core.proofs.Closing.{to_filter}
 use Rattle.ds_core.proofs.Crash as crash
-use Rattle.ds_drives.specs.History.{IsTidy, IsStanding, Moves, StepMoves, EditMoves, WorkMoves, ShowMoves, RecoveryMoves, edit, work, report, recovery}
+use Rattle.ds_shared_runs.specs.History.{IsTidy, IsStanding, Moves, StepMoves, EditMoves, WorkMoves, ShowMoves, RecoveryMoves, edit, work, report, recovery}
 use Rattle.ds_shared_runs.specs.Runs.{begun_by}
 use Rattle.ds_shared_runs.proofs.Values.{tab, tab_length, value_on, value_is}
 use Rattle.ds_shared_runs.proofs.Counted.{same_under, moved, answered_same}

@@ -15,8 +15,8 @@ use Rattle.ds_state.specs.Reports.{PlainReports}
 use Rattle.ds_state.specs.World.{PlainWorld}
 use Rattle.ds_state.specs.Value.{WorldValue, world_of, first_rest}
 use Rattle.ds_state.specs.declared.situation.Situation.TheVariants.{Idle}
-use Rattle.ds_drives.specs.Table.{two_sided}
-use Rattle.ds_drives.specs.History.{IsTidy}
+use Rattle.pm_board.specs.Table.{two_sided}
+use Rattle.ds_shared_runs.specs.History.{IsTidy}
 
 -- the first n values of a function
 abbrev pub tab : {A : Type 0} → (ℕ → A) → ℕ → List A

@@ -15,9 +15,9 @@ use Rattle.ds_show.specs.ShowSteps.{answered}
 use Rattle.ds_core.specs.Headline.{IsAcknowledged, IsToldDone, IsCall, SettledFits, UnsettledFits, HasCause}
 use Rattle.ds_core.specs.LedgerSteps.{Closes, IsOvertakenBy, Resolves}
 use Rattle.ds_core.specs.Moments.{Ledger}
-use Rattle.ds_drives.specs.History.{Happened}
-use Rattle.ds_drives.specs.declared.board.CallEvent.{CallEvent}
-use Rattle.ds_drives.specs.declared.board.CallEvent.TheVariants.{Began, Edited, Worked, Recovered, Reported}
+use Rattle.ds_shared_runs.specs.History.{Happened}
+use Rattle.ds_shared_runs.specs.declared.history.CallEvent.{CallEvent}
+use Rattle.ds_shared_runs.specs.declared.history.CallEvent.TheVariants.{Began, Edited, Worked, Recovered, Reported}
 use Rattle.ds_shared_runs.specs.Runs.{IsRun, events_of, replies_of}
 
 module _ (first : PlainWorld) (hs : List Happened) (last : PlainWorld) (r : IsRun first hs last) where

@@ -1,4 +1,5 @@
+pub mod History
 pub mod CallEvents
 pub mod Runs
 pub mod Fitting
-pub mod Closed
+pub mod Answered

@@ -8,9 +8,9 @@ use Rattle.ds_core.specs.Headline.{HasHeadline}
 use Rattle.ds_core.specs.declared.event.Event.{Event}
 use Rattle.ds_core.specs.declared.event.Event.TheVariants.{BeginShow}
 use Rattle.ds_core.specs.declared.reply.Reply.{Reply}
-use Rattle.ds_drives.specs.declared.board.CallEvent.{CallEvent}
-use Rattle.ds_drives.specs.Views.{In}
-use Rattle.ds_drives.specs.History.{Happened, answered_from}
+use Rattle.ds_shared_runs.specs.declared.history.CallEvent.{CallEvent}
+use Rattle.pm_base.specs.Structures.{In}
+use Rattle.ds_shared_runs.specs.History.{Happened, answered_from}
 use Rattle.ds_shared_runs.specs.CallEvents.{StandsAt}
 
 -- its events, the first one first

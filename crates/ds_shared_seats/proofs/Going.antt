@@ -1,7 +1,7 @@
 -- A fuse of so many steps, in a call.
 use Rattle.std.proofs.Common.{ℕ, ◌≡◌, ◌<◌, ◌+◌, arith}
-use Rattle.ds_drives.specs.declared.board.CallEvent.{CallEvent}
-use Rattle.ds_drives.specs.Views.{In}
+use Rattle.pm_base.specs.Structures.{In}
+use Rattle.ds_structure_shared.specs.Boards.{SheetDeed}
 use Rattle.ds_shared.specs.Answers.{IfStopped, IsAskedEachStep, noes}
 use Rattle.ds_shared.specs.Known.{outcomes}
 use Rattle.ds_shared.specs.declared.ended.Ended.{Ended}
@@ -21,7 +21,7 @@ at_stop ends.Stopped taken left fuse is none = let empty : left ≡ 0 = none (om
 
 -- a call whose fuse was asked before each step took no more steps than that has
 pub goes_of : {E : Type 0} (fuse : ℕ) (f g : Steps) (old new : Pass) (how : Ended E) → f.left ≡ fuse → IsAskedEachStep said f g old new how → new.process ≡ old.process
-    → ((t : CallEvent) → In (outcomes old.place) t → In (outcomes new.place) t) → Goes fuse old new how
+    → ((t : SheetDeed) → In (outcomes old.place) t → In (outcomes new.place) t) → Goes fuse old new how
 goes_of fuse f g old new how is h process kept =
     let returned = h.asked f 0 0 ((omega arith), (λ no. absurd (omega (arith, no)))) in
     let sum : fuse ≡ g.left + h.taken = omega (arith, returned.0, is) in

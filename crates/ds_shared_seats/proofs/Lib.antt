@@ -2,5 +2,4 @@ pub mod Closing
 pub mod Crossing
 pub mod Going
 pub mod Looking
-pub mod Losing
 pub mod Moving

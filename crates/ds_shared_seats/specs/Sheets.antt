@@ -7,14 +7,16 @@ use mathlib.Core.List.{IsPrefix}
 use Rattle.rtrb.specs.Ring.{known_items}
 use Rattle.ds_formula.specs.declared.cells.Cell.{Cell}
 use Rattle.ds_formula.specs.Cells.{IsInside}
-use Rattle.ds_drives.specs.declared.board.Seated.{Seated}
-use Rattle.ds_drives.specs.Rule.{Closes}
-use Rattle.ds_drives.specs.Starts.{start_of}
-use Rattle.ds_drives.specs.Views.{In, past_of, sole}
+use Rattle.pm_base.specs.Structures.{In}
+use Rattle.pm_board.specs.Rule.{Closes}
+use Rattle.pm_board.specs.Starts.{start_of}
+use Rattle.pm_board.specs.Views.{past_of}
+use Rattle.ds_structure.specs.Sheet.{sheet}
+use Rattle.ds_structure_shared.specs.Boards.{SheetSeated, sole}
 use Rattle.ds_shared.specs.declared.pass.Pass.{Pass}
 use Rattle.ds_shared.specs.declared.sheet.ClosedSheet.{ClosedSheet}
 use Rattle.ds_shared.specs.declared.sheet.SharedSheet.{SharedSheet}
-use Rattle.ds_shared.specs.Answers.{IsFresh, IsOf}
+use Rattle.ds_shared.specs.Answers.{IsFresh, IsOf, seated_by}
 use Rattle.ds_shared.specs.Known.{past_in}
 use Rattle.ds_shared_seats.specs.declared.fault.Fault.{Fault}
 use Rattle.ds_shared_seats.specs.declared.fault.Fault.TheVariants.{NoCell, NoProcess, SeatTaken, NoMemory}
@@ -63,13 +65,13 @@ CanNotTake process s SeatTaken = (d : Home) → known_items (slice_index_or s.ho
 CanNotTake process s NoMemory = process < (arc_value s.sheet).board.layout.processes
 CanNotTake process s why = ⊥
 
--- the sheet is closed with these passes: a sound world has its words in which the process of each does what its
+-- the sheet is closed with these passes: a run leads to its words, to a world in which the process of each does what its
 -- pass says; what they were answered, and what was answered before, is remembered
-pub record IsClosedWith (s : SharedSheet) (past : List Seated) (passes : List Pass) (c : ClosedSheet) : Type 0 where
+pub record IsClosedWith (s : SharedSheet) (past : List SheetSeated) (passes : List Pass) (c : ClosedSheet) : Type 0 where
   pub layout : c.layout ≡ s.board.layout
-  pub handed : (p : Pass) → Contains passes p → In (past_of c.before) (sole p.place)
-  pub before : (e : Seated) → In past e → In (past_of c.before) e
-  pub stand : Closes s.board.layout (start_of s.board.table.shared.key) (slots_items c.table.words) (λ e. (p : Pass) × Contains passes p × (e ≡ sole p.place)) (past_of c.before)
+  pub handed : (p : Pass) → Contains passes p → In (past_of c.words.before) (sole p.place)
+  pub before : (e : SheetSeated) → In past e → In (past_of c.words.before) e
+  pub stand : Closes sheet s.board.words.key (start_of s.board.words.table.shared.key) (slots_items c.words.table.words) (seated_by passes) (past_of c.words.before)
 
 -- the sheet is closed with a pass of each of its processes, in order
 pub record IsClosed (s : OpenSheet) (c : ClosedSheet) : Type 0 where

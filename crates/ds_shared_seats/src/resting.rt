@@ -1,7 +1,8 @@
 //! A closed sheet, which may be opened again.
 
 ghost use Rattle.std.specs.Prelude.{ℕ, ◌≡◌, ◌<◌, ◌≤◌, [], length, IfOk, slice_index_or, true, false};
-ghost use Rattle.ds_shared_seats.specs.Resting.{Rests, is_chosen};
+ghost use Rattle.ds_shared.specs.Answers.{Rests};
+ghost use Rattle.ds_shared_seats.specs.Resting.{is_chosen};
 
 use crate::fault::Fault;
 use crate::sheet::{OpenSheet, Room};
@@ -13,7 +14,7 @@ use ds_shared::sheet::ClosedSheet;
 use ds_state::shown::SheetReader;
 use std::alloc::{AllocError, Global};
 
-/// A closed sheet. A sound world at rest has its words, and all that it remembers is true of that world.
+/// A closed sheet. A run leads to its words, at rest, and what it remembers stands in that run.
 pub struct RestingSheet {
     pub(crate) sheet: ClosedSheet,
     pub ghost rests: { ∥ Rests sheet ∥₁ },
@@ -46,10 +47,10 @@ impl RestingSheet {
     ghost use Rattle.ds_layout.specs.Places.{words_of};
     ghost use Rattle.ds_layout.specs.SheetMemory.{memory_at};
     ghost use Rattle.ds_state.specs.Shown.{mark_at, value_at};
-    ghost use Rattle.ds_drives.specs.Table.{two_sided};
+    ghost use Rattle.pm_board.specs.Table.{two_sided};
     ghost use Rattle.ds_shared.specs.Answers.{opened_with};
     ghost use Rattle.ds_shared.specs.Known.{past_in};
-    ghost use Rattle.ds_drives.specs.Views.{past_of};
+    ghost use Rattle.pm_board.specs.Views.{past_of};
     ghost use Rattle.ds_shared_seats.specs.Resting.{Remembers, Crashes, CanNotCrash, IsTextIn, LacksText, LacksCellIn};
     ghost use Rattle.ds_shared_seats.specs.Sheets.{AllFresh};
 
@@ -92,7 +93,7 @@ impl RestingSheet {
 
     /// The value of a cell, as its words show it. An error is that the sheet has no such cell.
     pub fn value_of(&self, cell: Cell) -> Result<Value, Fault>
-        ensures ok { IfOk result (λ v. IsInside self.now.sheet.layout.shape cell × (v ≡ value_at self.now.sheet.layout (memory_at self.now.sheet.layout (two_sided (slots_items self.now.sheet.table.words) (λ q. []))) (index_of self.now.sheet.layout.shape cell))) }
+        ensures ok { IfOk result (λ v. IsInside self.now.sheet.layout.shape cell × (v ≡ value_at self.now.sheet.layout (memory_at self.now.sheet.layout (two_sided (slots_items self.now.sheet.words.table.words) (λ q. []))) (index_of self.now.sheet.layout.shape cell))) }
         ensures err { IfErr result (LacksCellIn self.now.sheet cell) }
     {
         if self.layout().shape.contains(cell) {
@@ -104,7 +105,7 @@ impl RestingSheet {
 
     /// The mark of a cell. An error is that the sheet has no such cell.
     pub fn mark_of(&self, cell: Cell) -> Result<Mark, Fault>
-        ensures ok { IfOk result (λ m. IsInside self.now.sheet.layout.shape cell × (m ≡ mark_at self.now.sheet.layout (memory_at self.now.sheet.layout (two_sided (slots_items self.now.sheet.table.words) (λ q. []))) (index_of self.now.sheet.layout.shape cell))) }
+        ensures ok { IfOk result (λ m. IsInside self.now.sheet.layout.shape cell × (m ≡ mark_at self.now.sheet.layout (memory_at self.now.sheet.layout (two_sided (slots_items self.now.sheet.words.table.words) (λ q. []))) (index_of self.now.sheet.layout.shape cell))) }
         ensures err { IfErr result (LacksCellIn self.now.sheet cell) }
     {
         if self.layout().shape.contains(cell) {
@@ -136,8 +137,8 @@ impl RestingSheet {
     /// closed: all that it remembered it remembers.
     pub fn reopen(self, alloc: Global) -> Result<OpenSheet, RestingSheet>
         ensures layout { IfOk result (λ r. (arc_value r.sheet).board.layout ≡ self.sheet.layout) }
-        ensures words { IfOk result (λ r. opened_with (arc_value r.sheet) ≡ slots_items self.sheet.table.words) }
-        ensures past { IfOk result (λ r. past_in r.past.place ≡ past_of self.sheet.before) }
+        ensures words { IfOk result (λ r. opened_with (arc_value r.sheet) ≡ slots_items self.sheet.words.table.words) }
+        ensures past { IfOk result (λ r. past_in r.past.place ≡ past_of self.sheet.words.before) }
         ensures fresh { IfOk result (λ r. AllFresh true r) }
         ensures back { IfErr result (λ r. Remembers self.sheet r.sheet) }
     {

@@ -45,7 +45,7 @@ impl Seat {
     ghost use Rattle.ds_formula.specs.Cells.{IsInside};
     ghost use Rattle.ds_shared_seats.specs.declared.fault.Fault.TheVariants.{NoCell};
     ghost use Rattle.ds_shared_seats.specs.Calls.{Edits, Works, Recovers, Reports, last_of};
-    ghost use Rattle.ds_drives.specs.History.{Extends};
+    ghost use Rattle.pm_board.specs.Looks.{Extends};
     ghost use Rattle.ds_shared.specs.Answers.{HasLooked, IsNoteOf};
     ghost use Rattle.ds_shared.specs.Known.{noted_by, seen_by};
     ghost use Rattle.ds_shared_seats.specs.Sheets.{IsSeatOf, LacksCell};

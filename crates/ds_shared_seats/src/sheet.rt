@@ -56,7 +56,7 @@ impl Room {
 
 impl OpenSheet {
     ghost use Rattle.std.specs.Prelude.{◌<◌, [], Bool, IfOk, IfErr, length, true, false, vec_capacity};
-    ghost use Rattle.ds_drives.specs.Table.{new_words};
+    ghost use Rattle.ds_structure_shared.specs.Boards.{new_words};
     ghost use Rattle.ds_shared.specs.Answers.{IsFresh, opened_with};
     ghost use Rattle.ds_shared.specs.Known.{past_in};
     ghost use Rattle.ds_shared_seats.specs.Sheets.{AllFresh, IsStill, IsClosed, Takes, CanNotTake, CanNotClose};

@@ -1,6 +1,6 @@
 //! A fuse of a number of steps.
 
-use ds_drives::fuse::Fuse;
+use pm_board::fuse::Fuse;
 
 /// A fuse that lets a call make a number of steps, and stops it before the next one.
 #[derive(Clone, Copy, Debug)]

@@ -13,6 +13,7 @@ use ds_state::turn::Turn;
 use ds_words::access::Access;
 
 /// What the show does next.
+#[inline(always)]
 pub fn want(call: &ShowCall) -> Access<Place>
     ensures { result ≡ access_at call.now.stage }
 {
@@ -28,6 +29,7 @@ pub fn want(call: &ShowCall) -> Access<Place>
 }
 
 /// What the next step does to the show.
+#[inline(always)]
 pub fn effect_of(call: &ShowCall) -> Turn<ShowEnd>
     ensures { result ≡ effect_at call.now.stage }
 {
@@ -37,6 +39,7 @@ pub fn effect_of(call: &ShowCall) -> Turn<ShowEnd>
     }
 }
 
+#[inline(always)]
 fn is_pending(word: u64) -> bool
     ensures { result ≡ reads_pending word }
 {
@@ -49,6 +52,7 @@ fn is_pending(word: u64) -> bool
     }
 }
 
+#[inline(always)]
 fn is_clean(word: u64, processes: usize) -> bool
     ensures { result ≡ reads_clean processes word }
 {
@@ -58,6 +62,7 @@ fn is_clean(word: u64, processes: usize) -> bool
     }
 }
 
+#[inline(always)]
 fn announce_stage(processes: usize, i: usize) -> ShowStage
     ensures { result ≡ announce_stage processes i }
 {
@@ -68,6 +73,7 @@ fn announce_stage(processes: usize, i: usize) -> ShowStage
     }
 }
 
+#[inline(always)]
 fn mark_stage(cells: usize, i: usize) -> ShowStage
     ensures { result ≡ mark_stage cells i }
 {
@@ -78,6 +84,7 @@ fn mark_stage(cells: usize, i: usize) -> ShowStage
     }
 }
 
+#[inline(always)]
 fn value_stage(cells: usize, i: usize) -> ShowStage
     ensures { result ≡ value_stage cells i }
 {
@@ -88,6 +95,7 @@ fn value_stage(cells: usize, i: usize) -> ShowStage
     }
 }
 
+#[inline(always)]
 fn again_mark_stage(cells: usize, i: usize) -> ShowStage
     ensures { result ≡ again_mark_stage cells i }
 {
@@ -98,6 +106,7 @@ fn again_mark_stage(cells: usize, i: usize) -> ShowStage
     }
 }
 
+#[inline(always)]
 fn again_announce_stage(processes: usize, i: usize) -> ShowStage
     ensures { result ≡ again_announce_stage processes i }
 {
@@ -108,6 +117,7 @@ fn again_announce_stage(processes: usize, i: usize) -> ShowStage
     }
 }
 
+#[inline(always)]
 fn note_announcement(call: &mut ShowCall, i: usize, word: u64)
     requires { call.old.stage ≡ LoadAnnounce i }
     ensures { call.new ≡ next_at call.old (LoadAnnounce i) word }
@@ -120,6 +130,7 @@ fn note_announcement(call: &mut ShowCall, i: usize, word: u64)
     }
 }
 
+#[inline(always)]
 fn note_mark(call: &mut ShowCall, i: usize, word: u64)
     requires { call.old.stage ≡ LoadMark i }
     ensures { call.new ≡ next_at call.old (LoadMark i) word }
@@ -132,6 +143,7 @@ fn note_mark(call: &mut ShowCall, i: usize, word: u64)
     }
 }
 
+#[inline(always)]
 fn note_value(call: &mut ShowCall, i: usize, word: u64)
     requires { call.old.stage ≡ LoadValue i }
     ensures { call.new ≡ next_at call.old (LoadValue i) word }
@@ -140,6 +152,7 @@ fn note_value(call: &mut ShowCall, i: usize, word: u64)
     call.stage = ShowStage::LoadKind(i);
 }
 
+#[inline(always)]
 fn note_kind(call: &mut ShowCall, i: usize, word: u64)
     requires { call.old.stage ≡ LoadKind i }
     ensures { call.new ≡ next_at call.old (LoadKind i) word }
@@ -148,6 +161,7 @@ fn note_kind(call: &mut ShowCall, i: usize, word: u64)
     call.stage = value_stage(call.cells, i + 1);
 }
 
+#[inline(always)]
 fn see_mark(call: &mut ShowCall, i: usize, word: u64)
     requires { call.old.stage ≡ AgainMark i }
     ensures { call.new ≡ next_at call.old (AgainMark i) word }
@@ -159,6 +173,7 @@ fn see_mark(call: &mut ShowCall, i: usize, word: u64)
     };
 }
 
+#[inline(always)]
 fn see_announcement(call: &mut ShowCall, i: usize, word: u64)
     requires { call.old.stage ≡ AgainAnnounce i }
     ensures { call.new ≡ next_at call.old (AgainAnnounce i) word }
@@ -172,6 +187,7 @@ fn see_announcement(call: &mut ShowCall, i: usize, word: u64)
 
 /// The show goes on with the word that its access answered, whatever that is. It takes no memory:
 /// room for all that it notes was taken at its beginning. At its answer it stays.
+#[inline(always)]
 pub fn got(call: &mut ShowCall, word: u64)
     ensures { call.new ≡ got_at call.old word }
 {

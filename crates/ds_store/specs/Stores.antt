@@ -2,7 +2,7 @@
 use Rattle.std.specs.Prelude.{◌≡◌, ◌≢◌, ◌<◌, false, ℕ, List, [], ◌∷◌, ◌++◌, length, slice_index_or}
 use Rattle.ds_layout.specs.declared.layout.Layout.{Layout}
 use Rattle.ds_state.specs.declared.answer.EditEnd.TheVariants.{Done}
-use Rattle.ds_drives.specs.Table.{new_words}
+use Rattle.ds_structure_shared.specs.Boards.{new_words}
 use Rattle.ds_shared.specs.declared.ended.Ended.TheVariants.{Answered}
 use Rattle.ds_shared.specs.declared.sheet.SharedSheet.{SharedSheet}
 use Rattle.ds_shared.specs.Answers.{IsFresh, opened_with}

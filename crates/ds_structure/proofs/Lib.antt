@@ -1,4 +1,5 @@
 pub mod Words
+pub mod Classes
 pub mod Seconds
 pub mod Passing
 pub mod Losing

@@ -2,14 +2,25 @@
 
 ghost use Rattle.std.specs.Prelude.{◌≡◌, ◌≤◌, ◌<◌};
 ghost use Rattle.ds_layout.specs.Places.{AreStartsOf};
+ghost use Rattle.ds_structure.specs.Classes.{AreBounds, class_by};
 
 use crate::laws::sheets_are_a_structure;
 use crate::response::Response;
 use ds_layout::layout::{Layout, Starts};
-use ds_layout::place::Place;
+use ds_layout::place::{Edition, Place};
 use ds_state::situation::Situation;
 use ds_words::access::{Access, Class};
 use pm_base::machine::Structured;
+
+/// Where words of another class begin, by the numbers of words.
+#[derive(Clone, Copy)]
+pub struct Bounds {
+    values: usize,
+    rows: usize,
+    announcements: usize,
+    done: usize,
+    texts: usize,
+}
 
 /// What fixes the words of a sheet: its layout, and where each kind of words begins, kept beside it.
 #[derive(Clone, Copy, Drop)]
@@ -17,7 +28,33 @@ pub struct SheetKey {
     /// The layout.
     pub layout: Layout,
     starts: Starts,
+    bounds: Bounds,
     pub ghost begin: { AreStartsOf layout starts },
+    pub ghost bound: { AreBounds layout bounds },
+}
+
+// Where words of another class begin in a sheet of this layout.
+fn bounds_of(layout: &Layout) -> Bounds
+    ensures { AreBounds layout.now result }
+{
+    // For the proof: all numbers are small.
+    let _words = layout.words();
+    let second = Place::Text {
+        edition: Edition::Second,
+        process: 0,
+        number: 0,
+        part: 0,
+    };
+    Bounds {
+        values: layout.number(Place::Value(0)),
+        rows: layout.number(Place::Kind(0)) + layout.cells(),
+        announcements: layout.number(Place::Announce(0)),
+        done: layout.number(Place::Done {
+            process: 0,
+            part: 0,
+        }),
+        texts: layout.number(second),
+    }
 }
 
 impl SheetKey {
@@ -28,8 +65,30 @@ impl SheetKey {
     pub fn new(layout: Layout) -> SheetKey
         ensures { result.layout ≡ layout }
     {
-        let starts = layout.starts();
-        SheetKey { layout, starts }
+        SheetKey {
+            layout,
+            starts: layout.starts(),
+            bounds: bounds_of(&layout),
+        }
+    }
+
+    // The class of a word: kept beside the layout, the bounds save each flush the sums.
+    #[inline(always)]
+    fn class_at(&self, word: usize) -> Class
+        ensures { result ≡ class_by self.now.bounds.values self.now.bounds.rows self.now.bounds.announcements self.now.bounds.done self.now.bounds.texts word }
+    {
+        let bounds = &self.bounds;
+        if word < bounds.values {
+            Class::Stamped
+        } else if word < bounds.rows {
+            Class::Owned
+        } else if word < bounds.announcements {
+            Class::Bit
+        } else if word < bounds.done || word >= bounds.texts {
+            Class::Owned
+        } else {
+            Class::Bit
+        }
     }
 
     // Whether the sheet has the place.
@@ -102,11 +161,7 @@ impl Structured for Sheet {
     }
 
     fn class(key: &SheetKey, word: usize) -> Class {
-        if word < key.layout.words() {
-            key.layout.place(word).class()
-        } else {
-            Class::Owned
-        }
+        key.class_at(word)
     }
 
     fn law(key: &SheetKey) {

@@ -3,8 +3,8 @@ use Rattle.std.proofs.Common.{ℕ, ◌≡◌, ◌<◌, ◌==◌, List, [], map, 
 use Rattle.std.specs.Prelude.{if◌then◌else◌}
 use Rattle.ds_core.specs.declared.event.Event.TheVariants.{Step}
 use Rattle.ds_core.specs.declared.reply.Reply.{Reply}
-use Rattle.ds_drives.specs.declared.board.CallEvent.{CallEvent}
-use Rattle.ds_drives.specs.History.{answered_at, answered_from}
+use Rattle.ds_shared_runs.specs.declared.history.CallEvent.{CallEvent}
+use Rattle.ds_shared_runs.specs.History.{answered_at, answered_from}
 use Rattle.ds_state.specs.Sound.{IsSound}
 use Rattle.ds_state.specs.World.{PlainWorld}
 use Rattle.ds_state.specs.declared.situation.Situation.{Situation}

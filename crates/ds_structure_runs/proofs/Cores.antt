@@ -4,12 +4,12 @@ use Rattle.std.proofs.lemmas.List.{append-nil, append_assoc}
 use Rattle.std.specs.Prelude.{if◌then◌else◌}
 use mathlib.Core.Logic.{dite}
 use native.Mathlib.Decide.{ℕ_discrete}
-use Rattle.ds_drives.specs.Views.{In}
+use Rattle.pm_base.specs.Structures.{In}
 use Rattle.ds_core.specs.declared.event.Event.TheVariants as core
 use Rattle.ds_core.specs.declared.reply.Reply.TheVariants as reply
-use Rattle.ds_drives.proofs.Histories.{run_both, answered_both, stood_both}
-use Rattle.ds_drives.specs.declared.board.CallEvent.{CallEvent}
-use Rattle.ds_drives.specs.History.{Happened, IsStanding, answered_by}
+use Rattle.ds_shared_runs.proofs.Histories.{run_both, answered_both, stood_both}
+use Rattle.ds_shared_runs.specs.declared.history.CallEvent.{CallEvent}
+use Rattle.ds_shared_runs.specs.History.{Happened, IsStanding, answered_by}
 use Rattle.ds_layout.specs.Places.{words_of, place_of}
 use Rattle.ds_layout.specs.declared.place.Place.{Place}
 use Rattle.ds_layout.proofs.Places.{IsPlace-place_of, number_of-place_of}
@@ -44,7 +44,7 @@ use Rattle.ds_structure.specs.Calls.{edits, works, shows, recoveries}
 use Rattle.ds_structure.specs.Sheet.{SheetWorld, plain, IsWell, CallBegins, begins_edit, begins_work, begins_show, begins_recovery, CallSteps, steps_edit, steps_work, steps_show, steps_recovery, sheet}
 use Rattle.ds_structure.specs.declared.response.Response as told
 use Rattle.ds_structure.specs.declared.sheet.SheetKey.{SheetKey}
-use Rattle.ds_structure_runs.specs.Runs.{core_world, began, call_events_of, call_events_by, IsTheCores, RunsAreTheCores, IsMoment, RunsHaveTheHeadline}
+use Rattle.ds_structure_runs.specs.Runs.{core_world, began, call_events_of, call_events_by, Follows, IsTheCores, RunsAreTheCores, IsMoment, RunsHaveTheHeadline}
 use Rattle.ds_structure_runs.proofs.ByKind.{kind_begun, kind_led}
 use Rattle.ds_structure_runs.proofs.Clipped.{near, stays}
 use Rattle.ds_structure_runs.proofs.EditRuns.{edits_led, edits_begun}
@@ -191,27 +191,23 @@ module _ (key : SheetKey) where
   new_bare : (w : SheetWorld) → layer.IsNew sheet key w → IsBare key w
   new_bare w new = subst (IsBare key) (sym new.is) (record { buffers = λ q high. new.memory.buffer q; open_edits = λ q high. refl })
 
-  -- the moments of a run that goes on
-  first_moment : (since until : List (layer.Happened sheet key)) → [] ≡ since ++ until → IsMoment key [] (history_of sheet key until)
-  first_moment [] until is = subst (λ (l : List (layer.Happened sheet key)). IsMoment key [] (history_of sheet key l)) is (record { later = []; earlier = []; parts = refl; did = λ p. refl })
-  first_moment (x ∷ since) until is = absurd (cc)
-
   abbrev tail_of : {X : Type 0} → List X → List X
   tail_of [] = []
   tail_of (x ∷ xs) = xs
 
-  next_moment : (h : layer.Happened sheet key) (hs : List (layer.Happened sheet key)) (more before : List Happened) → ((p : ℕ) → answered_by p (more ++ before) ≡ call_events_by key.layout.shape (deeds_by p (history_of sheet key (h ∷ hs))))
-      → ((since until : List (layer.Happened sheet key)) → hs ≡ since ++ until → IsMoment key before (history_of sheet key until))
-      → (since until : List (layer.Happened sheet key)) → h ∷ hs ≡ since ++ until → IsMoment key (more ++ before) (history_of sheet key until)
-  next_moment h hs more before did older [] until is = subst (λ (l : List (layer.Happened sheet key)). IsMoment key (more ++ before) (history_of sheet key l)) is (record { later = []; earlier = more ++ before; parts = refl; did = did })
-  next_moment h hs more before did older (x ∷ since) until is =
-      let m : IsMoment key before (history_of sheet key until) = older since until (ap tail_of is) in
-      record { later = more ++ m.later; earlier = m.earlier; parts = ap (λ (l : List Happened). more ++ l) m.parts ∙ sym (append_assoc more m.later m.earlier); did = m.did }
+  -- the moments of a run that goes with a history
+  moment_of : (hs since until : List (layer.Happened sheet key)) (happened : List Happened) → hs ≡ since ++ until → Follows key.layout.shape (history_of sheet key hs) happened → IsMoment key happened (history_of sheet key until)
+  moment_of hs [] until happened is f = subst (λ (l : List (layer.Happened sheet key)). IsMoment key happened (history_of sheet key l)) is (record { later = []; earlier = happened; parts = refl; follows = f })
+  moment_of [] (x ∷ since) until happened is f = absurd (cc)
+  moment_of (h ∷ hs) (x ∷ since) until happened is f =
+      let m : IsMoment key f.1 (history_of sheet key until) = moment_of hs since until f.1 (ap tail_of is) f.4 in
+      record { later = f.0 ++ m.later; earlier = m.earlier; parts = f.2 ∙ (ap (λ (l : List Happened). f.0 ++ l) m.parts ∙ sym (append_assoc f.0 m.later m.earlier)); follows = m.follows }
 
   -- with what the next event asks
   record Come (first last : SheetWorld) (hs : List (layer.Happened sheet key)) : Type 0 where
     is : IsTheCores key first last hs
     bare : IsBare key last
+    follows : Follows key.layout.shape (history_of sheet key hs) is.happened
 
   comes : IsStructure sheet key → (first last : SheetWorld) (hs : List (layer.Happened sheet key)) → layer.IsNew sheet key first → layer.Run sheet key first hs last → Come first last hs
   comes structure first last [] new run =
@@ -226,9 +222,10 @@ module _ (key : SheetKey) where
           stood = tt;
           standing = subst (λ (z : SheetWorld). IsStanding (core_world key z)) here (record { sound = new_sound (core_world key first) fresh; tidy = tidy key first bare });
           did = λ p. refl;
-          moments = first_moment;
+          moments = λ since until parts. moment_of [] since until [] parts refl;
         };
         bare = subst (IsBare key) here bare;
+        follows = refl;
       }
   comes structure first last (h ∷ hs) new run =
       let before : Come first h.before hs = comes structure first h.before hs new run.1 in
@@ -236,6 +233,7 @@ module _ (key : SheetKey) where
       let m : Moved h.before h.entry.event h.entry.responses last = moved h.before h.entry.event h.entry.responses last well before.is.standing.sound before.bare run.0 in
       let did : (p : ℕ) → answered_by p (m.led.happened ++ before.is.happened) ≡ call_events_by key.layout.shape (deeds_by p (history_of sheet key (h ∷ hs))) =
       λ p. answered_both p m.led.happened before.is.happened ∙ ((λ i. (m.led.did p ∙ m.same p) i ++ before.is.did p i) ∙ sym (events_both (deeds_of p h.entry.event h.entry.responses) (deeds_by p (history_of sheet key hs)))) in
+      let follows : Follows key.layout.shape (history_of sheet key (h ∷ hs)) (m.led.happened ++ before.is.happened) = (m.led.happened, before.is.happened, refl, (λ p. m.led.did p ∙ m.same p), before.follows) in
       record {
         is = record {
           happened = m.led.happened ++ before.is.happened;
@@ -244,9 +242,10 @@ module _ (key : SheetKey) where
           stood = stood_both m.led.happened before.is.happened m.led.stood before.is.stood;
           standing = record { sound = m.led.sound; tidy = tidy key last m.led.bare };
           did = did;
-          moments = next_moment h hs m.led.happened before.is.happened did before.is.moments;
+          moments = λ since until parts. moment_of (h ∷ hs) since until (m.led.happened ++ before.is.happened) parts follows;
         };
         bare = m.led.bare;
+        follows = follows;
       }
 
   pub are_the_cores : IsStructure sheet key → RunsAreTheCores key

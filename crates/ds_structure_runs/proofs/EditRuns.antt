@@ -5,7 +5,7 @@ use Rattle.ds_core.specs.EditEvents.{edit_reply}
 use Rattle.ds_core.specs.Requests.{PlainRequest}
 use Rattle.ds_core.specs.declared.event.Event.TheVariants.{BeginEdit, Step}
 use Rattle.ds_core.specs.declared.reply.Reply.TheVariants.{Begun}
-use Rattle.ds_drives.specs.History.{edit, edit_answered, answered_at}
+use Rattle.ds_shared_runs.specs.History.{edit, edit_answered, answered_at}
 use Rattle.ds_edit.proofs.EditLeaves.{edit_leaves, begin_leaves}
 use Rattle.ds_edit.specs.EditSteps as edit_steps
 use Rattle.ds_edit.specs.EditTakes.{Steps, counted_at, open_edit_at, turn_at}

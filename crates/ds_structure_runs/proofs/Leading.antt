@@ -4,9 +4,9 @@ use Rattle.std.proofs.lemmas.List.{append-nil}
 use Rattle.std.specs.Prelude.{if◌then◌else◌}
 use Rattle.ds_core.specs.declared.event.Event.{Event}
 use Rattle.ds_core.specs.declared.reply.Reply.{Reply}
-use Rattle.ds_drives.proofs.Histories.{run_both, answered_both, stood_both}
-use Rattle.ds_drives.specs.declared.board.CallEvent.{CallEvent}
-use Rattle.ds_drives.specs.History.{Happened, Moves, Run, Stood, answered_from, answered_by}
+use Rattle.ds_shared_runs.proofs.Histories.{run_both, answered_both, stood_both}
+use Rattle.ds_shared_runs.specs.declared.history.CallEvent.{CallEvent}
+use Rattle.ds_shared_runs.specs.History.{Happened, Moves, Run, Stood, answered_from, answered_by}
 use Rattle.ds_layout.specs.SheetMemory.{entry_at}
 use Rattle.ds_state.specs.Sound.{IsSound}
 use Rattle.ds_structure.proofs.Words.{nothing_kept}

@@ -9,3 +9,4 @@ pub mod ShowRuns
 pub mod RecoveryRuns
 pub mod Cores
 pub mod Boards
+pub mod Orders

@@ -4,7 +4,7 @@ use Rattle.std.specs.Prelude.{Option, Bool}
 use Rattle.ds_core.specs.RecoveryEvents.{recovery_reply}
 use Rattle.ds_core.specs.declared.event.Event.TheVariants.{BeginRecover, Step}
 use Rattle.ds_core.specs.declared.reply.Reply.TheVariants.{Entered}
-use Rattle.ds_drives.specs.History.{recovery as step_recovery, recovery_answered, answered_at}
+use Rattle.ds_shared_runs.specs.History.{recovery as step_recovery, recovery_answered, answered_at}
 use Rattle.ds_layout.specs.Places.{cells_of}
 use Rattle.ds_recover.proofs.RecoveryLeaves.{recovery_leaves, begin_leaves}
 use Rattle.ds_recover.specs.RecoverBegun.{MayRecover}

@@ -3,7 +3,7 @@ use Rattle.std.proofs.Common.{ℕ, ◌≡◌, ◌<◌, [], map, refl, sym, ap, s
 use Rattle.ds_core.specs.ShowEvents.{show_reply}
 use Rattle.ds_core.specs.declared.event.Event.TheVariants.{BeginShow, Step}
 use Rattle.ds_core.specs.declared.reply.Reply.TheVariants.{Entered}
-use Rattle.ds_drives.specs.History.{report as step_show, show_answered, answered_at}
+use Rattle.ds_shared_runs.specs.History.{report as step_show, show_answered, answered_at}
 use Rattle.ds_layout.specs.Places.{cells_of}
 use Rattle.ds_show.proofs.ShowMiddles.{step_leaves, begin_leaves}
 use Rattle.ds_show.specs.ShowSteps as report

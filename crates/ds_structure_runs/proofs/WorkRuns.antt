@@ -4,7 +4,7 @@ use Rattle.std.specs.Prelude.{Bool, true, false, nat_lt, ◌==◌, if◌then◌e
 use Rattle.ds_core.specs.WorkEvents.{work_reply}
 use Rattle.ds_core.specs.declared.event.Event.TheVariants.{BeginWork, Step, Offer}
 use Rattle.ds_core.specs.declared.reply.Reply.TheVariants.{Entered, Stepped}
-use Rattle.ds_drives.specs.History.{work as step_work, work_answered, answered_at}
+use Rattle.ds_shared_runs.specs.History.{work as step_work, work_answered, answered_at}
 use Rattle.ds_eval.proofs.Rounds.{inside_at, index_at}
 use Rattle.ds_eval.specs.Inputs.{entry_in}
 use Rattle.ds_eval.specs.Local.{local}
@@ -28,7 +28,7 @@ use Rattle.ds_structure.specs.Calls.{second_rest, access_in, WorkGoes, work_doin
 use Rattle.ds_structure.specs.Calls as calls
 use Rattle.ds_structure_runs.specs.Runs.{work_began}
 use Rattle.ds_structure_runs.proofs.Answering.{answered_good}
-use Rattle.ds_drives.specs.declared.board.CallEvent.{CallEvent}
+use Rattle.ds_shared_runs.specs.declared.history.CallEvent.{CallEvent}
 use Rattle.ds_state.specs.Leaves.{Leaves}
 use Rattle.ds_state.specs.Sound.{IsSound}
 use Rattle.ds_state.specs.declared.situation.Situation.{Situation}

@@ -2,14 +2,14 @@
 use Rattle.std.specs.Prelude.{ℕ, ◌≡◌, ◌≤◌, nat_lt, if◌then◌else◌, List, [], ◌∷◌, ◌++◌}
 use Rattle.ds_core.specs.declared.event.Event.TheVariants.{BeginEdit, BeginWork, BeginShow, BeginRecover}
 use Rattle.ds_core.specs.declared.reply.Reply.TheVariants.{Begun, Entered}
-use Rattle.ds_drives.specs.declared.board.CallEvent.{CallEvent}
-use Rattle.ds_drives.specs.declared.board.CallEvent.TheVariants as call
-use Rattle.ds_drives.specs.History.{Run, Stood, IsStanding, answered_by}
-use Rattle.ds_drives.specs.History as core
-use Rattle.ds_drives.specs.Views.{In}
+use Rattle.ds_shared_runs.specs.declared.history.CallEvent.{CallEvent}
+use Rattle.ds_shared_runs.specs.declared.history.CallEvent.TheVariants as call
+use Rattle.ds_shared_runs.specs.History.{Run, Stood, IsStanding, answered_by}
+use Rattle.ds_shared_runs.specs.History as core
+use Rattle.pm_base.specs.Structures.{In}
 use Rattle.ds_formula.specs.Cells.{cell_at}
 use Rattle.ds_formula.specs.declared.cells.Shape.{Shape}
-use Rattle.ds_shared_runs.specs.Closed.{WasRight}
+use Rattle.ds_shared_runs.specs.Answered.{WasRight}
 use Rattle.ds_shared_runs.specs.Runs.{IsRun, begun_in}
 use Rattle.ds_state.specs.Fresh.{IsNew}
 use Rattle.ds_state.specs.Value.{first_rest}
@@ -21,7 +21,7 @@ use Rattle.ds_state.specs.declared.situation.Situation.TheVariants.{Idle, Editin
 use Rattle.ds_state.specs.declared.work.WorkStage.{WorkStage}
 use Rattle.ds_state.specs.declared.work.WorkStage.TheVariants.{LoadMark}
 use Rattle.pm_base.specs.Runs as layer
-use Rattle.pm_base.specs.Runs.{deeds_by, history_of}
+use Rattle.pm_base.specs.Runs.{deeds_by, deeds_of, history_of}
 use Rattle.pm_base.specs.declared.history.Deed.{Deed}
 use Rattle.pm_base.specs.declared.history.Deed.TheVariants as deed
 use Rattle.pm_base.specs.declared.history.Entry.{Entry}
@@ -68,15 +68,25 @@ abbrev pub call_events_by : Shape → List (Deed Situation Response) → List Ca
 call_events_by shape [] = []
 call_events_by shape (d ∷ ds) = call_events_of shape d ++ call_events_by shape ds
 
--- a moment of the core's run up to which each process has begun, and was answered, what it has in this history
+-- what a process began and was answered by an entry of a history
+abbrev pub calls_at : Shape → ℕ → Entry Situation Response → List CallEvent
+calls_at shape p e = call_events_by shape (deeds_of p e.event e.responses)
+
+-- what happened goes with the history, entry by entry: in a stretch of its own, each process begins and is answered what it
+-- has in the entry, and nothing else
+abbrev pub Follows : Shape → List (Entry Situation Response) → List core.Happened → Type 0
+Follows shape [] happened = happened ≡ []
+Follows shape (e ∷ es) happened = (stretch : List core.Happened) × (before : List core.Happened) × (happened ≡ stretch ++ before) × ((p : ℕ) → answered_by p stretch ≡ calls_at shape p e) × Follows shape es before
+
+-- a moment of the core's run, up to which it goes with this history
 pub record IsMoment (key : SheetKey) (happened : List core.Happened) (history : List (Entry Situation Response)) : Type 0 where
   pub later : List core.Happened
   pub earlier : List core.Happened
   pub parts : happened ≡ later ++ earlier
-  pub did : (p : ℕ) → answered_by p earlier ≡ call_events_by key.layout.shape (deeds_by p history)
+  pub follows : Follows key.layout.shape history earlier
 
 -- a run of the core leads from the first world, which is new, to the last; what each process began and was answered in the
--- one run it began and was answered in the other, at each moment of it
+-- one run it began and was answered in the other, which goes with it entry by entry, at each moment of it
 pub record IsTheCores (key : SheetKey) (first last : SheetWorld) (hs : List (layer.Happened sheet key)) : Type 0 where
   pub happened : List core.Happened
   pub new : IsNew (core_world key first)

@@ -1,6 +1,11 @@
 //! What is so of each run of a sheet as a structure.
 
-ghost use Rattle.ds_structure_runs.specs.Boards.{BoardsHaveTheHeadline};
+ghost use Rattle.std.specs.Prelude.{◌≡◌, ◌++◌, ◌∷◌, List};
+ghost use Rattle.ds_state.specs.declared.situation.Situation.{Situation};
+ghost use Rattle.pm_base.specs.declared.history.Entry.{Entry};
+ghost use Rattle.pm_board.specs.Looks.{Extends};
+ghost use Rattle.ds_structure.specs.declared.response.Response.{Response};
+ghost use Rattle.ds_structure_runs.specs.Boards.{BoardsHaveTheHeadline, StandsAfter};
 ghost use Rattle.ds_structure_runs.specs.Runs.{RunsAreTheCores, RunsHaveTheHeadline};
 
 use ds_structure::laws::sheets_are_a_structure;
@@ -32,3 +37,16 @@ pub fn boards_have_the_headline(key: &SheetKey)
 {
     runs_have_the_headline(key);
 }
+
+/// The order in time of two calls. Where the answer of one stands in a history that the caller of the other one knew, so
+/// that what that caller had seen goes on from it, and the other call begins in what it has seen since, the begin stands
+/// after the answer; and so they stand in the run. By this and the laws beside it a shared sheet is durably
+/// linearizable: there is one run of the core, through all crashes, in which each call stands as a begin and an answer
+/// of its own, with the reply that its caller got, in the order that callers could know of (Herlihy and Wing,
+/// "Linearizability", TOPLAS 1990; Izraelevitz, Mendes and Scott, DISC 2016).
+#[tactic(auto, using(crate::proofs::Orders::stands_after))]
+pub fn calls_stand_in_order()
+    ensures { (earlier seen late since until after before : List (Entry Situation Response)) (answer begin : Entry Situation Response)
+        → earlier ≡ since ++ answer ∷ until → Extends seen earlier → late ≡ after ++ begin ∷ before
+        → StandsAfter (late ++ seen) begin (before ++ seen) until }
+{}

@@ -8,11 +8,9 @@ ghost use Rattle.ds_state.specs.World.{edit_of};
 ghost use Rattle.ds_state.specs.declared.situation.Situation.{Situation};
 ghost use Rattle.ds_state.specs.declared.situation.Situation.TheVariants.{Idle};
 ghost use Rattle.pm_board.specs.Fuses.{Asked};
-ghost use Rattle.pm_board.specs.Machines.{Breaks};
 ghost use Rattle.pm_board.specs.Views.{RunsOne, Sits};
-ghost use Rattle.ds_structure.specs.Calls.{second_rest, IsEditOn, MayEdit, MayWork, MayShow, IsShowOn, WorkGoes, edits, works, shows, recoveries};
-ghost use Rattle.ds_structure.specs.Sheet.{sheet};
-ghost use Rattle.ds_structure_shared.specs.Ends.{Ends};
+ghost use Rattle.ds_structure.specs.Calls.{second_rest, IsEditOn, MayEdit, MayWork, MayShow, IsShowOn, IsRecoveryOn, WorkGoes, edits, works, shows, recoveries};
+ghost use Rattle.ds_structure_shared.specs.Ends.{Ends, Stops};
 
 use ds_state::answer::EditEnd;
 use ds_state::edit::EditCall;
@@ -44,8 +42,9 @@ pub fn edit<F: Fuse>(
     requires fits { IsEditOn board.now.key.layout call.old }
     requires may { MayEdit board.now.key.layout (Idle (second_rest call.old.number)) call.old }
     ensures table { place.new.table_id ≡ place.old.table_id }
+    ensures fits { IsEditOn board.now.key.layout call.new }
     ensures same { edit_of call.new ≡ edit_of call.old }
-    ensures ended { MatchOption result ((n : ℕ) × Asked F.said fuse.old fuse.new n 1 × Breaks sheet edits board.now.key call.old place.old.me place.new.me call.new n) (λ end. (n : ℕ) × Asked F.said fuse.old fuse.new n 0 × Ends edits call.old place.old.me place.new.me call.new end n) }
+    ensures ended { MatchOption result ((n : ℕ) × Asked F.said fuse.old fuse.new n 1 × Stops edits call.old place.old.me place.new.me call.new n) (λ end. (n : ℕ) × Asked F.said fuse.old fuse.new n 0 × Ends edits call.old place.old.me place.new.me call.new end n) }
     ensures runs { RunsOne place.new.me call.old.process }
 {
     drive::<Sheet, EditCall, F>(board, place, call, fuse)
@@ -66,7 +65,7 @@ pub fn work<F: Fuse>(
     requires may { (now : Situation) × Sits place.old.me call.old.process now × MayWork board.now.key.layout now call.old }
     ensures table { place.new.table_id ≡ place.old.table_id }
     ensures same { (call.new.process ≡ call.old.process) × (call.new.next ≡ call.old.next) × (call.new.cell ≡ call.old.cell) }
-    ensures ended { MatchOption result ((n : ℕ) × Asked F.said fuse.old fuse.new n 1 × Breaks sheet works board.now.key call.old place.old.me place.new.me call.new n) (λ end. (n : ℕ) × Asked F.said fuse.old fuse.new n 0 × Ends works call.old place.old.me place.new.me call.new end n) }
+    ensures ended { MatchOption result ((n : ℕ) × Asked F.said fuse.old fuse.new n 1 × Stops works call.old place.old.me place.new.me call.new n) (λ end. (n : ℕ) × Asked F.said fuse.old fuse.new n 0 × Ends works call.old place.old.me place.new.me call.new end n) }
     ensures runs { RunsOne place.new.me call.old.process }
 {
     works_are_of_a_sheet(call);
@@ -86,8 +85,9 @@ pub fn show<F: Fuse>(
     requires fits { IsShowOn board.now.key.layout call.old }
     requires may { MayShow board.now.key.layout (Idle (second_rest call.old.next)) call.old }
     ensures table { place.new.table_id ≡ place.old.table_id }
+    ensures fits { IsShowOn board.now.key.layout call.new }
     ensures same { (call.new.process ≡ call.old.process) × (call.new.next ≡ call.old.next) }
-    ensures ended { MatchOption result ((n : ℕ) × Asked F.said fuse.old fuse.new n 1 × Breaks sheet shows board.now.key call.old place.old.me place.new.me call.new n) (λ end. (n : ℕ) × Asked F.said fuse.old fuse.new n 0 × Ends shows call.old place.old.me place.new.me call.new end n) }
+    ensures ended { MatchOption result ((n : ℕ) × Asked F.said fuse.old fuse.new n 1 × Stops shows call.old place.old.me place.new.me call.new n) (λ end. (n : ℕ) × Asked F.said fuse.old fuse.new n 0 × Ends shows call.old place.old.me place.new.me call.new end n) }
     ensures runs { RunsOne place.new.me call.old.process }
 {
     drive::<Sheet, ShowCall, F>(board, place, call, fuse)
@@ -113,8 +113,9 @@ pub fn recover<F: Fuse>(
     requires runs { RunsOne place.old.me call.old.process }
     requires fresh { call.old ≡ fresh call.old.process (cells_of board.now.key.layout) board.now.key.layout.processes }
     ensures table { place.new.table_id ≡ place.old.table_id }
+    ensures fits { IsRecoveryOn board.now.key.layout call.new }
     ensures same { call.new.process ≡ call.old.process }
-    ensures ended { MatchOption result ((n : ℕ) × Asked F.said fuse.old fuse.new n 1 × Breaks sheet recoveries board.now.key call.old place.old.me place.new.me call.new n) (λ end. (n : ℕ) × Asked F.said fuse.old fuse.new n 0 × Ends recoveries call.old place.old.me place.new.me call.new end n) }
+    ensures ended { MatchOption result ((n : ℕ) × Asked F.said fuse.old fuse.new n 1 × Stops recoveries call.old place.old.me place.new.me call.new n) (λ end. (n : ℕ) × Asked F.said fuse.old fuse.new n 0 × Ends recoveries call.old place.old.me place.new.me call.new end n) }
     ensures runs { RunsOne place.new.me call.old.process }
 {
     is_recovery(call);

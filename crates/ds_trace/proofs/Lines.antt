@@ -13,7 +13,7 @@ use Rattle.ds_script_io.specs.declared.ending.ScriptFault.TheVariants.{LineTooLo
 use Rattle.ds_script_io.specs.ScriptLines.{AtFront, NoLine, ALine, LongLine, next_of}
 use Rattle.ds_script.specs.declared.order.Begun.{Begun}
 use Rattle.ds_script.specs.declared.order.Begun.TheVariants as begun
-use Rattle.ds_script.specs.Orders.{Order, Make, Does, order_of}
+use Rattle.ds_script.specs.Orders.{Deed, Order, Make, Does, order_of}
 use Rattle.ds_script.specs.Running.{after}
 use Rattle.ds_script.specs.Script.{Progress, IsMade, begins_at, goes_on, Carried, begins, skips, makes, obeys, FaultAt}
 use Rattle.ds_trace.specs.declared.row.TraceRow.{TraceRow}
@@ -21,7 +21,7 @@ use Rattle.ds_trace.specs.declared.record.Hindrance.{Hindrance}
 use Rattle.ds_trace.specs.declared.record.Hindrance.TheVariants as hindrances
 use Rattle.ds_trace.specs.declared.turn.NoTrace.TheVariants.{TooManyEvents, NoMemory}
 use Rattle.ds_trace.specs.declared.record.Untraced.TheVariants as untraced
-use Rattle.ds_script.specs.Doing.{plan}
+use Rattle.ds_script.specs.Doing.{IsOrderOf, plan}
 use Rattle.ds_trace.specs.Trails.{AreRows, Hinders, ObeysBy, Overflows}
 use Rattle.ds_trace.specs.Traces.{IsRecord, IsTooLong, IsUntraced, PassesLine, StopsLine, why_not}
 use Rattle.ds_trace.proofs.Trails.{row_count, rows_on}
@@ -85,13 +85,13 @@ carries_led places whole script lines p out rest line behind (Make first columns
   are = subst (λ (l : List TraceRow). AreRows places new [] [] l new) (sym h.1) refl;
 }
 carries_led places whole script lines p out rest line behind (Does deed) now new r s carried next asks begun_is are h = record {
-  progress = goes_on p h.events h.replies new;
+  progress = goes_on p h.2.events h.2.replies new;
   begun_is = sym begun_is;
   world_is = refl;
-  out = out ++ h.text;
-  carried = obeys lines p out rest line behind deed h.events h.replies h.text new carried next asks h.plays;
-  are = subst (λ (l : List TraceRow). AreRows places p.start (p.events ++ h.events) (p.replies ++ h.replies) l new) (sym h.behind)
-      (rows_on places p.events p.replies r h.events h.replies h.rows p.start p.world new are h.are);
+  out = out ++ h.2.text;
+  carried = obeys lines p out rest line behind deed h.0 h.2.events h.2.replies h.2.text new carried next asks h.1 h.2.plays;
+  are = subst (λ (l : List TraceRow). AreRows places p.start (p.events ++ h.2.events) (p.replies ++ h.2.replies) l new) (sym h.2.behind)
+      (rows_on places p.events p.replies r h.2.events h.2.replies h.2.rows p.start p.world new are h.2.are);
 }
 
 carries_still : (places : List Place) (whole : Bool) (script : List ℕ) (lines : ℕ) (p : Progress) (out rest line behind : List ℕ) (order : Order) (now : Begun) (new : WorldValue) (rows rows' : List TraceRow)
@@ -129,10 +129,15 @@ module _ (places : List Place) (whole : Bool) (script : List ℕ) (lines : ℕ) 
       carries_still places whole script lines led.progress led.out rest line behind e.order now new rows rows' led.carried next (asked line (Ok (Some e.order)) e.asks) e.begun_is led.are
       (subst (λ (v : WorldValue). ObeysBy places v e.order new rows rows') (sym led.world_is) e.obeys) some
 
+  -- a deed lacks the room for its events, in some order of its cells
+  abbrev InSomeOrder : WorldValue → Deed → Type 0
+  InSomeOrder v deed = (order : List ℕ) × IsOrderOf v deed order × Overflows (plan v order deed) v (length rows)
+
   -- a line whose order is not carried out for want of room
   no_room : (line behind : List ℕ) → next_of whole rest ≡ ALine line behind → (order : Order) → order_of first w line ≡ Ok (Some order) → Hinders w order rows TooManyEvents → IsTooLong whole script
   no_room line behind next (Make begun columns rows' processes edition) asks h = absurd (let bad : TooManyEvents ≡ NoMemory = h in cc)
-  no_room line behind next (Does deed) asks h = record {
+  no_room line behind next (Does deed) asks (inl lacks) = absurd (let bad : TooManyEvents ≡ NoMemory = lacks in cc)
+  no_room line behind next (Does deed) asks (inr h) = (let k : InSomeOrder led.progress.world deed = subst (λ (v : WorldValue). InSomeOrder v deed) (sym led.world_is) h in record {
     lines = lines;
     progress = led.progress;
     out = led.out;
@@ -143,9 +148,10 @@ module _ (places : List Place) (whole : Bool) (script : List ℕ) (lines : ℕ) 
     carried = led.carried;
     next = next;
     asks = asked line (Ok (Some (Does deed))) asks;
-    overflows = subst (λ (n : ℕ). Overflows (plan led.progress.world deed) led.progress.world n) (row_count places led.progress.events led.progress.replies rows led.progress.start led.progress.world led.are)
-        (subst (λ (v : WorldValue). Overflows (plan v deed) v (length rows)) (sym led.world_is) h);
-  }
+    order = k.0;
+    order_is = k.1;
+    overflows = subst (λ (n : ℕ). Overflows (plan led.progress.world k.0 deed) led.progress.world n) (row_count places led.progress.events led.progress.replies rows led.progress.start led.progress.world led.are) k.2;
+  })
 
   -- a line that stops the script
   pub line_stops : (line behind : List ℕ) → next_of whole rest ≡ ALine line behind → (stop : Hindrance) → StopsLine first w line rows stop → IsUntraced whole script (why_not (lines + 1) stop)

@@ -18,9 +18,9 @@ use Rattle.ds_script.specs.declared.order.Command.{Command}
 use Rattle.ds_script.specs.declared.order.Command.TheVariants as commands
 use Rattle.ds_script.specs.Orders.{command_view}
 use Rattle.ds_script.proofs.Played.{plays_on}
-use Rattle.ds_script_stops.specs.declared.turn.Left.{Left}
-use Rattle.ds_script_stops.specs.declared.turn.Left.TheVariants as left
-use Rattle.ds_script_stops.specs.ScriptTurns.{Remains, doing_of}
+use Rattle.ds_script.specs.declared.turn.Left.{Left}
+use Rattle.ds_script.specs.declared.turn.Left.TheVariants as left
+use Rattle.ds_script.specs.ScriptTurns.{Remains, doing_of}
 use Rattle.ds_trace.specs.declared.row.TraceRow.{TraceRow}
 use Rattle.ds_trace.specs.declared.turn.NoTrace.{NoTrace}
 use Rattle.ds_trace.specs.declared.turn.NoTrace.TheVariants.{TooManyEvents, NoMemory}
@@ -141,6 +141,9 @@ pub breaks_turn : (places : List Place) (doing : Doing) (l : Left) (old mid : Wo
 breaks_turn places doing (left.Drives p until) old mid r s why way full = breaks_way places doing (doing_of (left.Drives p until)) old mid r s (wants mid p) why way refl full
 breaks_turn places doing (left.Works p rounds cell) old mid r s why way full =
     breaks_way places doing (doing_of (left.Works p rounds cell)) old mid r s (BeginWork p (cell_at mid.sheet.layout.shape cell)) why way refl full
+breaks_turn places doing (left.WorksInOrder p cell rest) old mid r s why way full =
+    breaks_way places doing (doing_of (left.WorksInOrder p cell rest)) old mid r s (BeginWork p (cell_at mid.sheet.layout.shape cell)) why way refl full
+breaks_turn places doing (left.DrivesInOrder p rest) old mid r s why way full = breaks_way places doing (doing_of (left.DrivesInOrder p rest)) old mid r s (wants mid p) why way refl full
 
 -- one event, and what breaks off behind it
 pub breaks_later : (places : List Place) (doing : Doing) (old mid : WorldValue) (event : Event) (reply : Reply) (r s : List TraceRow) (why : NoTrace)
@@ -198,6 +201,6 @@ on_ok (Err e) P Q f h = tt
 -- what a cell shows, or a word, is shown without an event
 pub looks : (places : List Place) (w : WorldValue) (command : Command) (rows : List TraceRow) → ((cell : Cell) × (command ≡ commands.Peek cell)) ⊎ ((place : Place) × (command ≡ commands.Word place)) → ObeysBy places w (command_view command) w rows rows
 looks places w command rows (inl h) =
-    subst (λ (d : Command). ObeysBy places w (command_view d) w rows rows) (sym h.1) (none_left places (Says (peek_text (world_of w) h.0)) w rows (peek_text (world_of w) h.0, refl))
+    subst (λ (d : Command). ObeysBy places w (command_view d) w rows rows) (sym h.1) ([], refl, none_left places (Says (peek_text (world_of w) h.0)) w rows (peek_text (world_of w) h.0, refl))
 looks places w command rows (inr h) =
-    subst (λ (d : Command). ObeysBy places w (command_view d) w rows rows) (sym h.1) (none_left places (Says (word_text (memory w.sheet) h.0)) w rows (word_text (memory w.sheet) h.0, refl))
+    subst (λ (d : Command). ObeysBy places w (command_view d) w rows rows) (sym h.1) ([], refl, none_left places (Says (word_text (memory w.sheet) h.0)) w rows (word_text (memory w.sheet) h.0, refl))

@@ -8,7 +8,7 @@ use Rattle.ds_state.specs.Value.{WorldValue}
 use Rattle.ds_script_io.specs.ScriptLines.{NoLine, ALine, next_of}
 use Rattle.ds_script.specs.declared.order.Begun.{Begun}
 use Rattle.ds_script.specs.Orders.{Order, Does, Deed, order_of}
-use Rattle.ds_script.specs.Doing.{plan}
+use Rattle.ds_script.specs.Doing.{IsOrderOf, plan}
 use Rattle.ds_script.specs.Running.{after}
 use Rattle.ds_script.specs.Script.{Progress, Carried, Breaks}
 use Rattle.ds_trace.specs.declared.row.TraceRow.{TraceRow}
@@ -55,7 +55,9 @@ pub record IsTooLong (whole : Bool) (script : List ℕ) : Type 0 where
   pub carried : Carried whole script lines progress out rest
   pub next : next_of whole rest ≡ ALine line behind
   pub asks : order_of progress.begun progress.world line ≡ Ok (Some (Does deed))
-  pub overflows : Overflows (plan progress.world deed) progress.world (length progress.events)
+  pub order : List ℕ
+  pub order_is : IsOrderOf progress.world deed order
+  pub overflows : Overflows (plan progress.world order deed) progress.world (length progress.events)
 
 -- why a script has no recording: a line of it has a fault, which a run of it meets there; it is too long; or memory ran
 -- out

@@ -1,112 +1,66 @@
 //! Carries commands out, and keeps their events.
 
-ghost use Rattle.std.specs.Prelude.{◌≡◌, ◌<◌, ◌≤◌, List, [], IfErr, IfOk, IfSome, OnOk, length};
+ghost use Rattle.std.specs.Prelude.{ℕ, ◌≡◌, ◌⊎◌, ◌≤◌, List, [], IfErr, IfOk, IfSome, OnOk, length};
 ghost use Rattle.ds_layout.specs.Places.{cells_of};
-ghost use Rattle.ds_core.specs.declared.event.Event.TheVariants.{Step};
-ghost use Rattle.ds_core.specs.declared.reply.Reply.TheVariants.{Answered};
+ghost use Rattle.ds_order.specs.Orders.{IsOrder};
 ghost use Rattle.ds_script.specs.Orders.{CanDo, beginning, command_view};
-ghost use Rattle.ds_script.specs.Doing.{Doing, Calls, Once, driven, ended, offered, stepped, to_point, settle};
-ghost use Rattle.ds_script.specs.Plays.{WantsStep};
+ghost use Rattle.ds_script.specs.Doing.{Doing, Calls, Once, in_order, to_point, settle};
 ghost use Rattle.ds_script.specs.Script.{IsMade};
-ghost use Rattle.ds_script.specs.declared.drive.Until.TheVariants.{InRound};
 ghost use Rattle.ds_state.specs.Value.{world_of};
-ghost use Rattle.ds_script_stops.specs.ScriptTurns.{IsWithin, Remains, doing_of};
+ghost use Rattle.ds_script.specs.ScriptTurns.{IsWithin, Remains, doing_of};
 ghost use Rattle.ds_trace.specs.Rows.{IsFull};
-ghost use Rattle.ds_trace.specs.Trails.{BreaksOff, Hinders, ObeysBy, TakesTurn, Trail};
+ghost use Rattle.ds_trace.specs.Trails.{BreaksOff, Hinders, ObeysBy, TakesTurn, Trail, happened, next_of};
 ghost use Rattle.ds_trace.specs.declared.turn.NoTrace.TheVariants as hindered;
 ghost use Rattle.ds_trace.specs.declared.turn.TheConstants.{EVENT_LIMIT};
 
-use crate::row::{Happening, TraceRow};
-use crate::turn::{NoTrace, begin, crash, evict, note, step, stop};
+use crate::look::wanted;
+use crate::row::{Begin, Happening, TraceRow};
+use crate::turn::{NoTrace, begin, crash, evict, note, stop};
 use ds_calls::settle;
 use ds_core::reply::Reply;
 use ds_layout::layout::Layout;
 use ds_layout::place::{Edition, Place};
+use ds_recalculation::recalculation::planned;
 use ds_script::carry::new_world;
 use ds_script::drive::Until;
 use ds_script::order::{Call, Command};
 use ds_script::point::PointName;
-use ds_script_stops::turn::{
-    Left, after_answer, after_begin, after_offer, after_step, left_of, to_point,
-};
+use ds_script::turn::{CommandTurn, Left, after_begin, in_order, left_of, to_point};
 use ds_state::world::World;
-use ds_work::offer::offer_own;
 use std::alloc::Global;
 
-// What is left once a step of the process had this reply.
-fn behind_step(world: &World, process: usize, until: Until, reply: Reply) -> Option<Left>
-    requires { IsWithin world.now (Left.Drives process until) }
-    ensures remains { Remains result (driven world.now process until (Step process) reply) }
-    ensures within { IfSome result (IsWithin world.now) }
+// What the next event of a command is, where its process makes a step if it is driven.
+fn next_of(world: &World, left: &Left) -> Happening
+    requires { IsWithin world.now left.now }
+    ensures { result ≡ next_of world.now left.now }
 {
-    match reply {
-        Reply::Stepped => after_step(world, process, until),
-        Reply::Answered(answer) => after_answer(world, process, until, answer),
-        _ => None,
+    match left {
+        Left::Works {
+            process,
+            rounds: _,
+            cell,
+        }
+        | Left::WorksInOrder {
+            process,
+            cell,
+            rest: _,
+        } => Happening::Begins(
+            *process,
+            Begin::Work(world.words.layout().shape.cell(*cell)),
+        ),
+        Left::Drives(process, _) | Left::DrivesInOrder { process, rest: _ } => {
+            Happening::Steps(*process, wanted(world, *process))
+        }
     }
 }
 
-// Work of a settle begins, or is refused.
-fn begin_work(
-    alloc: Global,
-    world: &mut World,
-    places: &[Place],
-    process: usize,
-    rounds: usize,
-    cell: usize,
-    rows: &mut Vec<TraceRow>,
-) -> Result<Option<Left>, NoTrace>
-    requires { cell < cells_of world.old.sheet.layout }
-    ensures turn { IfOk result (λ left. TakesTurn places.now (Left.Works process rounds cell) world.old left world.new rows.old.items rows.new.items) }
-    ensures few { OnOk result (length rows.new.items ≤ EVENT_LIMIT) }
-    ensures full { IfErr result (IsFull rows.old.items) }
+// What the event was: an entry was taken where a process that is driven goes on without a step.
+fn happened(next: Happening, stepped: bool, reply: Reply) -> Happening
+    ensures { result ≡ happened next stepped reply }
 {
-    let call = Call::Work(world.words.layout().shape.cell(cell));
-    let reply = begin(alloc, world, places, process, call, rows)?;
-    Ok(after_begin(process, Until::InRound { rounds, cell }, reply))
-}
-
-// The process makes a step, if it can.
-fn step_on(
-    alloc: Global,
-    world: &mut World,
-    places: &[Place],
-    process: usize,
-    until: Until,
-    rows: &mut Vec<TraceRow>,
-) -> Result<Option<Left>, NoTrace>
-    requires wants { WantsStep world.old process }
-    requires within { IsWithin world.old (Left.Drives process until) }
-    ensures turn { IfOk result (λ left. TakesTurn places.now (Left.Drives process until) world.old left world.new rows.old.items rows.new.items) }
-    ensures few { OnOk result (length rows.new.items ≤ EVENT_LIMIT) }
-    ensures full { IfErr result (IsFull rows.old.items) }
-{
-    let reply = step(alloc, world, places, process, rows)?;
-    Ok(behind_step(world, process, until, reply))
-}
-
-// The process's work is given the entry that it waits for, or else the process makes a step.
-fn go(
-    alloc: Global,
-    world: &mut World,
-    places: &[Place],
-    process: usize,
-    until: Until,
-    rows: &mut Vec<TraceRow>,
-) -> Result<Option<Left>, NoTrace>
-    requires { IsWithin world.old (Left.Drives process until) }
-    ensures turn { IfOk result (λ left. TakesTurn places.now (Left.Drives process until) world.old left world.new rows.old.items rows.new.items) }
-    ensures few { OnOk result (length rows.new.items ≤ EVENT_LIMIT) }
-    ensures full { IfErr result (IsFull rows.old.items) }
-{
-    world.is_always_good();
-    if offer_own(world, process) {
-        world.is_always_good();
-        let what = Happening::TakesEntry(process);
-        note(alloc, world, places, what, Reply::Stepped, &[], rows)?;
-        Ok(after_offer(world, process, until))
-    } else {
-        step_on(alloc, world, places, process, until, rows)
+    match (next, stepped, reply) {
+        (Happening::Steps(process, _), false, Reply::Stepped) => Happening::TakesEntry(process),
+        _ => next,
     }
 }
 
@@ -123,14 +77,15 @@ fn take_turn(
     ensures few { OnOk result (length rows.new.items ≤ EVENT_LIMIT) }
     ensures full { IfErr result (IsFull rows.old.items) }
 {
-    match left {
-        Left::Drives(process, until) => go(alloc, world, places, process, until, rows),
-        Left::Works {
-            process,
-            rounds,
-            cell,
-        } => begin_work(alloc, world, places, process, rounds, cell, rows),
-    }
+    let next = next_of(world, &left);
+    let CommandTurn {
+        stepped,
+        reply,
+        left,
+    } = ds_script::turn::take_turn(alloc, world, left);
+    let what = happened(next, stepped, reply);
+    note(alloc, world, places, what, reply, &[], rows)?;
+    Ok(left)
 }
 
 // A command to its end, of which this is left.
@@ -204,6 +159,24 @@ fn settle(
     play_on(alloc, world, places, left, rows)
 }
 
+// `recalc P`.
+fn recalculate(
+    alloc: Global,
+    world: &mut World,
+    places: &[Place],
+    process: usize,
+    rows: &mut Vec<TraceRow>,
+) -> Result<(), NoTrace>
+    ensures trail { OnOk result ((order : List ℕ) × IsOrder (cells_of world.old.sheet.layout) order
+        × Trail places.now (in_order world.old process order) world.old world.new rows.old.items rows.new.items) }
+    ensures breaks_off { IfErr result (λ why. (why ≡ hindered.NoMemory) ⊎ ((order : List ℕ) × IsOrder (cells_of world.old.sheet.layout) order
+        × BreaksOff (in_order world.old process order) world.old rows.old.items why)) }
+{
+    let order = planned(alloc, world)?;
+    let left = in_order(world, process, order);
+    play_on(alloc, world, places, left, rows)
+}
+
 // `run P to POINT`.
 fn run_to(
     alloc: Global,
@@ -272,6 +245,7 @@ pub fn carry_out(
         Command::Whole(process, call) => whole(alloc, world, places, process, call, rows),
         Command::Begin(process, call) => begin_only(alloc, world, places, process, call, rows),
         Command::Settle(process) => settle(alloc, world, places, process, rows),
+        Command::Recalculate(process) => recalculate(alloc, world, places, process, rows),
         Command::Step(process) => {
             play(
                 alloc,

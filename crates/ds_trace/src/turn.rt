@@ -8,9 +8,8 @@ ghost use Rattle.ds_core.specs.declared.reply.Reply.{Reply};
 ghost use Rattle.ds_trace.specs.Rows.{Happens, IsFull, OneMore, Tells, answered_by, begin_in, text_in};
 ghost use Rattle.ds_trace.specs.declared.turn.NoTrace.TheVariants as hindered;
 
-use crate::look::{behind, wanted, words};
+use crate::look::{behind, words};
 use crate::row::{Begin, Happening, TraceRow};
-use ds_calls::finish::step_once;
 use ds_core::event::Event;
 use ds_core::reply::Reply;
 use ds_core::take::take;
@@ -149,24 +148,6 @@ pub fn begin(
     let text = text_of(call);
     let reply = begins(alloc, world, process, call);
     note(alloc, world, places, what, reply, text, rows)?;
-    Ok(reply)
-}
-
-/// A process makes a step, if it can. An error is a row too many, or a failed allocation.
-pub fn step(
-    alloc: Global,
-    world: &mut World,
-    places: &[Place],
-    process: usize,
-    rows: &mut Vec<TraceRow>,
-) -> Result<Reply, NoTrace>
-    ensures happens { IfOk result (λ reply. Happens places.now world.old (events.Step process) reply world.new rows.old.items rows.new.items) }
-    ensures few { OnOk result (length rows.new.items ≤ EVENT_LIMIT) }
-    ensures full { IfErr result (IsFull rows.old.items) }
-{
-    let what = Happening::Steps(process, wanted(world, process));
-    let reply = step_once(alloc, world, process);
-    note(alloc, world, places, what, reply, &[], rows)?;
     Ok(reply)
 }
 

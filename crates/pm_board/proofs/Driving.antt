@@ -1,12 +1,11 @@
 -- The words of an access lie on the table; fuses.
-use Rattle.std.proofs.Common.{ℕ, ◌≡◌, ◌+◌, ◌*◌, ◌<◌, List, [], ◌∷◌, length, arith, refl, subst}
-use Rattle.ds_words.specs.declared.access.Class.{Class}
+use Rattle.std.proofs.Common.{ℕ, ◌≡◌, ◌+◌, ◌*◌, ◌<◌, List, [], ◌∷◌, length, arith, subst}
 use Rattle.ds_words.specs.declared.access.BufferEntry.{BufferEntry}
 use Rattle.ds_words.specs.declared.access.Access.{Access}
 use Rattle.ds_words.specs.declared.access.Access.TheVariants.{Nothing, Load, Store, Or, SwapIf, Flush, Back}
 use Rattle.pm_base.specs.Structures.{Serves}
 use Rattle.pm_board.specs.Fuses.{Asked}
-use Rattle.pm_board.specs.Table.{word_of, oldest_of, buffer_after, word_flushed, HasRoom}
+use Rattle.pm_board.specs.Table.{word_of, oldest_of, HasRoom}
 use Rattle.pm_board.proofs.Words.{IsThere}
 
 -- where an access is served, the table has its words
@@ -38,16 +37,6 @@ room words (Or n k) x s = tt
 room words (SwapIf n o v) x s = tt
 room words (Flush n) x s = s.1
 room words Back x s = tt
-
--- the buffer is the same by the class of the word that is flushed
-pub flushed_in : (class_in : ℕ → Class) (a : Access ℕ) (buffer : List (BufferEntry ℕ)) (found : ℕ) → buffer_after (λ n. class_in (word_flushed a)) a buffer found ≡ buffer_after class_in a buffer found
-flushed_in class_in Nothing buffer found = refl
-flushed_in class_in (Load p) buffer found = refl
-flushed_in class_in (Store p value) buffer found = refl
-flushed_in class_in (Or p bits) buffer found = refl
-flushed_in class_in (SwapIf p expected value) buffer found = refl
-flushed_in class_in (Flush p) buffer found = refl
-flushed_in class_in Back buffer found = refl
 
 -- ---- fuses
 

@@ -301,10 +301,10 @@ module _ {K S T C E : Type 0} (s : Structure K S T) (c : Calls K S T C E) (key :
         grows = grows_both (c.process first) (deeds_at old) is.held held k 1 is.grows (subst (λ (q : ℕ). Grows q is.held held 1) (same_process first d is.responses k is.ran) one);
       }
 
-  pub broken : (first : C) (old : Me ℕ (View S T)) (now_begun : Bool) (me : Me ℕ (View S T)) (call : C) (x : List (BufferEntry ℕ)) (n : ℕ) → n ≤ c.rank first → Drives s c key first old now_begun me call x n → Breaks s c key first old me call n
-  broken first old b me call x n few (unbegun can go) = before_all
-  broken first old b me call x n few (under_way m d y k is) = within m d y k is few
+  pub broken : (first : C) (old : Me ℕ (View S T)) (now_begun : Bool) (me : Me ℕ (View S T)) (call : C) (x : List (BufferEntry ℕ)) (n : ℕ) → n ≤ c.rank first → c.goes call → Drives s c key first old now_begun me call x n → Breaks s c key first old me call n
+  broken first old b me call x n few goes (unbegun can go) = before_all
+  broken first old b me call x n few goes (under_way m d y k is) = within m d y k is few goes
 
-  pub settled : (first : C) (old : Me ℕ (View S T)) (now_begun : Bool) (me : Me ℕ (View S T)) (call : C) (x : List (BufferEntry ℕ)) (n : ℕ) (end : E) → n ≤ c.rank first → c.ends call end → Drives s c key first old now_begun me call x n → Settles s c key first old me call end n
+  pub settled : (first : C) (old : Me ℕ (View S T)) (now_begun : Bool) (me : Me ℕ (View S T)) (call : C) (x : List (BufferEntry ℕ)) (n : ℕ) (end : E) → n + c.rank call ≤ c.rank first → c.ends call end → Drives s c key first old now_begun me call x n → Settles s c key first old me call end n
   settled first old b me call x n end few ends (unbegun can go) = absurd (calls.apart first end go ends)
   settled first old b me call x n end few ends (under_way m d y k is) = record { ends = ends; buffer = y; is = is; few = few }

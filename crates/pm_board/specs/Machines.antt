@@ -90,14 +90,14 @@ module _ {K S T C E : Type 0} (s : Structure K S T) (c : Calls K S T C E) (key :
     unbegun : CanBegin old first → c.goes first → Drives first old false old first [] 0
     under_way : (me : Me ℕ (View S T)) (call : C) (x : List (BufferEntry ℕ)) (n : ℕ) → IsIn first old me call x n → Drives first old true me call x n
 
-  -- the call has ended so after n steps, which are no more than it had left
+  -- the call has ended so after n steps; those and what it has left are no more than it had left
   pub record Settles (first : C) (old me : Me ℕ (View S T)) (call : C) (end : E) (n : ℕ) : Type 0 where
     pub ends : c.ends call end
     pub buffer : List (BufferEntry ℕ)
     pub is : IsIn first old me call buffer n
-    pub few : n ≤ c.rank first
+    pub few : n + c.rank call ≤ c.rank first
 
-  -- the call was broken off after n steps: before its first step, and the seat is as it was; or after a step
+  -- the call was broken off after n steps: before its first step, and the seat is as it was; or after a step, where it goes on
   pub data Breaks (first : C) (old : Me ℕ (View S T)) : Me ℕ (View S T) → C → ℕ → Type 0 where
     before_all : Breaks first old old first 0
-    within : (me : Me ℕ (View S T)) (call : C) (x : List (BufferEntry ℕ)) (n : ℕ) → IsIn first old me call x n → n ≤ c.rank first → Breaks first old me call n
+    within : (me : Me ℕ (View S T)) (call : C) (x : List (BufferEntry ℕ)) (n : ℕ) → IsIn first old me call x n → n ≤ c.rank first → c.goes call → Breaks first old me call n

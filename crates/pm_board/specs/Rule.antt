@@ -218,8 +218,9 @@ module _ {K S T : Type 0} (s : Structure K S T) (key : K) where
   abbrev pub ClosedBoardsHaveRuns : Type 0
   ClosedBoardsHaveRuns = (words : List ℕ) (b : Witness) (past : List (Seated S T)) → AtRest words b → AreTrue b past → HasRun words past
 
--- the table's words of a structure's first n words are on both sides what those are at first
+-- the table's words of a structure's first n words are on both sides what those are at first; what lies between is 0
 pub record AreFirst {K S T : Type 0} (s : Structure K S T) (key : K) (n : ℕ) (words : List ℕ) : Type 0 where
   pub long : length words ≡ 8 * n
   pub cached : (r : ℕ) → r < n → slice_index words (8 * r) ≡ s.first_word key r
   pub persisted : (r : ℕ) → r < n → slice_index words (8 * r + 1) ≡ s.first_word key r
+  pub between : (r k : ℕ) → r < n → k < 6 → slice_index words (8 * r + (k + 2)) ≡ 0

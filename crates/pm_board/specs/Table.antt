@@ -69,11 +69,6 @@ reported Back None found = found
 reported Back (Some x) found = reported_back x.class found x.value
 reported _ oldest found = found
 
--- the word that an access flushes, or 0
-abbrev pub word_flushed : Access ℕ → ℕ
-word_flushed (Flush n) = n
-word_flushed _ = 0
-
 -- the buffer after it
 abbrev pub buffer_after : (ℕ → Class) → Access ℕ → List (BufferEntry ℕ) → ℕ → List (BufferEntry ℕ)
 buffer_after class_of (Flush n) buffer found = buffer ++ record { place = n; class = class_of n; value = found } ∷ []

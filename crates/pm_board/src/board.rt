@@ -5,9 +5,10 @@ ghost use Rattle.std.specs.Mem.Slots.{slots_items, slots_len, IsFull};
 ghost use Rattle.pm_base.specs.declared.history.Entry.{Entry};
 ghost use Rattle.pm_board.specs.Views.{RunsFrom, Sits, HasRest, deeds_at, first_now, first_view, whole_view, lone, newcomer, past_of, bygone, united};
 ghost use Rattle.pm_board.specs.Looks.{BeginsWithAll, Looks};
-ghost use Rattle.pm_board.specs.Rule.{AreFirst, AreTrue, AtRest, Witness, Closes};
+ghost use Rattle.pm_board.specs.Rule.{AreFirst, Closes, HasRun, IsRested};
 
-use atomic_table::{Closed, Join, Play, Seat, Split, Table, TableRule};
+use crate::closed::ClosedBoard;
+use atomic_table::{Join, Play, Seat, Split, Table, TableRule};
 use ds_words::access::BufferEntry;
 use pm_base::history::{Deed, Entry};
 use pm_base::machine::Structured;
@@ -157,7 +158,6 @@ impl<D, T> Join<View<D, T>> for Unite {
 }
 
 /// The words of a structure, which threads share. Nothing steps on them but its calls.
-#[derive(Drop)]
 pub struct Board<P: Structured>
 where
     Law<P>: TableRule<u8, View<P::Doing, P::Response>, Fixed<P::Key, P::Doing, P::Response>>,
@@ -173,6 +173,13 @@ where
     pub key: P::Key,
     pub ghost sized: { (table.shared.table_id.words ≡ 8 * P.structure.words key) × (table.shared.key.own ≡ key) × (table.shared.table_id.slots ≡ 0) },
     pub ghost some: { (0 < P.structure.words key) × (P.structure.words key < 2 ^ 28) },
+}
+
+// Written out, it has no bound but the structure's: so types that hold a board can be dropped, too.
+impl<P: Structured> Drop for Board<P> {
+    fn drop(self) {
+        let Board { table: _, key: _ } = self;
+    }
 }
 
 // The words of a new structure: each is on both sides what it is at first.
@@ -239,6 +246,8 @@ impl<P: Structured> Board<P> {
         ensures past { rest.new.me.0.past ≡ rest.old.me.0.past }
         ensures sits { Sits result.me process (first_now P.structure stopped) }
         ensures new { (deeds_at result.me).done ≡ [] }
+        ensures others { (seen : Option (List (Entry P.Doing P.Response))) → HasRest (first_now P.structure stopped) seen process (P.structure.processes self.now.key) rest.old.me.0.past rest.old.me.0 → HasRest (first_now P.structure stopped) seen (process + 1) (P.structure.processes self.now.key) rest.old.me.0.past rest.new.me.0 }
+        ensures alone { (seen : Option (List (Entry P.Doing P.Response))) → HasRest (first_now P.structure stopped) seen process (P.structure.processes self.now.key) rest.old.me.0.past rest.old.me.0 → result.me ≡ (lone (newcomer (first_now P.structure stopped) seen process), []) }
     {
         let (_process, _stopped) = (process, stopped);
         let _words = P::words(&self.key);
@@ -291,5 +300,27 @@ impl<P: Structured> Board<P> {
     {
         let _words = P::words(&self.key);
         self.table.shared.join_seat::<Unite>(place, other);
+    }
+
+    /// Ends the board, with a seat. Its words are those of a world to which a run of the structure leads, in which each
+    /// process of the seat does what the seat says; stops alone lead from there to one at rest. What the seat knows is
+    /// remembered. What other seats know is lost, but for what this one took in by `join`.
+    pub fn close(self, mut place: TableSeat<P::Doing, P::Response>) -> ClosedBoard<P>
+        requires { (place.table_id ≡ self.table.shared.table_id) × (place.me.1 ≡ []) }
+        ensures key { result.key ≡ self.key }
+        ensures past { past_of result.before ≡ place.me.0.past ++ place.me.0.entries }
+        ensures stand { Closes P.structure self.key (start_of self.table.shared.key) (slots_items result.table.words) place.me.0.entries (place.me.0.past ++ place.me.0.entries) }
+        ensures run { HasRun P.structure self.key (slots_items result.table.words) (place.me.0.past ++ place.me.0.entries) }
+        ensures rests { IsRested P.structure result.key (slots_items result.table.words) (past_of result.before) }
+    {
+        P::law(&self.key);
+        let _words = P::words(&self.key);
+        let before = self.table.shared.split_seat::<Remember>(&mut place);
+        let Board { table, key } = self;
+        ClosedBoard {
+            table: table.close_with(place),
+            key,
+            before: Some(before),
+        }
     }
 }

@@ -4,11 +4,10 @@ ghost use Rattle.std.specs.Prelude.{◌≡◌, ◌+◌, ◌*◌, ◌<◌, ◌^�
 ghost use Rattle.std.specs.Mem.Slots.{slots_items, slots_len, IsFull};
 ghost use Rattle.pm_base.specs.declared.history.Entry.{Entry};
 ghost use Rattle.pm_board.specs.Looks.{BeginsWithAll};
-ghost use Rattle.pm_board.specs.Rule.{AtRest, Witness, Closes, HasRun, HasSideLeft, IsRested, Survives};
-ghost use Rattle.pm_board.specs.Starts.{start_of};
+ghost use Rattle.pm_board.specs.Rule.{AtRest, Witness, HasSideLeft, IsRested, Survives};
 ghost use Rattle.pm_board.specs.Views.{RunsFrom, past_of, whole_view};
 
-use crate::board::{Board, Fixed, Opens, Remember, TableSeat};
+use crate::board::{Board, Fixed, Opens, TableSeat};
 use atomic_table::{Closed, Table};
 use pm_base::machine::Structured;
 use std::alloc::{AllocError, Global};
@@ -23,30 +22,6 @@ pub struct ClosedBoard<P: Structured> {
     pub ghost full: { IsFull table.words × (slots_len table.slots ≡ 0) },
     pub ghost sized: { slots_len table.words ≡ 8 * P.structure.words key },
     pub ghost some: { (0 < P.structure.words key) × (P.structure.words key < 2 ^ 28) },
-}
-
-impl<P: Structured> Board<P> {
-    /// Ends the board, with a seat. Its words are those of a world to which a run of the structure leads, in which each
-    /// process of the seat does what the seat says; stops alone lead from there to one at rest. What the seat knows is
-    /// remembered. What other seats know is lost, but for what this one took in by `join`.
-    pub fn close(self, mut place: TableSeat<P::Doing, P::Response>) -> ClosedBoard<P>
-        requires { (place.table_id ≡ self.table.shared.table_id) × (place.me.1 ≡ []) }
-        ensures key { result.key ≡ self.key }
-        ensures past { past_of result.before ≡ place.me.0.past ++ place.me.0.entries }
-        ensures stand { Closes P.structure self.key (start_of self.table.shared.key) (slots_items result.table.words) place.me.0.entries (place.me.0.past ++ place.me.0.entries) }
-        ensures run { HasRun P.structure self.key (slots_items result.table.words) (place.me.0.past ++ place.me.0.entries) }
-        ensures rests { IsRested P.structure result.key (slots_items result.table.words) (past_of result.before) }
-    {
-        P::law(&self.key);
-        let _words = P::words(&self.key);
-        let before = self.table.shared.split_seat::<Remember>(&mut place);
-        let Board { table, key } = self;
-        ClosedBoard {
-            table: table.close_with(place),
-            key,
-            before: Some(before),
-        }
-    }
 }
 
 impl<P: Structured> ClosedBoard<P> {

@@ -6,7 +6,7 @@ ghost use Rattle.pm_board.specs.Machines.{Breaks, CanBegin, IsServed, Settles};
 
 use crate::board::{Board, TableSeat};
 use crate::fuse::Fuse;
-use crate::steps::{Buffer, access, answer, flushed, keep};
+use crate::steps::{Buffer, access, answer, keep};
 use arrayvec::ArrayVec;
 use pm_base::machine::{Machine, Structured};
 use std::marker::Brand;
@@ -42,7 +42,6 @@ pub fn drive<P: Structured, M: Machine<P>, F: Fuse>(
             return None;
         }
         let wanted = call.want(key);
-        let class = P::class(key, flushed(wanted));
         let found = access::<P, Brand, M>(
             &board.table.shared,
             seat,
@@ -53,7 +52,7 @@ pub fn drive<P: Structured, M: Machine<P>, F: Fuse>(
             wanted,
         );
         begun = true;
-        keep(&mut buffer, class, wanted, found);
+        keep::<P>(&mut buffer, key, wanted, found);
         call.got(key, answer(wanted, found));
     }
 }

@@ -5,7 +5,7 @@ ghost use Rattle.atomic_table.specs.Table.{Allows};
 ghost use Rattle.ds_words.specs.declared.words.TheConstants.{BUFFER_ENTRIES};
 ghost use Rattle.pm_board.specs.Rule.{Ruled};
 ghost use Rattle.pm_board.specs.Starts.{start_of};
-ghost use Rattle.pm_board.specs.Table.{oldest_of, rest_of, word_of, change, reported, answer, buffer_after, word_flushed, HasRoom};
+ghost use Rattle.pm_board.specs.Table.{oldest_of, rest_of, word_of, change, reported, answer, buffer_after, HasRoom};
 
 use crate::board::{Fixed, Landing, Lands, Law, TableSeat, View};
 use arrayvec::ArrayVec;
@@ -26,17 +26,6 @@ fn oldest(buffer: &Buffer) -> Option<BufferEntry<usize>>
         None
     } else {
         Some(buffer[0])
-    }
-}
-
-/// The word that an access flushes, or 0.
-#[inline(always)]
-pub(crate) fn flushed(access: Access<usize>) -> usize
-    ensures { result ≡ word_flushed access }
-{
-    match access {
-        Access::Flush(word) => word,
-        _ => 0,
     }
 }
 
@@ -102,16 +91,21 @@ pub(crate) fn answer(want: Access<usize>, found: u64) -> u64
     }
 }
 
-/// The buffer after an access whose step found this number, where a word that it flushes is of this class.
+/// The buffer after an access whose step found this number.
 #[inline(always)]
-pub(crate) fn keep(buffer: &mut Buffer, class: Class, want: Access<usize>, found: u64)
+pub(crate) fn keep<P: Structured>(
+    buffer: &mut Buffer,
+    key: &P::Key,
+    want: Access<usize>,
+    found: u64,
+)
     requires room { HasRoom want buffer.old.items }
-    ensures { buffer.new.items ≡ buffer_after (λ n. class) want buffer.old.items found }
+    ensures { buffer.new.items ≡ buffer_after (P.structure.class_in key.now) want buffer.old.items found }
 {
     match want {
         Access::Flush(word) => buffer.push(BufferEntry {
             place: word,
-            class,
+            class: P::class(key, word),
             value: found,
         }),
         Access::Back => take_oldest(buffer),

@@ -1,14 +1,14 @@
 -- A step of a process changes what its own register has, and no other's.
-use Rattle.std.proofs.Common.{ℕ, ◌≡◌, ◌≢◌, ◌⊎◌, ◌+◌, ◌*◌, ◌<◌, ◌≤◌, List, [], ◌∷◌, ◌++◌, refl, sym, subst, ◌∙◌, inl, inr, arith, le_trans, Bool, true, false, if◌then◌else◌, nat_le, leb-true, leb-false}
+use Rattle.std.proofs.Common.{ℕ, ◌≡◌, ◌≢◌, ◌⊎◌, ◌+◌, ◌*◌, ◌<◌, ◌≤◌, List, [], ◌∷◌, ◌++◌, refl, sym, subst, ◌∙◌, inl, inr, arith, le_refl, le_trans, Bool, true, false, if◌then◌else◌, nat_le, leb-true, leb-false}
 use mathlib.Core.Logic.{dite}
 use native.Mathlib.Decide.{ℕ_discrete}
 use Rattle.std.proofs.lemmas.Bool.{cases_Bool}
 use Rattle.ds_words.specs.declared.access.BufferEntry.{BufferEntry}
 use Rattle.ds_words.specs.Memory.{Memory, SameMemory, StoresAt, FlushesAt, WritesBack, BacksFirst}
 use Rattle.ds_words.specs.declared.access.Class.TheVariants.{Stamped}
-use Rattle.pm_base.specs.Structures.{In, World, put, GoesTelling}
-use Rattle.pm_base.proofs.Puts.{put_here, put_else}
-use Rattle.pm_registers.specs.Registers.{Own, own_of, entry, IsWell, up_to, LeavesOut, IsTrueResponse, registers}
+use Rattle.pm_base.specs.Structures.{In, World, put, Goes, GoesTelling, after_begin}
+use Rattle.pm_base.proofs.Puts.{put_here, put_else, put_same}
+use Rattle.pm_registers.specs.Registers.{Own, own_of, entry, IsWell, Knows, up_to, LeavesOut, IsTrueResponse, registers}
 use Rattle.pm_registers.specs.declared.calls.Doing.{Doing}
 use Rattle.pm_registers.specs.declared.calls.Response.{Response}
 use Rattle.pm_registers.specs.declared.calls.Response.TheVariants.{Wrote, Recalled}
@@ -68,6 +68,9 @@ own_else p m m' had had' f q ne same =
     let x = f.buffer q ne in
     λ i. record { announced = a i; announced_kept = b i; head = c i; head_kept = d i; buffer = x i; had = same i }
 
+pub others_same : (p : ℕ) (m m' : Memory ℕ) → SameMemory m m' → Others p m m'
+others_same p m m' k = record { cached = λ r a b. k.cached r; persisted = λ r a b. k.persisted r; buffer = λ q ne. k.buffer q }
+
 -- what a step of a process makes of its register
 pub record Moves (w : World Doing (ℕ → List ℕ)) (p : ℕ) (m' : Memory ℕ) (now' : Doing) (says : List Response) : Type 0 where
   pub own : Own
@@ -112,10 +115,50 @@ module _ (n : ℕ) (w : World Doing (ℕ → List ℕ)) (p : ℕ) (m' : Memory �
   pub stepped : GoesTelling registers n w w' p says
   stepped = record { sound = well_each; keeps = answered_each; tells = λ t inside. answered_here t (d.tells t inside) }
 
--- ---- what each access does
+  -- the same, where the values that its register had are known
+  pub stepped_to : (had : List ℕ) → d.own.had ≡ had → GoesTelling registers n w (moved w m' p now' (put w.hidden p had)) p says
+  stepped_to had is = subst (λ (vs : List ℕ). GoesTelling registers n w (moved w m' p now' (put w.hidden p vs)) p says) is stepped
 
-pub others_same : (p : ℕ) (m m' : Memory ℕ) → SameMemory m m' → Others p m m'
-others_same p m m' k = record { cached = λ r a b. k.cached r; persisted = λ r a b. k.persisted r; buffer = λ q ne. k.buffer q }
+-- ---- a process whose register has what it had
+
+module _ (w : World Doing (ℕ → List ℕ)) (p : ℕ) where
+  abbrev o : Own
+  o = own_of w.memory w.hidden p
+
+  pub same_had : put w.hidden p o.had p ≡ w.hidden p
+  same_had = put_here w.hidden p o.had p refl
+
+  -- a step with its process's words and buffer as they are
+  pub kept_own : (m' : Memory ℕ) → SameMemory w.memory m' → own_of m' (put w.hidden p o.had) p ≡ o
+  kept_own m' k = λ i. record { announced = k.cached (2 * p) i; announced_kept = k.persisted (2 * p) i; head = k.cached (2 * p + 1) i; head_kept = k.persisted (2 * p + 1) i; buffer = k.buffer p i; had = same_had i }
+
+  -- what was answered stays true where the values that it had stay
+  pub grown : (o' : Own) (now' : Doing) → o'.had ≡ o.had → o.head_kept ≤ o'.head_kept → o.announced_kept ≤ o'.announced_kept → ((v : ℕ) → v ≤ o.announced_kept → LeavesOut v (w.situation p) → LeavesOut v now') → Grows o o' (w.situation p) now'
+  grown o' now' same head announced leaves = record {
+    kept = λ v has le. subst (λ (l : List ℕ). In l v) (sym same) has;
+    head = head;
+    announced = announced;
+    came = λ v le out has. subst (λ (l : List ℕ). In l v) same has;
+    leaves = leaves;
+  }
+
+  -- a call that begins so changes nothing else
+  pub begun : (n : ℕ) (doing now : Doing) → doing ≡ now → registers.sound n w → p < n → Knows p o now → ((v : ℕ) → v ≤ o.announced_kept → LeavesOut v (w.situation p) → LeavesOut v now) → Goes registers n w (after_begin registers n w p doing)
+  begun n doing now is sound low knows leaves =
+      let h = sound p low in
+      let memory : SameMemory w.memory w.memory = record { cached = λ r. refl; persisted = λ r. refl; buffer = λ q. refl } in
+      let d : Moves w p w.memory now [] = record {
+        own = o;
+        is = kept_own w.memory memory;
+        well = record { announced = h.announced; head = h.head; follows = h.follows; has = h.has; has_kept = h.has_kept; most = h.most; knows = knows };
+        grows = grown o now refl (le_refl _) (le_refl _) leaves;
+        tells = λ t none. absurd none;
+      } in
+      let k = stepped n w p w.memory now [] sound low (others_same p w.memory w.memory memory) d in
+      let same : put w.hidden p o.had ≡ w.hidden = λ i q. put_same w.hidden p o.had refl q i in
+      subst (λ (z : Doing × (ℕ → List ℕ)). Goes registers n w (moved w w.memory p z.0 z.1)) (λ i. (sym is i, same i)) (record { sound = k.sound; keeps = k.keeps })
+
+-- ---- what each access does
 
 abbrev pub IsMine : ℕ → ℕ → Type 0
 IsMine p r = (r ≡ 2 * p) ⊎ (r ≡ 2 * p + 1)

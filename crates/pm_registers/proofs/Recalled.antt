@@ -1,9 +1,8 @@
 -- A recovery recalls the value that its process announced last.
 use Rattle.std.proofs.Common.{ℕ, ◌≡◌, ◌∙◌, ◌≤◌, Bool, List, [], ◌∷◌, refl, sym, ap, subst, inl, inr, le_trans}
-use Rattle.pm_base.specs.Structures.{In, World}
-use Rattle.pm_base.specs.Runs.{Happened, Run, IsNew, Moves}
+use Rattle.pm_base.specs.Structures.{World}
+use Rattle.pm_base.specs.Runs.{Moves}
 use Rattle.pm_base.specs.declared.history.Event.{Event}
-use Rattle.pm_base.specs.declared.history.Event.TheVariants.{Step}
 use Rattle.pm_base.proofs.Puts.{put_here}
 use Rattle.pm_base.proofs.Running.{runs}
 use Rattle.pm_registers.specs.Calls.{recover_next, recalled}
@@ -17,7 +16,6 @@ use Rattle.pm_registers.specs.declared.calls.RecoverStage.{RecoverStage}
 use Rattle.pm_registers.specs.declared.calls.RecoverStage.TheVariants as recover
 use Rattle.pm_registers.specs.declared.calls.Doing.{Doing}
 use Rattle.pm_registers.specs.declared.calls.Doing.TheVariants.{Idle, Recovering}
-use Rattle.pm_registers.specs.declared.calls.Response.{Response}
 use Rattle.pm_registers.specs.declared.calls.Response.TheVariants.{Recalled}
 use Rattle.pm_registers.proofs.Sound.{registers_hold}
 

@@ -2,17 +2,16 @@
 use Rattle.std.proofs.Common.{ℕ, ◌≡◌, ◌+◌, ◌*◌, ◌<◌, ◌≤◌, max, List, [], ◌∷◌, refl, sym, ap, subst, ◌∙◌, inl, inr, arith, le_refl, le_trans, eq-eqb, ne_eqb}
 use mathlib.Core.Logic.{dite}
 use native.Mathlib.Decide.{ℕ_discrete}
-use Rattle.ds_words.specs.Memory.{Memory, SameMemory, Performs}
-use Rattle.pm_base.specs.Structures.{In, World, put, AreCalls, KindBegins, KindSteps, Goes, GoesTelling, Serves, after_begin}
-use Rattle.pm_base.proofs.Puts.{put_here, put_same}
+use Rattle.ds_words.specs.Memory.{Memory, Performs}
+use Rattle.pm_base.specs.Structures.{In, World, AreCalls, KindBegins, KindSteps, Serves}
 use Rattle.pm_registers.specs.Calls.{recover_access_at, recover_stage, recalled}
-use Rattle.pm_registers.specs.Registers.{Own, own_of, entry, IsWell, Knows, KnowsRecovery, LeavesOut, IsTrueResponse, registers, recoveries, recover_doing, recover_says, RecoverGoes, MayRecover, had_in}
+use Rattle.pm_registers.specs.Registers.{Own, own_of, entry, IsWell, Knows, KnowsRecovery, IsTrueResponse, registers, recoveries, recover_doing, recover_says, RecoverGoes, MayRecover, had_in}
 use Rattle.pm_registers.specs.declared.calls.RecoverCall.{RecoverCall}
 use Rattle.pm_registers.specs.declared.calls.RecoverStage.{RecoverStage}
 use Rattle.pm_registers.specs.declared.calls.RecoverStage.TheVariants as recover
 use Rattle.pm_registers.specs.declared.calls.Doing.{Doing}
 use Rattle.pm_registers.specs.declared.calls.Doing.TheVariants.{Idle, Writing, Recovering, Stopped}
-use Rattle.pm_registers.proofs.Owns.{Grows, Others, Moves, moved, stepped, others_same, others_flushed, one_back, others_back, flushed_one}
+use Rattle.pm_registers.proofs.Owns.{Others, Moves, begun, grown, kept_own, same_had, stepped_to, others_same, others_flushed, one_back, others_back, flushed_one}
 use Rattle.pm_registers.proofs.Writes.{has_room, has_first}
 
 doing_recovering : (c : RecoverCall) (s : RecoverStage) → RecoverGoes s → recover_doing c s ≡ Recovering (record c { stage = s })
@@ -61,21 +60,6 @@ module _ (n : ℕ) (w : World Doing (ℕ → List ℕ)) (c : RecoverCall) (m' : 
   abbrev now : Doing
   now = w.situation c.process
 
-  same_had : put w.hidden p o.had p ≡ w.hidden p
-  same_had = put_here w.hidden p o.had p refl
-
-  kept_own : SameMemory m m' → own_of m' (put w.hidden p o.had) p ≡ o
-  kept_own k = λ i. record { announced = k.cached (2 * p) i; announced_kept = k.persisted (2 * p) i; head = k.cached (2 * p + 1) i; head_kept = k.persisted (2 * p + 1) i; buffer = k.buffer p i; had = same_had i }
-
-  grown : (o' : Own) (now' : Doing) → o'.had ≡ o.had → o.head_kept ≤ o'.head_kept → o.announced_kept ≤ o'.announced_kept → ((v : ℕ) → LeavesOut v now') → Grows o o' now now'
-  grown o' now' same head announced leaves = record {
-    kept = λ v has le. subst (λ (l : List ℕ). In l v) (sym same) has;
-    head = head;
-    announced = announced;
-    came = λ v le out has. subst (λ (l : List ℕ). In l v) same has;
-    leaves = λ v le out. leaves v;
-  }
-
   -- what a recovery tells of the announcement and the head that it read is true
   tells_true : (o' : Own) (last head : ℕ) → In o'.had head → ((v : ℕ) → In o'.had v → v ≤ head) → head ≤ last → head ≤ o'.head_kept → last ≤ o'.announced_kept → IsTrueResponse o' (Idle last) (recalled last head)
   tells_true o' last head has most le kept said = dite (ℕ_discrete head last)
@@ -88,9 +72,9 @@ module _ (n : ℕ) (w : World Doing (ℕ → List ℕ)) (c : RecoverCall) (m' : 
     others_same p m m' perf.1,
     record {
       own = o;
-      is = kept_own perf.1;
+      is = kept_own w p m' perf.1;
       well = record { announced = h.announced; head = h.head; follows = h.follows; has = h.has; has_kept = h.has_kept; most = h.most; knows = (refl, (k, sym perf.0)) };
-      grows = grown o _ refl (le_refl _) (le_refl _) (λ v. tt);
+      grows = grown w p o _ refl (le_refl _) (le_refl _) (λ v le out. tt);
       tells = λ t none. absurd none;
     },
     refl,
@@ -101,9 +85,9 @@ module _ (n : ℕ) (w : World Doing (ℕ → List ℕ)) (c : RecoverCall) (m' : 
         others_flushed p (2 * p) m m' s,
         record {
           own = o';
-          is = λ i. record { announced = s.cached (2 * p) i; announced_kept = s.persisted (2 * p) i; head = s.cached (2 * p + 1) i; head_kept = s.persisted (2 * p + 1) i; buffer = flushed_one p (2 * p) last m m' k.0 k.1 s i; had = same_had i };
+          is = λ i. record { announced = s.cached (2 * p) i; announced_kept = s.persisted (2 * p) i; head = s.cached (2 * p + 1) i; head_kept = s.persisted (2 * p + 1) i; buffer = flushed_one p (2 * p) last m m' k.0 k.1 s i; had = same_had w p i };
           well = record { announced = h.announced; head = h.head; follows = h.follows; has = h.has; has_kept = h.has_kept; most = h.most; knows = (refl, (refl, k.1)) };
-          grows = grown o' _ refl (le_refl _) (le_refl _) (λ v. tt);
+          grows = grown w p o' _ refl (le_refl _) (le_refl _) (λ v le out. tt);
           tells = λ t none. absurd none;
         },
         refl,
@@ -116,9 +100,9 @@ module _ (n : ℕ) (w : World Doing (ℕ → List ℕ)) (c : RecoverCall) (m' : 
         others_back p (2 * p) last m m' (inl refl) s,
         record {
           own = o';
-          is = λ i. record { announced = s.cached (2 * p) i; announced_kept = there i; head = s.cached (2 * p + 1) i; head_kept = s.elsewhere (2 * p + 1) (λ e. omega arith) i; buffer = s.mine i; had = same_had i };
+          is = λ i. record { announced = s.cached (2 * p) i; announced_kept = there i; head = s.cached (2 * p + 1) i; head_kept = s.elsewhere (2 * p + 1) (λ e. omega arith) i; buffer = s.mine i; had = same_had w p i };
           well = record { announced = (let a = k.1 in omega (arith, a)); head = h.head; follows = le_trans h.follows less; has = h.has; has_kept = h.has_kept; most = h.most; knows = (refl, (refl, k.1, refl)) };
-          grows = grown o' _ refl (le_refl _) less (λ v. tt);
+          grows = grown w p o' _ refl (le_refl _) less (λ v le out. tt);
           tells = λ t none. absurd none;
         },
         refl,
@@ -127,9 +111,9 @@ module _ (n : ℕ) (w : World Doing (ℕ → List ℕ)) (c : RecoverCall) (m' : 
     others_same p m m' perf.1,
     record {
       own = o;
-      is = kept_own perf.1;
+      is = kept_own w p m' perf.1;
       well = record { announced = h.announced; head = h.head; follows = h.follows; has = h.has; has_kept = h.has_kept; most = h.most; knows = (refl, (k.0, k.1, k.2, sym perf.0)) };
-      grows = grown o _ refl (le_refl _) (le_refl _) (λ v. tt);
+      grows = grown w p o _ refl (le_refl _) (le_refl _) (λ v le out. tt);
       tells = λ t none. absurd none;
     },
     refl,
@@ -140,9 +124,9 @@ module _ (n : ℕ) (w : World Doing (ℕ → List ℕ)) (c : RecoverCall) (m' : 
         others_flushed p (2 * p + 1) m m' s,
         record {
           own = o';
-          is = λ i. record { announced = s.cached (2 * p) i; announced_kept = s.persisted (2 * p) i; head = s.cached (2 * p + 1) i; head_kept = s.persisted (2 * p + 1) i; buffer = flushed_one p (2 * p + 1) head m m' k.0 k.3 s i; had = same_had i };
+          is = λ i. record { announced = s.cached (2 * p) i; announced_kept = s.persisted (2 * p) i; head = s.cached (2 * p + 1) i; head_kept = s.persisted (2 * p + 1) i; buffer = flushed_one p (2 * p + 1) head m m' k.0 k.3 s i; had = same_had w p i };
           well = record { announced = h.announced; head = h.head; follows = h.follows; has = h.has; has_kept = h.has_kept; most = h.most; knows = (refl, (refl, k.1, k.2, k.3)) };
-          grows = grown o' _ refl (le_refl _) (le_refl _) (λ v. tt);
+          grows = grown w p o' _ refl (le_refl _) (le_refl _) (λ v le out. tt);
           tells = λ t none. absurd none;
         },
         refl,
@@ -156,9 +140,9 @@ module _ (n : ℕ) (w : World Doing (ℕ → List ℕ)) (c : RecoverCall) (m' : 
         others_back p (2 * p + 1) head m m' (inr refl) s,
         record {
           own = o';
-          is = λ i. record { announced = s.cached (2 * p) i; announced_kept = s.elsewhere (2 * p) (λ e. omega arith) i; head = s.cached (2 * p + 1) i; head_kept = there i; buffer = s.mine i; had = same_had i };
+          is = λ i. record { announced = s.cached (2 * p) i; announced_kept = s.elsewhere (2 * p) (λ e. omega arith) i; head = s.cached (2 * p + 1) i; head_kept = there i; buffer = s.mine i; had = same_had w p i };
           well = record { announced = h.announced; head = (let a = k.3 in omega (arith, a)); follows = h.follows; has = h.has; has_kept = has; most = h.most; knows = (refl, k.1, k.2) };
-          grows = grown o' _ refl less (le_refl _) (λ v. tt);
+          grows = grown w p o' _ refl less (le_refl _) (λ v le out. tt);
           tells = λ t inside. elim inside [
             | inl e ↦ subst (IsTrueResponse o' (Idle last)) e (tells_true o' last head has (subst (λ (z : ℕ). (v : ℕ) → In o.had v → v ≤ z) k.3 h.most) (let a = k.3 in let b = k.2 in let d = h.follows in omega (arith, a, b, d)) (le_refl _) (let b = k.2 in omega (arith, b)))
             | inr none ↦ absurd none
@@ -174,31 +158,12 @@ recover_steps n w c m' answer sound low at fits go perf =
     let d = moves n w c m' answer h c.stage go (stood (own_of w.memory w.hidden c.process) (w.situation c.process) c h go at) perf in
     let is : w.situation c.process ≡ Recovering c = at ∙ doing_recovering c c.stage go in
     let had : d.1.own.had ≡ had_in (w.situation c.process) (w.memory.cached (2 * c.process + 1)) (w.hidden c.process) = d.2 ∙ ap (λ (z : Doing). had_in z (w.memory.cached (2 * c.process + 1)) (w.hidden c.process)) (sym is) in
-    subst (λ (vs : List ℕ). GoesTelling registers n w (moved w m' c.process (recoveries.doing (recoveries.next c answer)) (put w.hidden c.process vs)) c.process (recoveries.says (recoveries.next c answer))) had
-    (stepped n w c.process m' _ _ sound low d.0 d.1)
-
--- where a recovery begins nothing else changes
-begun : (n : ℕ) (w : World Doing (ℕ → List ℕ)) (c : RecoverCall) → registers.sound n w → c.process < n → RecoverGoes c.stage → (d : Moves w c.process w.memory (Recovering c) []) → d.own.had ≡ w.hidden c.process → Others c.process w.memory w.memory → Goes registers n w (after_begin registers n w c.process (recover_doing c c.stage))
-begun n w c sound low go d kept others =
-    let k = stepped n w c.process w.memory (Recovering c) [] sound low others d in
-    let same : put w.hidden c.process d.own.had ≡ w.hidden = λ i q. put_same w.hidden c.process d.own.had (sym kept) q i in
-    subst (λ (z : Doing × (ℕ → List ℕ)). Goes registers n w (moved w w.memory c.process z.0 z.1)) (λ i. (sym (doing_recovering c c.stage go) i, same i)) (record { sound = k.sound; keeps = k.keeps })
+    stepped_to n w c.process m' _ _ sound low d.0 d.1 _ had
 
 pub recover_begins : (n : ℕ) → KindBegins registers n recoveries
 recover_begins n w c sound low fits go may =
-    let p : ℕ = c.process in
-    let o : Own = own_of w.memory w.hidden p in
-    let h = sound p low in
-    let same_had : put w.hidden p o.had p ≡ w.hidden p = put_here w.hidden p o.had p refl in
-    let d : Moves w p w.memory (Recovering c) [] = record {
-      own = o;
-      is = λ i. record { announced = o.announced; announced_kept = o.announced_kept; head = o.head; head_kept = o.head_kept; buffer = o.buffer; had = same_had i };
-      well = record { announced = h.announced; head = h.head; follows = h.follows; has = h.has; has_kept = h.has_kept; most = h.most; knows = (refl, stood_begun o (w.situation p) c h may) };
-      grows = record { kept = λ v has le. has; head = le_refl _; announced = le_refl _; came = λ v le out has. has; leaves = λ v le out. tt };
-      tells = λ t none. absurd none;
-    } in
-    let same : SameMemory w.memory w.memory = record { cached = λ r. refl; persisted = λ r. refl; buffer = λ q. refl } in
-    begun n w c sound low go d refl (others_same p w.memory w.memory same)
+    begun w c.process n (recover_doing c c.stage) (Recovering c) (doing_recovering c c.stage go) sound low
+    (refl, stood_begun (own_of w.memory w.hidden c.process) (w.situation c.process) c (sound c.process low) may) (λ v le out. tt)
 
 pub recoveries_hold : (n : ℕ) → AreCalls registers n recoveries
 recoveries_hold n = record {

@@ -2,9 +2,9 @@
 use Rattle.std.proofs.Common.{ℕ, ◌≡◌, ◌≢◌, ◌+◌, ◌*◌, ◌<◌, ◌≤◌, max, List, [], ◌∷◌, length, refl, sym, ap, subst, ◌∙◌, inl, inr, arith, le_refl, le_trans, eq-eqb}
 use Rattle.ds_words.specs.declared.access.BufferEntry.{BufferEntry}
 use Rattle.ds_words.specs.declared.words.TheConstants.{BUFFER_ENTRIES}
-use Rattle.ds_words.specs.Memory.{Memory, SameMemory, Performs}
-use Rattle.pm_base.specs.Structures.{In, World, put, AreCalls, KindBegins, KindSteps, Goes, GoesTelling, HasFirst, Serves, after_begin}
-use Rattle.pm_base.proofs.Puts.{put_here, put_same}
+use Rattle.ds_words.specs.Memory.{Memory, Performs}
+use Rattle.pm_base.specs.Structures.{In, World, AreCalls, KindBegins, KindSteps, HasFirst, Serves}
+use Rattle.pm_base.proofs.Puts.{put_here}
 use Rattle.pm_registers.specs.Calls.{write_access_at, write_stage}
 use Rattle.pm_registers.specs.Registers.{Own, own_of, entry, IsWell, Knows, KnowsWrite, LeavesOut, IsTrueResponse, registers, writes, write_doing, write_says, WriteGoes, MayWrite, had_after, had_in}
 use Rattle.pm_registers.specs.declared.calls.WriteCall.{WriteCall}
@@ -12,7 +12,7 @@ use Rattle.pm_registers.specs.declared.calls.WriteStage.{WriteStage}
 use Rattle.pm_registers.specs.declared.calls.WriteStage.TheVariants as write
 use Rattle.pm_registers.specs.declared.calls.Doing.{Doing}
 use Rattle.pm_registers.specs.declared.calls.Doing.TheVariants.{Idle, Writing, Recovering, Stopped}
-use Rattle.pm_registers.proofs.Owns.{Grows, Others, Moves, moved, stepped, others_same, others_stored, others_flushed, one_back, others_back, flushed_one}
+use Rattle.pm_registers.proofs.Owns.{Others, Moves, begun, grown, kept_own, same_had, stepped_to, others_same, others_stored, others_flushed, one_back, others_back, flushed_one}
 
 -- ---- where a write stands
 
@@ -87,25 +87,8 @@ module _ (n : ℕ) (w : World Doing (ℕ → List ℕ)) (c : WriteCall) (m' : Me
   abbrev now : Doing
   now = w.situation c.process
 
-  same_had : put w.hidden p o.had p ≡ w.hidden p
-  same_had = put_here w.hidden p o.had p refl
-
   abbrev then : WriteStage → Doing
   then s = write_doing c s
-
-  -- a step with its process's words and buffer as they are
-  kept_own : SameMemory m m' → own_of m' (put w.hidden p o.had) p ≡ o
-  kept_own k = λ i. record { announced = k.cached (2 * p) i; announced_kept = k.persisted (2 * p) i; head = k.cached (2 * p + 1) i; head_kept = k.persisted (2 * p + 1) i; buffer = k.buffer p i; had = same_had i }
-
-  -- what was answered stays true where the values that it had stay
-  grown : (o' : Own) (now' : Doing) → o'.had ≡ o.had → o.head_kept ≤ o'.head_kept → o.announced_kept ≤ o'.announced_kept → ((v : ℕ) → v ≤ o.announced_kept → LeavesOut v now → LeavesOut v now') → Grows o o' now now'
-  grown o' now' same head announced leaves = record {
-    kept = λ v has le. subst (λ (l : List ℕ). In l v) (sym same) has;
-    head = head;
-    announced = announced;
-    came = λ v le out has. subst (λ (l : List ℕ). In l v) same has;
-    leaves = leaves;
-  }
 
   moves : (s : WriteStage) → c.stage ≡ s → WriteGoes s → Stood p c.value o now s → Performs (registers.class_in n) (write_access_at p c.value s) p m m' answer
       → Others p m m' × (d : Moves w p m' (write_doing c (write_stage s answer)) (write_says c (write_stage s answer))) × (d.own.had ≡ had_after c.value s o.head o.had)
@@ -116,7 +99,7 @@ module _ (n : ℕ) (w : World Doing (ℕ → List ℕ)) (c : WriteCall) (m' : Me
         others_stored p (2 * p) c.value m m' (inl refl) s,
         record {
           own = o';
-          is = λ i. record { announced = s.there i; announced_kept = s.persisted (2 * p) i; head = s.elsewhere (2 * p + 1) (λ e. omega arith) i; head_kept = s.persisted (2 * p + 1) i; buffer = s.buffer p i; had = same_had i };
+          is = λ i. record { announced = s.there i; announced_kept = s.persisted (2 * p) i; head = s.elsewhere (2 * p + 1) (λ e. omega arith) i; head_kept = s.persisted (2 * p + 1) i; buffer = s.buffer p i; had = same_had w p i };
           well = record {
             announced = (let a = k.1 in let b = k.2 in omega (arith, a, b));
             head = h.head;
@@ -126,7 +109,7 @@ module _ (n : ℕ) (w : World Doing (ℕ → List ℕ)) (c : WriteCall) (m' : Me
             most = h.most;
             knows = (refl, (k.0, refl, (let a = k.1 in let b = k.2 in let d = h.follows in omega (arith, a, b, d))));
           };
-          grows = grown o' _ refl (le_refl _) (le_refl _) st.new;
+          grows = grown w p o' _ refl (le_refl _) (le_refl _) st.new;
           tells = λ t none. absurd none;
         },
         refl,
@@ -138,9 +121,9 @@ module _ (n : ℕ) (w : World Doing (ℕ → List ℕ)) (c : WriteCall) (m' : Me
         others_flushed p (2 * p) m m' s,
         record {
           own = o';
-          is = λ i. record { announced = s.cached (2 * p) i; announced_kept = s.persisted (2 * p) i; head = s.cached (2 * p + 1) i; head_kept = s.persisted (2 * p + 1) i; buffer = flushed_one p (2 * p) c.value m m' k.0 k.1 s i; had = same_had i };
+          is = λ i. record { announced = s.cached (2 * p) i; announced_kept = s.persisted (2 * p) i; head = s.cached (2 * p + 1) i; head_kept = s.persisted (2 * p + 1) i; buffer = flushed_one p (2 * p) c.value m m' k.0 k.1 s i; had = same_had w p i };
           well = record { announced = h.announced; head = h.head; follows = h.follows; has = h.has; has_kept = h.has_kept; most = h.most; knows = (refl, (refl, k.1, k.2)) };
-          grows = grown o' _ refl (le_refl _) (le_refl _) st.new;
+          grows = grown w p o' _ refl (le_refl _) (le_refl _) st.new;
           tells = λ t none. absurd none;
         },
         refl,
@@ -154,7 +137,7 @@ module _ (n : ℕ) (w : World Doing (ℕ → List ℕ)) (c : WriteCall) (m' : Me
         others_back p (2 * p) c.value m m' (inl refl) s,
         record {
           own = o';
-          is = λ i. record { announced = s.cached (2 * p) i; announced_kept = there i; head = s.cached (2 * p + 1) i; head_kept = s.elsewhere (2 * p + 1) (λ e. omega arith) i; buffer = s.mine i; had = same_had i };
+          is = λ i. record { announced = s.cached (2 * p) i; announced_kept = there i; head = s.cached (2 * p + 1) i; head_kept = s.elsewhere (2 * p + 1) (λ e. omega arith) i; buffer = s.mine i; had = same_had w p i };
           well = record {
             announced = (let a = k.1 in omega (arith, a));
             head = h.head;
@@ -164,7 +147,7 @@ module _ (n : ℕ) (w : World Doing (ℕ → List ℕ)) (c : WriteCall) (m' : Me
             most = h.most;
             knows = (refl, (refl, k.1, k.2, refl));
           };
-          grows = grown o' _ refl (le_refl _) less st.new;
+          grows = grown w p o' _ refl (le_refl _) less st.new;
           tells = λ t none. absurd none;
         },
         refl,
@@ -174,9 +157,9 @@ module _ (n : ℕ) (w : World Doing (ℕ → List ℕ)) (c : WriteCall) (m' : Me
         others_same p m m' perf.1,
         record {
           own = o;
-          is = kept_own perf.1;
+          is = kept_own w p m' perf.1;
           well = record { announced = h.announced; head = h.head; follows = h.follows; has = h.has; has_kept = h.has_kept; most = h.most; knows = (refl, (k.0, k.1, k.2, k.3, perf.0)) };
-          grows = grown o _ refl (le_refl _) (le_refl _) st.new;
+          grows = grown w p o _ refl (le_refl _) (le_refl _) st.new;
           tells = λ t none. absurd none;
         },
         refl,
@@ -226,9 +209,9 @@ module _ (n : ℕ) (w : World Doing (ℕ → List ℕ)) (c : WriteCall) (m' : Me
         others_flushed p (2 * p + 1) m m' s,
         record {
           own = o';
-          is = λ i. record { announced = s.cached (2 * p) i; announced_kept = s.persisted (2 * p) i; head = s.cached (2 * p + 1) i; head_kept = s.persisted (2 * p + 1) i; buffer = flushed_one p (2 * p + 1) c.value m m' k.0 k.2 s i; had = same_had i };
+          is = λ i. record { announced = s.cached (2 * p) i; announced_kept = s.persisted (2 * p) i; head = s.cached (2 * p + 1) i; head_kept = s.persisted (2 * p + 1) i; buffer = flushed_one p (2 * p + 1) c.value m m' k.0 k.2 s i; had = same_had w p i };
           well = record { announced = h.announced; head = h.head; follows = h.follows; has = h.has; has_kept = h.has_kept; most = h.most; knows = (refl, (refl, k.1, k.2, k.3)) };
-          grows = grown o' _ refl (le_refl _) (le_refl _) st.new;
+          grows = grown w p o' _ refl (le_refl _) (le_refl _) st.new;
           tells = λ t none. absurd none;
         },
         refl,
@@ -243,7 +226,7 @@ module _ (n : ℕ) (w : World Doing (ℕ → List ℕ)) (c : WriteCall) (m' : Me
         others_back p (2 * p + 1) c.value m m' (inr refl) s,
         record {
           own = o';
-          is = λ i. record { announced = s.cached (2 * p) i; announced_kept = s.elsewhere (2 * p) (λ e. omega arith) i; head = s.cached (2 * p + 1) i; head_kept = there i; buffer = s.mine i; had = same_had i };
+          is = λ i. record { announced = s.cached (2 * p) i; announced_kept = s.elsewhere (2 * p) (λ e. omega arith) i; head = s.cached (2 * p + 1) i; head_kept = there i; buffer = s.mine i; had = same_had w p i };
           well = record {
             announced = h.announced;
             head = (let a = k.2 in omega (arith, a));
@@ -253,7 +236,7 @@ module _ (n : ℕ) (w : World Doing (ℕ → List ℕ)) (c : WriteCall) (m' : Me
             most = h.most;
             knows = (refl, k.1, k.3);
           };
-          grows = grown o' _ refl less (le_refl _) (λ v le out. tt);
+          grows = grown w p o' _ refl less (le_refl _) (λ v le out. tt);
           tells = λ t inside. elim inside [
             | inl e ↦ subst (IsTrueResponse o' (Idle c.value)) e (has, le_refl _)
             | inr none ↦ absurd none
@@ -269,32 +252,12 @@ write_steps n w c m' answer sound low at fits go perf =
     let d = moves n w c m' answer h c.stage refl go (stood (own_of w.memory w.hidden c.process) (w.situation c.process) c h go at) perf in
     let is : w.situation c.process ≡ Writing c = at ∙ doing_writing c c.stage go in
     let had : d.1.own.had ≡ had_in (w.situation c.process) (w.memory.cached (2 * c.process + 1)) (w.hidden c.process) = d.2 ∙ ap (λ (z : Doing). had_in z (w.memory.cached (2 * c.process + 1)) (w.hidden c.process)) (sym is) in
-    subst (λ (vs : List ℕ). GoesTelling registers n w (moved w m' c.process (writes.doing (writes.next c answer)) (put w.hidden c.process vs)) c.process (writes.says (writes.next c answer))) had
-    (stepped n w c.process m' _ _ sound low d.0 d.1)
-
--- where a write begins nothing else changes
-begun : (n : ℕ) (w : World Doing (ℕ → List ℕ)) (c : WriteCall) → registers.sound n w → c.process < n → WriteGoes c.stage → (d : Moves w c.process w.memory (Writing c) []) → d.own.had ≡ w.hidden c.process → Others c.process w.memory w.memory → Goes registers n w (after_begin registers n w c.process (write_doing c c.stage))
-begun n w c sound low go d kept others =
-    let k = stepped n w c.process w.memory (Writing c) [] sound low others d in
-    let same : put w.hidden c.process d.own.had ≡ w.hidden = λ i q. put_same w.hidden c.process d.own.had (sym kept) q i in
-    subst (λ (z : Doing × (ℕ → List ℕ)). Goes registers n w (moved w w.memory c.process z.0 z.1)) (λ i. (sym (doing_writing c c.stage go) i, same i)) (record { sound = k.sound; keeps = k.keeps })
+    stepped_to n w c.process m' _ _ sound low d.0 d.1 _ had
 
 pub write_begins : (n : ℕ) → KindBegins registers n writes
 write_begins n w c sound low fits go may =
-    let p : ℕ = c.process in
-    let o : Own = own_of w.memory w.hidden p in
-    let h = sound p low in
-    let st = stood_begun o (w.situation p) c h may in
-    let same_had : put w.hidden p o.had p ≡ w.hidden p = put_here w.hidden p o.had p refl in
-    let d : Moves w p w.memory (Writing c) [] = record {
-      own = o;
-      is = λ i. record { announced = o.announced; announced_kept = o.announced_kept; head = o.head; head_kept = o.head_kept; buffer = o.buffer; had = same_had i };
-      well = record { announced = h.announced; head = h.head; follows = h.follows; has = h.has; has_kept = h.has_kept; most = h.most; knows = (refl, st.knows) };
-      grows = record { kept = λ v has le. has; head = le_refl _; announced = le_refl _; came = λ v le out has. has; leaves = st.new };
-      tells = λ t none. absurd none;
-    } in
-    let same : SameMemory w.memory w.memory = record { cached = λ r. refl; persisted = λ r. refl; buffer = λ q. refl } in
-    begun n w c sound low go d refl (others_same p w.memory w.memory same)
+    let st = stood_begun (own_of w.memory w.hidden c.process) (w.situation c.process) c (sound c.process low) may in
+    begun w c.process n (write_doing c c.stage) (Writing c) (doing_writing c c.stage go) sound low (refl, st.knows) st.new
 
 pub writes_hold : (n : ℕ) → AreCalls registers n writes
 writes_hold n = record {

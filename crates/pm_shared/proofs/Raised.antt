@@ -1,5 +1,5 @@
 -- What a raise is answered.
-use Rattle.std.proofs.Common.{ℕ, ◌≡◌, ◌∙◌, List, [], ◌∷◌, ◌++◌, refl, sym, ap, subst, Bool}
+use Rattle.std.proofs.Common.{ℕ, ◌≡◌, ◌∙◌, List, [], ◌∷◌, ◌++◌, refl, sym, ap, subst, Bool, arith}
 use Rattle.std.proofs.lemmas.List.{append-nil}
 use Rattle.atomic_table.specs.Table.{Me}
 use Rattle.pm_base.specs.declared.history.Deed.{Deed}
@@ -52,7 +52,7 @@ raised n process value old me c up k h =
       sits = sits_at me c.process process (raises.doing c) Idle h.buffer h.is.held _ h.is.at h.is.grows.seen r.0 e.0;
       done = ap (λ d. d.done) (ap deeds_at h.is.at) ∙ (h.is.done ∙ ap (λ (l : List (Deed Doing ℕ)). l ++ (deed.Began (Raising (first_raise process value)) ∷ (deeds_at old).done)) answered);
       grows = subst (λ d. Grows process (deeds_at old) d k) (sym (ap deeds_at h.is.at)) h.is.grows;
-      few = h.few;
+      few = (let most = h.few in omega (arith, most));
     }
 
 -- how a raise comes out, by what its fuse was asked

@@ -16,4 +16,4 @@ sits_at me p process now does x held seen at looked own is = record { runs = rec
 
 pub runs_on : {K S T C E : Type 0} (s : Structure K S T) (c : Calls K S T C E) (key : K) (first : C) (old me : Me ℕ (View S T)) (call : C) (n process : ℕ) → RunsOne old process → ((d : C) (ts : List T) (x : List (BufferEntry ℕ)) (k : ℕ) (m : Me ℕ (View S T)) → IsIn s c key first old m d x k → c.process d ≡ process) → Breaks s c key first old me call n → RunsOne me process
 runs_on s c key first old me call n process runs same before_all = runs
-runs_on s c key first old me call n process runs same (within m d x k is few) = record { seat = seated (c.process d) (c.doing d) x is.held; at = is.at; own = same d is.responses x k m is; seen = _; looked = is.grows.seen }
+runs_on s c key first old me call n process runs same (within m d x k is few goes) = record { seat = seated (c.process d) (c.doing d) x is.held; at = is.at; own = same d is.responses x k m is; seen = _; looked = is.grows.seen }

@@ -1,5 +1,5 @@
 -- What a write and a recovery tell.
-use Rattle.std.proofs.Common.{Bool, true, false, ℕ, ◌≡◌, ◌∙◌, List, [], ◌∷◌, ◌++◌, refl, sym, ap, subst}
+use Rattle.std.proofs.Common.{Bool, true, false, ℕ, ◌≡◌, ◌∙◌, List, [], ◌∷◌, ◌++◌, refl, sym, ap, subst, arith}
 use Rattle.std.proofs.lemmas.List.{append-nil}
 use Rattle.atomic_table.specs.Table.{Me}
 use Rattle.pm_base.specs.declared.history.Deed.TheVariants as deed
@@ -53,7 +53,7 @@ written n process value old me c end k h =
       sits = sits_at me c.process process (writes.doing c) (Idle value) h.buffer h.is.held _ h.is.at h.is.grows.seen r.0 does;
       done = ap (λ d. d.done) (ap deeds_at h.is.at) ∙ (h.is.done ∙ ap (λ (l : List Response). answered_so l ++ (deed.Began (Writing (first_write process value)) ∷ (deeds_at old).done)) answered);
       grows = subst (λ d. Grows process (deeds_at old) d k) (sym (ap deeds_at h.is.at)) h.is.grows;
-      few = h.few;
+      few = (let most = h.few in omega (arith, most));
     }
 
 quiet_recovery : (s : RecoverStage) → RecoverGoes s → recover_says s ≡ []
@@ -85,7 +85,7 @@ recovered n process old me c end k h =
       sits = sits_at me c.process process (recoveries.doing c) (Idle (last_of end)) h.buffer h.is.held _ h.is.at h.is.grows.seen r.0 does;
       done = ap (λ d. d.done) (ap deeds_at h.is.at) ∙ (h.is.done ∙ ap (λ (l : List Response). answered_so l ++ (deed.Began (Recovering (first_recovery process)) ∷ (deeds_at old).done)) answered);
       grows = subst (λ d. Grows process (deeds_at old) d k) (sym (ap deeds_at h.is.at)) h.is.grows;
-      few = h.few;
+      few = (let most = h.few in omega (arith, most));
     }
 
 -- how a write comes out, by what its fuse was asked

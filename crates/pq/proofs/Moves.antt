@@ -10,7 +10,7 @@ use Rattle.ds_words.specs.Memory.{Performs, Memory, StoresAt, FlushesAt, WritesB
 use Rattle.pm_base.specs.Structures.{Calls, StepsOf, In, World, put, HasFirst, GoesTelling}
 use Rattle.pm_base.proofs.Puts.{put_here, put_else}
 use Rattle.pq.specs.Places.{Belongs, nodes}
-use Rattle.pq.specs.History.{History, Words, side_of, words_of, Spent}
+use Rattle.pq.specs.History.{History, Side, Words, side_of, words_of, Spent}
 use Rattle.pq.specs.Sound.{IsSound}
 use Rattle.pq.specs.Knows.{Knows, InTime, tail_place, head_place, buffer_at, entry}
 use Rattle.pq.specs.Queue.{LeavesOut, IsTrueResponse, step_then, queue}
@@ -35,110 +35,52 @@ side_stored m m2 a kind u s =
 side_other : (m m2 : Memory ℕ) (a kind other u : ℕ) → kind < 8 → other < 8 → other ≢ kind → StoresAt (8 * a + kind) u m m2 → side_of m2 other ≡ side_of m other
 side_other m m2 a kind other u lk lo ne s = λ i. record { now = λ b. s.elsewhere (8 * b + other) (kinds_apart b a other kind lo lk ne) i; kept = λ b. s.persisted (8 * b + other) i }
 
+-- the words of which these are the sides, by kind
+abbrev words_by : (ℕ → Side) → Words
+words_by side = record { next = side 0; taker = side 1; value = side 2; linked = side 3; result = side 4; announce = side 5; tail = side 6; head = side 7 }
+
+words_agree : (f g : ℕ → Side) → ((kind : ℕ) → kind < 8 → f kind ≡ g kind) → words_by f ≡ words_by g
+words_agree f g h = λ i. record {
+  next = h 0 (omega arith) i;
+  taker = h 1 (omega arith) i;
+  value = h 2 (omega arith) i;
+  linked = h 3 (omega arith) i;
+  result = h 4 (omega arith) i;
+  announce = h 5 (omega arith) i;
+  tail = h 6 (omega arith) i;
+  head = h 7 (omega arith) i;
+}
+
 module _ (m m2 : Memory ℕ) (a u : ℕ) where
+  -- a store changes the side of its kind alone
+  one_stored : (kind : ℕ) → kind < 8 → StoresAt (8 * a + kind) u m m2 → words_of m2 ≡ words_by (put (side_of m) kind (stored (side_of m kind) a u))
+  one_stored kind low s = words_agree (side_of m2) (put (side_of m) kind (stored (side_of m kind) a u)) (λ k lk. dite (ℕ_discrete k kind)
+      (λ same. subst (λ (z : ℕ). side_of m2 z ≡ stored (side_of m kind) a u) (sym same) (side_stored m m2 a kind u s) ∙ sym (put_here (side_of m) kind (stored (side_of m kind) a u) k same))
+      (λ ne. side_other m m2 a kind k u low lk ne s ∙ sym (put_else (side_of m) kind (stored (side_of m kind) a u) k ne)))
+
   pub next_stored : StoresAt (8 * a + 0) u m m2 → words_of m2 ≡ record (words_of m) { next = stored (side_of m 0) a u }
-  next_stored s =
-      let o : (k : ℕ) → k < 8 → k ≢ 0 → side_of m2 k ≡ side_of m k = λ k lk ne. side_other m m2 a 0 k u (omega arith) lk ne s in
-      let x1 = o 1 (omega arith) (λ e. omega (arith, e)) in
-      let x2 = o 2 (omega arith) (λ e. omega (arith, e)) in
-      let x3 = o 3 (omega arith) (λ e. omega (arith, e)) in
-      let x4 = o 4 (omega arith) (λ e. omega (arith, e)) in
-      let x5 = o 5 (omega arith) (λ e. omega (arith, e)) in
-      let x6 = o 6 (omega arith) (λ e. omega (arith, e)) in
-      let x7 = o 7 (omega arith) (λ e. omega (arith, e)) in
-      let x = side_stored m m2 a 0 u s in
-      λ i. record { next = x i; taker = x1 i; value = x2 i; linked = x3 i; result = x4 i; announce = x5 i; tail = x6 i; head = x7 i }
+  next_stored = one_stored 0 (omega arith)
 
   pub taker_stored : StoresAt (8 * a + 1) u m m2 → words_of m2 ≡ record (words_of m) { taker = stored (side_of m 1) a u }
-  taker_stored s =
-      let o : (k : ℕ) → k < 8 → k ≢ 1 → side_of m2 k ≡ side_of m k = λ k lk ne. side_other m m2 a 1 k u (omega arith) lk ne s in
-      let x0 = o 0 (omega arith) (λ e. omega (arith, e)) in
-      let x2 = o 2 (omega arith) (λ e. omega (arith, e)) in
-      let x3 = o 3 (omega arith) (λ e. omega (arith, e)) in
-      let x4 = o 4 (omega arith) (λ e. omega (arith, e)) in
-      let x5 = o 5 (omega arith) (λ e. omega (arith, e)) in
-      let x6 = o 6 (omega arith) (λ e. omega (arith, e)) in
-      let x7 = o 7 (omega arith) (λ e. omega (arith, e)) in
-      let x1 = side_stored m m2 a 1 u s in
-      λ i. record { next = x0 i; taker = x1 i; value = x2 i; linked = x3 i; result = x4 i; announce = x5 i; tail = x6 i; head = x7 i }
+  taker_stored = one_stored 1 (omega arith)
 
   pub value_stored : StoresAt (8 * a + 2) u m m2 → words_of m2 ≡ record (words_of m) { value = stored (side_of m 2) a u }
-  value_stored s =
-      let o : (k : ℕ) → k < 8 → k ≢ 2 → side_of m2 k ≡ side_of m k = λ k lk ne. side_other m m2 a 2 k u (omega arith) lk ne s in
-      let x0 = o 0 (omega arith) (λ e. omega (arith, e)) in
-      let x1 = o 1 (omega arith) (λ e. omega (arith, e)) in
-      let x3 = o 3 (omega arith) (λ e. omega (arith, e)) in
-      let x4 = o 4 (omega arith) (λ e. omega (arith, e)) in
-      let x5 = o 5 (omega arith) (λ e. omega (arith, e)) in
-      let x6 = o 6 (omega arith) (λ e. omega (arith, e)) in
-      let x7 = o 7 (omega arith) (λ e. omega (arith, e)) in
-      let x2 = side_stored m m2 a 2 u s in
-      λ i. record { next = x0 i; taker = x1 i; value = x2 i; linked = x3 i; result = x4 i; announce = x5 i; tail = x6 i; head = x7 i }
+  value_stored = one_stored 2 (omega arith)
 
   pub linked_stored : StoresAt (8 * a + 3) u m m2 → words_of m2 ≡ record (words_of m) { linked = stored (side_of m 3) a u }
-  linked_stored s =
-      let o : (k : ℕ) → k < 8 → k ≢ 3 → side_of m2 k ≡ side_of m k = λ k lk ne. side_other m m2 a 3 k u (omega arith) lk ne s in
-      let x0 = o 0 (omega arith) (λ e. omega (arith, e)) in
-      let x1 = o 1 (omega arith) (λ e. omega (arith, e)) in
-      let x2 = o 2 (omega arith) (λ e. omega (arith, e)) in
-      let x4 = o 4 (omega arith) (λ e. omega (arith, e)) in
-      let x5 = o 5 (omega arith) (λ e. omega (arith, e)) in
-      let x6 = o 6 (omega arith) (λ e. omega (arith, e)) in
-      let x7 = o 7 (omega arith) (λ e. omega (arith, e)) in
-      let x3 = side_stored m m2 a 3 u s in
-      λ i. record { next = x0 i; taker = x1 i; value = x2 i; linked = x3 i; result = x4 i; announce = x5 i; tail = x6 i; head = x7 i }
+  linked_stored = one_stored 3 (omega arith)
 
   pub result_stored : StoresAt (8 * a + 4) u m m2 → words_of m2 ≡ record (words_of m) { result = stored (side_of m 4) a u }
-  result_stored s =
-      let o : (k : ℕ) → k < 8 → k ≢ 4 → side_of m2 k ≡ side_of m k = λ k lk ne. side_other m m2 a 4 k u (omega arith) lk ne s in
-      let x0 = o 0 (omega arith) (λ e. omega (arith, e)) in
-      let x1 = o 1 (omega arith) (λ e. omega (arith, e)) in
-      let x2 = o 2 (omega arith) (λ e. omega (arith, e)) in
-      let x3 = o 3 (omega arith) (λ e. omega (arith, e)) in
-      let x5 = o 5 (omega arith) (λ e. omega (arith, e)) in
-      let x6 = o 6 (omega arith) (λ e. omega (arith, e)) in
-      let x7 = o 7 (omega arith) (λ e. omega (arith, e)) in
-      let x4 = side_stored m m2 a 4 u s in
-      λ i. record { next = x0 i; taker = x1 i; value = x2 i; linked = x3 i; result = x4 i; announce = x5 i; tail = x6 i; head = x7 i }
+  result_stored = one_stored 4 (omega arith)
 
   pub announce_stored : StoresAt (8 * a + 5) u m m2 → words_of m2 ≡ record (words_of m) { announce = stored (side_of m 5) a u }
-  announce_stored s =
-      let o : (k : ℕ) → k < 8 → k ≢ 5 → side_of m2 k ≡ side_of m k = λ k lk ne. side_other m m2 a 5 k u (omega arith) lk ne s in
-      let x0 = o 0 (omega arith) (λ e. omega (arith, e)) in
-      let x1 = o 1 (omega arith) (λ e. omega (arith, e)) in
-      let x2 = o 2 (omega arith) (λ e. omega (arith, e)) in
-      let x3 = o 3 (omega arith) (λ e. omega (arith, e)) in
-      let x4 = o 4 (omega arith) (λ e. omega (arith, e)) in
-      let x6 = o 6 (omega arith) (λ e. omega (arith, e)) in
-      let x7 = o 7 (omega arith) (λ e. omega (arith, e)) in
-      let x5 = side_stored m m2 a 5 u s in
-      λ i. record { next = x0 i; taker = x1 i; value = x2 i; linked = x3 i; result = x4 i; announce = x5 i; tail = x6 i; head = x7 i }
+  announce_stored = one_stored 5 (omega arith)
 
   pub tail_stored : StoresAt (8 * a + 6) u m m2 → words_of m2 ≡ record (words_of m) { tail = stored (side_of m 6) a u }
-  tail_stored s =
-      let o : (k : ℕ) → k < 8 → k ≢ 6 → side_of m2 k ≡ side_of m k = λ k lk ne. side_other m m2 a 6 k u (omega arith) lk ne s in
-      let x0 = o 0 (omega arith) (λ e. omega (arith, e)) in
-      let x1 = o 1 (omega arith) (λ e. omega (arith, e)) in
-      let x2 = o 2 (omega arith) (λ e. omega (arith, e)) in
-      let x3 = o 3 (omega arith) (λ e. omega (arith, e)) in
-      let x4 = o 4 (omega arith) (λ e. omega (arith, e)) in
-      let x5 = o 5 (omega arith) (λ e. omega (arith, e)) in
-      let x7 = o 7 (omega arith) (λ e. omega (arith, e)) in
-      let x6 = side_stored m m2 a 6 u s in
-      λ i. record { next = x0 i; taker = x1 i; value = x2 i; linked = x3 i; result = x4 i; announce = x5 i; tail = x6 i; head = x7 i }
+  tail_stored = one_stored 6 (omega arith)
 
   pub head_stored : StoresAt (8 * a + 7) u m m2 → words_of m2 ≡ record (words_of m) { head = stored (side_of m 7) a u }
-  head_stored s =
-      let o : (k : ℕ) → k < 8 → k ≢ 7 → side_of m2 k ≡ side_of m k = λ k lk ne. side_other m m2 a 7 k u (omega arith) lk ne s in
-      let x0 = o 0 (omega arith) (λ e. omega (arith, e)) in
-      let x1 = o 1 (omega arith) (λ e. omega (arith, e)) in
-      let x2 = o 2 (omega arith) (λ e. omega (arith, e)) in
-      let x3 = o 3 (omega arith) (λ e. omega (arith, e)) in
-      let x4 = o 4 (omega arith) (λ e. omega (arith, e)) in
-      let x5 = o 5 (omega arith) (λ e. omega (arith, e)) in
-      let x6 = o 6 (omega arith) (λ e. omega (arith, e)) in
-      let x7 = side_stored m m2 a 7 u s in
-      λ i. record { next = x0 i; taker = x1 i; value = x2 i; linked = x3 i; result = x4 i; announce = x5 i; tail = x6 i; head = x7 i }
+  head_stored = one_stored 7 (omega arith)
 
 -- words that were written back, or not
 pub persisted_of : (m m2 : Memory ℕ) → ((r : ℕ) → m2.cached r ≡ m.cached r) → ((r : ℕ) → (m2.persisted r ≡ m.persisted r) ⊎ (m2.persisted r ≡ m.cached r)) → Persisted (words_of m) (words_of m2)

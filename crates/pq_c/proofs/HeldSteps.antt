@@ -3,18 +3,18 @@ use denote.Enum.Bare.{sameb}
 use Rattle.std.proofs.Common.{ℕ, ◌≡◌, ◌*◌, true, false, refl, sym}
 use Rattle.std.proofs.lemmas.Bool.{false≢true}
 use Rattle.std.specs.Prelude.{List, Result, Err}
+use Rattle.c_handles.specs.Handles.{content}
 use Rattle.pq.specs.Places.{nodes}
 use Rattle.pq_seats.specs.Calls.{CanNotBegin}
 use Rattle.pq_seats.specs.Resting.{CanNotCrash}
 use Rattle.pq_seats.specs.contracts.fault.Fault.{the_type}
 use Rattle.pq_seats.specs.declared.fault.Fault.{Fault}
 use Rattle.pq_seats.specs.declared.fault.Fault.TheVariants as fault
-use Rattle.pq_seats.specs.declared.queue.OpenQueue.{OpenQueue}
 use Rattle.pq_seats.specs.declared.resting.RestingQueue.{RestingQueue}
 use Rattle.pq_seats.specs.declared.seat.Seat.{Seat}
 use Rattle.pq_c.specs.Closed.{CrashesClosed, TellsCrash, short, memory}
 use Rattle.pq_c.specs.Failures.{failure_number, failure_of}
-use Rattle.pq_c.specs.Shared.{BeginsNot, IsClosed, IsQueue, IsSeat, OnClosed, closed}
+use Rattle.pq_c.specs.Shared.{BeginsNot, OnClosed}
 use Rattle.pq_c.specs.declared.failure.Failure.{Failure}
 use Rattle.pq_c.specs.declared.failure.Failure.TheVariants.{TooSmall, NoMemory}
 use Rattle.pq_c.specs.declared.held.Held.{Held}
@@ -29,29 +29,6 @@ begins_not s fault.SeatTaken h = absurd h
 begins_not s fault.ShortChoice h = absurd h
 begins_not s fault.NoMemory h = absurd h
 
--- ---- what is held is none of these
-
--- what is held is no closed queue where it is not one of them
-pub no_closed : (h : Held) → ((c : RestingQueue) → h ≡ held.Closed c → ⊥) → IsClosed h → ⊥
-no_closed (held.Closed c) none is = none c refl
-no_closed (held.Queue q) none is = is
-no_closed (held.Seat s) none is = is
-no_closed held.Spent none is = is
-
--- what is held is no seat where it is not one of them
-pub no_seat : (h : Held) → ((s : Seat) → h ≡ held.Seat s → ⊥) → IsSeat h → ⊥
-no_seat (held.Seat s) none is = none s refl
-no_seat (held.Queue q) none is = is
-no_seat (held.Closed c) none is = is
-no_seat held.Spent none is = is
-
--- what is held is no open queue where it is not one of them
-pub no_queue : (h : Held) → ((q : OpenQueue) → h ≡ held.Queue q → ⊥) → IsQueue h → ⊥
-no_queue (held.Queue q) none is = none q refl
-no_queue (held.Seat s) none is = is
-no_queue (held.Closed c) none is = is
-no_queue held.Spent none is = is
-
 -- ---- crashes that fail
 
 -- how a crash of this closed queue was answered
@@ -61,7 +38,7 @@ CrashAnswered choice before after number h c = (answered : Result (Unit {0}) Fai
 module _ {choice : List ℕ} {before after number : ℕ} {h : Held} {c c' : RestingQueue} where
   -- the choice is too short, and the number of words is answered
   pub too_short : h ≡ held.Closed c → c' ≡ c → (f : Fault) → CanNotCrash choice c f → sameb the_type f fault.ShortChoice ≡ true → after ≡ 8 * nodes c.board.key → number ≡ failure_number (failure_of f) → CrashAnswered choice before after number h c'
-  too_short is same fault.ShortChoice can eq words number_is = (Err TooSmall, closed c c' is refl (short refl can same words), number_is)
+  too_short is same fault.ShortChoice can eq words number_is = (Err TooSmall, content c c' is refl (short refl can same words), number_is)
   too_short is same fault.NoMemory can eq words number_is = absurd (false≢true eq)
   too_short is same fault.NoProcess can eq words number_is = absurd can
   too_short is same fault.SeatTaken can eq words number_is = absurd can
@@ -70,7 +47,7 @@ module _ {choice : List ℕ} {before after number : ℕ} {h : Held} {c c' : Rest
 
   -- an allocation failed
   pub no_memory : h ≡ held.Closed c → c' ≡ c → (f : Fault) → CanNotCrash choice c f → sameb the_type f fault.ShortChoice ≡ false → after ≡ before → number ≡ failure_number (failure_of f) → CrashAnswered choice before after number h c'
-  no_memory is same fault.NoMemory can eq words number_is = (Err NoMemory, closed c c' is refl (memory refl can same words), number_is)
+  no_memory is same fault.NoMemory can eq words number_is = (Err NoMemory, content c c' is refl (memory refl can same words), number_is)
   no_memory is same fault.ShortChoice can eq words number_is = absurd (false≢true (sym eq))
   no_memory is same fault.NoProcess can eq words number_is = absurd can
   no_memory is same fault.SeatTaken can eq words number_is = absurd can

@@ -1,4 +1,2 @@
-mod HeldBox
-mod HeldCarried
 mod HeldCrossing
 mod HeldSteps

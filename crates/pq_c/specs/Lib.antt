@@ -1,6 +1,5 @@
 pub mod Failures
 pub mod Answers
-pub mod OwnedHeld
 pub mod Holders
 pub mod Shared
 pub mod Queues

@@ -1,6 +1,7 @@
 -- Queues that threads share are made, their seats are taken, and they are closed and opened again.
 use Rattle.std.specs.Prelude.{ℕ, ◌≡◌, ◌⊎◌, ◌<◌, ◌≤◌, ◌*◌, [], true, false}
 use Rattle.std.specs.Arc.{arc_value}
+use Rattle.c_handles.specs.Handles.{IsOther, Makes, Takes}
 use Rattle.pm_board.specs.Rule.{AreFirst}
 use Rattle.pq.specs.Places.{nodes}
 use Rattle.pq.specs.Queue.{queue}
@@ -12,13 +13,12 @@ use Rattle.pq_seats.specs.declared.queue.OpenQueue.{OpenQueue}
 use Rattle.pq_seats.specs.declared.resting.RestingQueue.{RestingQueue}
 use Rattle.pq_seats.specs.declared.seat.Seat.{Seat}
 use Rattle.pq_c.specs.declared.failure.Failure.{Failure}
-use Rattle.pq_c.specs.declared.failure.Failure.TheVariants.{BadCount, Empty, Full, NoMemory, WrongHolder}
+use Rattle.pq_c.specs.declared.failure.Failure.TheVariants.{BadCount, NoMemory, WrongHolder}
 use Rattle.pq_c.specs.declared.held.Held.{Held}
 use Rattle.pq_c.specs.declared.held.Held.TheVariants as held
 use Rattle.pq_c.specs.declared.holder.Holder.{Holder}
-use Rattle.pq_c.specs.Failures.{failure_number, failure_of}
-use Rattle.pq_c.specs.Holders.{HasHeld, HasNone, HasSome}
-use Rattle.pq_c.specs.Shared.{IsClosed, IsQueue}
+use Rattle.pq_c.specs.Failures.{failure_of}
+use Rattle.pq_c.specs.Holders.{holders}
 
 -- a new queue of this many processes: with the words of a new one, with no past, and with every process between operations
 pub record IsNewQueue (processes : ℕ) (h : Held) : Type 0 where
@@ -36,10 +36,8 @@ CanNotMake processes NoMemory = (0 < processes) × (processes < 16384)
 CanNotMake processes why = ⊥
 
 -- an empty holder gets a new queue; or it stays, for a cause that holds; or it is full, and stays
-pub data MakesQueue (processes : ℕ) (old new : Holder) (number : ℕ) : Type 0 where
-  made : (h : Held) → HasNone old → IsNewQueue processes h → HasHeld new h → number ≡ 0 → MakesQueue processes old new number
-  fails : (why : Failure) → HasNone old → CanNotMake processes why → new ≡ old → number ≡ failure_number why → MakesQueue processes old new number
-  full : HasSome old → new ≡ old → number ≡ failure_number Full → MakesQueue processes old new number
+abbrev pub MakesQueue : ℕ → Holder → Holder → ℕ → Type 0
+MakesQueue processes old new number = Makes holders (IsNewQueue processes) (CanNotMake processes) old new number
 
 -- the seat of the process is taken from the queue that is held
 pub record IsTaken (process : ℕ) (old new taken : Held) : Type 0 where
@@ -54,16 +52,13 @@ pub record IsTaken (process : ℕ) (old new taken : Held) : Type 0 where
 -- the seat of the process is not taken: something else is held; or for a cause that holds; or an allocation failed. The
 -- queue stays
 pub data IsNotTaken (process : ℕ) (old : Held) (why : Failure) (new : Held) : Type 0 where
-  other : (IsQueue old → ⊥) → new ≡ old → why ≡ WrongHolder → IsNotTaken process old why new
+  other : IsOther held.Queue old → new ≡ old → why ≡ WrongHolder → IsNotTaken process old why new
   fault : (q q' : OpenQueue) (f : Fault) → old ≡ held.Queue q → new ≡ held.Queue q' → seats.CanNotTake process q f → seats.IsStill q q' → why ≡ failure_of f → IsNotTaken process old why new
   memory : new ≡ old → why ≡ NoMemory → IsNotTaken process old why new
 
 -- an empty holder gets the seat; or both stay but for what has come back to the queue, for a cause that holds
-pub data TakesSeat (process : ℕ) (old new before after : Holder) (number : ℕ) : Type 0 where
-  taken : (h k t : Held) → HasHeld old h → HasHeld new k → HasNone before → HasHeld after t → IsTaken process h k t → number ≡ 0 → TakesSeat process old new before after number
-  fails : (h k : Held) (why : Failure) → HasHeld old h → HasHeld new k → HasNone before → after ≡ before → IsNotTaken process h why k → number ≡ failure_number why → TakesSeat process old new before after number
-  empty : HasNone old → new ≡ old → HasNone before → after ≡ before → number ≡ failure_number Empty → TakesSeat process old new before after number
-  full : HasSome before → new ≡ old → after ≡ before → number ≡ failure_number Full → TakesSeat process old new before after number
+abbrev pub TakesSeat : ℕ → Holder → Holder → Holder → Holder → ℕ → Type 0
+TakesSeat process old new before after number = Takes holders (IsTaken process) (IsNotTaken process) old new before after number
 
 -- the queue is closed with a pass of each of its processes
 pub record Closes (old new : Held) : Type 0 where
@@ -75,7 +70,7 @@ pub record Closes (old new : Held) : Type 0 where
 
 -- the queue is not closed: something else is held; or a seat has not come back, or an allocation failed. The queue stays
 pub data ClosesNot (old : Held) (why : Failure) (new : Held) : Type 0 where
-  other : (IsQueue old → ⊥) → new ≡ old → why ≡ WrongHolder → ClosesNot old why new
+  other : IsOther held.Queue old → new ≡ old → why ≡ WrongHolder → ClosesNot old why new
   fault : (q q' : OpenQueue) (f : Fault) → old ≡ held.Queue q → new ≡ held.Queue q' → seats.CanNotClose f → seats.IsStill q q' → why ≡ failure_of f → ClosesNot old why new
 
 -- the closed queue is opened again: of as many processes, with its words and what it remembered, and with every process
@@ -92,5 +87,5 @@ pub record Opens (old new : Held) : Type 0 where
 
 -- it is not opened: something else is held; or an allocation failed. What is remembered stays so
 pub data OpensNot (old : Held) (why : Failure) (new : Held) : Type 0 where
-  other : (IsClosed old → ⊥) → new ≡ old → why ≡ WrongHolder → OpensNot old why new
+  other : IsOther held.Closed old → new ≡ old → why ≡ WrongHolder → OpensNot old why new
   memory : (c c' : RestingQueue) → old ≡ held.Closed c → new ≡ held.Closed c' → Remembers c c' → why ≡ NoMemory → OpensNot old why new

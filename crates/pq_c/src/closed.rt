@@ -1,8 +1,9 @@
 //! Exports: closed queues.
 
+ghost use Rattle.pq_c.specs.declared.held.Held.TheVariants.{Closed};
 ghost use Rattle.pq_c.specs.Closed.{CrashesClosed, TellsCrash};
 ghost use Rattle.pq_c.specs.Queues.{Opens, OpensNot};
-ghost use Rattle.pq_c.specs.Shared.{FreesHeld, IsClosed, Moves, OnClosed, OnHolder};
+ghost use Rattle.pq_c.specs.Shared.{FreesHeld, Moves, OnClosed, OnHolder};
 
 use crate::failure::Failure;
 use crate::held::Held;
@@ -56,7 +57,7 @@ pub extern "C" fn pq_c_closed_reopen(alloc: Global, closed: &mut Holder, queue: 
 /// Gives the memory of a closed queue back. The holder holds nothing then.
 #[unsafe(no_mangle)]
 pub extern "C" fn pq_c_closed_free(alloc: Global, closed: &mut Holder) -> u32
-    ensures { FreesHeld IsClosed closed.old closed.new result }
+    ensures { FreesHeld Closed closed.old closed.new result }
 {
     let Some(held) = closed.take(alloc) else {
         return Failure::Empty.number();

@@ -1,7 +1,8 @@
 //! Exports: queues that threads share, in the hands of their owner.
 
+ghost use Rattle.pq_c.specs.declared.held.Held.TheVariants.{Queue};
 ghost use Rattle.pq_c.specs.Queues.{Closes, ClosesNot, MakesQueue, TakesSeat};
-ghost use Rattle.pq_c.specs.Shared.{FreesHeld, IsQueue, Moves};
+ghost use Rattle.pq_c.specs.Shared.{FreesHeld, Moves};
 
 use crate::failure::Failure;
 use crate::held::Held;
@@ -80,7 +81,7 @@ pub extern "C" fn pq_c_queue_close(alloc: Global, queue: &mut Holder, closed: &m
 /// The owner lets the queue go. Its memory is given back once its seats are freed, too. The holder holds nothing then.
 #[unsafe(no_mangle)]
 pub extern "C" fn pq_c_queue_free(alloc: Global, queue: &mut Holder) -> u32
-    ensures { FreesHeld IsQueue queue.old queue.new result }
+    ensures { FreesHeld Queue queue.old queue.new result }
 {
     let Some(held) = queue.take(alloc) else {
         return Failure::Empty.number();

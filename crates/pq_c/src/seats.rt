@@ -1,7 +1,8 @@
 //! Exports: seats.
 
 ghost use Rattle.c_handles.specs.Calls.{Does};
-ghost use Rattle.pq_c.specs.Shared.{Answers, BeginsNot, FreesHeld, IsSeat, NeverAt, OnHolder, OnSeat, SeatDequeues, SeatEnqueues, SeatRecovers};
+ghost use Rattle.pq_c.specs.declared.held.Held.TheVariants.{Seat};
+ghost use Rattle.pq_c.specs.Shared.{Answers, BeginsNot, FreesHeld, NeverAt, OnHolder, OnSeat, SeatDequeues, SeatEnqueues, SeatRecovers};
 
 use crate::answer::AnswerRow;
 use crate::failure::Failure;
@@ -69,7 +70,7 @@ pub extern "C" fn pq_c_seat_recover(
 /// The seat goes back to its queue, and can be taken again. The holder holds nothing then.
 #[unsafe(no_mangle)]
 pub extern "C" fn pq_c_seat_free(alloc: Global, seat: &mut Holder) -> u32
-    ensures { FreesHeld IsSeat seat.old seat.new result }
+    ensures { FreesHeld Seat seat.old seat.new result }
 {
     let Some(mut held) = seat.take(alloc) else {
         return Failure::Empty.number();

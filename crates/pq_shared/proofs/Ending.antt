@@ -1,5 +1,5 @@
 -- How the calls on the queue end.
-use Rattle.std.proofs.Common.{ℕ, ◌≡◌, ◌∙◌, List, [], ◌∷◌, ◌++◌, refl, sym, ap, subst}
+use Rattle.std.proofs.Common.{ℕ, ◌≡◌, ◌∙◌, List, [], ◌∷◌, ◌++◌, refl, sym, ap, subst, arith}
 use Rattle.std.proofs.lemmas.List.{append-nil}
 use Rattle.std.specs.Prelude.{Option, Some, None, MatchOption}
 use Rattle.atomic_table.specs.Table.{Me}
@@ -49,12 +49,12 @@ module _ {C : Type 0} (c : Calls ℕ Doing Response C Ended) (Kept : C → Type 
         };
         done = ap (λ d. d.done) (ap deeds_at h.is.at) ∙ (h.is.done ∙ ap (λ (l : List Response). answered_so l ++ (deed.Began (c.doing first) ∷ (deeds_at old).done)) r.1);
         grows = subst (λ d. Grows process (deeds_at old) d k) (sym (ap deeds_at h.is.at)) (subst (λ (p : ℕ). Grows p (deeds_at old) h.is.held k) begun h.is.grows);
-        few = h.few;
+        few = (let most = h.few in omega (arith, most));
       }
 
   runs_on : (n process : ℕ) (first : C) (old me : Sat) (call : C) (k : ℕ) → Kept first → c.says first ≡ [] → ((d : C) → Kept d → c.process d ≡ process) → RunsOne old process → Breaks queue c n first old me call k → RunsOne me process
   runs_on n process first old me call k kept start own runs before_all = runs
-  runs_on n process first old me call k kept start own runs (within m d x j is few) = record { seat = seated (c.process d) (c.doing d) x is.held; at = is.at; own = own d (ran_kept first d is.responses j kept start is.ran).0; seen = _; looked = is.grows.seen }
+  runs_on n process first old me call k kept start own runs (within m d x j is few goes) = record { seat = seated (c.process d) (c.doing d) x is.held; at = is.at; own = own d (ran_kept first d is.responses j kept start is.ran).0; seen = _; looked = is.grows.seen }
 
 -- ---- enqueues
 

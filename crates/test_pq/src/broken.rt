@@ -1,5 +1,7 @@
 //! Calls that a crash breaks off.
 
+ghost use Rattle.std.specs.Prelude.{◌+◌, ◌*◌, ◌<◌, ◌≤◌};
+
 use crate::schedule::{WORDS, drive, new_words};
 use ds_words::words::Words;
 use pq::calls::Ended;
@@ -17,14 +19,28 @@ fn evict_all(words: &mut Words) {
     }
 }
 
+// A crash comes: what the recovery of a process says then, and what a dequeue of the other one gets by this operation.
+fn after_crash(
+    words: &mut Words,
+    process: usize,
+    other: usize,
+    operation: u64,
+) -> (Option<Ended>, Option<Ended>)
+    requires both { (process < 2) × (other < 2) }
+    requires own { (1024 * other < operation) × (operation ≤ 1024 * other + 1024) }
+{
+    words.crash();
+    let recovered = drive(words, process, &mut Recover::new(2, process), 40);
+    let taken = drive(words, other, &mut Dequeue::new(2, other, operation), 40);
+    (recovered, taken)
+}
+
 // What recovery says of an enqueue of 7 that a crash broke off after each number of steps, and what a dequeue gets then.
 #[test]
 fn an_enqueue_broken_off(rt: HostRuntime) -> Result<(), Fail> {
     for steps in 0..16 {
         let mut words = new_words(rt.alloc())?;
-        let mut call = Enqueue::new(2, 0, 1, 7);
-        drive(&mut words, 0, &mut call, steps);
-        words.crash();
+        drive(&mut words, 0, &mut Enqueue::new(2, 0, 1, 7), steps);
         let (found, taken) = if steps < 6 {
             (Found::Nothing, Ended::Empty)
         } else if steps < 11 {
@@ -33,12 +49,8 @@ fn an_enqueue_broken_off(rt: HostRuntime) -> Result<(), Fail> {
             (Found::WasEnqueued, Ended::Got { value: 7 })
         };
         assert_eq!(rt;
-            drive(&mut words, 0, &mut Recover::new(2, 0), 40),
-            Some(Ended::Recovered { found })
-        );
-        assert_eq!(rt;
-            drive(&mut words, 1, &mut Dequeue::new(2, 1, 1025), 40),
-            Some(taken)
+            after_crash(&mut words, 0, 1, 1025),
+            (Some(Ended::Recovered { found }), Some(taken))
         );
     }
     Ok(())
@@ -49,10 +61,8 @@ fn an_enqueue_broken_off(rt: HostRuntime) -> Result<(), Fail> {
 fn an_enqueue_evicted(rt: HostRuntime) -> Result<(), Fail> {
     for steps in 0..16 {
         let mut words = new_words(rt.alloc())?;
-        let mut call = Enqueue::new(2, 0, 1, 7);
-        drive(&mut words, 0, &mut call, steps);
+        drive(&mut words, 0, &mut Enqueue::new(2, 0, 1, 7), steps);
         evict_all(&mut words);
-        words.crash();
         let (found, taken) = if steps < 4 {
             (Found::Nothing, Ended::Empty)
         } else if steps < 9 {
@@ -61,12 +71,8 @@ fn an_enqueue_evicted(rt: HostRuntime) -> Result<(), Fail> {
             (Found::WasEnqueued, Ended::Got { value: 7 })
         };
         assert_eq!(rt;
-            drive(&mut words, 0, &mut Recover::new(2, 0), 40),
-            Some(Ended::Recovered { found })
-        );
-        assert_eq!(rt;
-            drive(&mut words, 1, &mut Dequeue::new(2, 1, 1025), 40),
-            Some(taken)
+            after_crash(&mut words, 0, 1, 1025),
+            (Some(Ended::Recovered { found }), Some(taken))
         );
     }
     Ok(())
@@ -78,9 +84,7 @@ fn a_dequeue_broken_off(rt: HostRuntime) -> Result<(), Fail> {
     for steps in 0..16 {
         let mut words = new_words(rt.alloc())?;
         drive(&mut words, 0, &mut Enqueue::new(2, 0, 1, 7), 40);
-        let mut call = Dequeue::new(2, 1, 1025);
-        drive(&mut words, 1, &mut call, steps);
-        words.crash();
+        drive(&mut words, 1, &mut Dequeue::new(2, 1, 1025), steps);
         let seven = Ended::Got { value: 7 };
         let (found, taken) = if steps < 3 {
             (Found::Nothing, seven)
@@ -90,12 +94,8 @@ fn a_dequeue_broken_off(rt: HostRuntime) -> Result<(), Fail> {
             (Found::Got { value: 7 }, Ended::Empty)
         };
         assert_eq!(rt;
-            drive(&mut words, 1, &mut Recover::new(2, 1), 40),
-            Some(Ended::Recovered { found })
-        );
-        assert_eq!(rt;
-            drive(&mut words, 0, &mut Dequeue::new(2, 0, 2), 40),
-            Some(taken)
+            after_crash(&mut words, 1, 0, 2),
+            (Some(Ended::Recovered { found }), Some(taken))
         );
     }
     Ok(())

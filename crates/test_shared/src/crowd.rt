@@ -1,10 +1,7 @@
 //! Four processes on one sheet, each in a thread of its own.
 
 ghost use Rattle.std.specs.Prelude.{◌≡◌, All, IfSome};
-ghost use Rattle.std.specs.Mem.Slots.{slots_items};
-ghost use Rattle.ds_drives.specs.Rule.{AreTrue, AtRest, Witness};
-ghost use Rattle.ds_shared.specs.Answers.{IsOf, IsPastOf};
-ghost use Rattle.ds_drives.specs.Views.{past_of};
+ghost use Rattle.ds_shared.specs.Answers.{IsOf, IsPastOf, Rests};
 
 use crate::draw::{DrawnCall, Limit};
 use crate::gate::CrowdGate;
@@ -230,7 +227,7 @@ fn four<R: Threads + Sync>(
 fn ended(sheet: SharedSheet, past: Past, passes: Vec<Pass, Global>) -> ClosedSheet
     requires past { IsPastOf sheet past }
     requires fit { All (λ p. IsOf sheet p) passes.items }
-    ensures { (b : Witness) × AtRest result.layout (slots_items result.table.words) b × AreTrue result.layout (slots_items result.table.words) b (past_of result.before) }
+    ensures { Rests result }
 {
     sheet.close(past, passes)
 }
@@ -344,7 +341,7 @@ impl Crowd {
 
     /// The sheet is closed. `None` where an allocation fails.
     pub fn close(self, alloc: Global) -> Option<(ClosedSheet, Hands)>
-        ensures { IfSome result (λ r. (b : Witness) × AtRest r.0.layout (slots_items r.0.table.words) b × AreTrue r.0.layout (slots_items r.0.table.words) b (past_of r.0.before)) }
+        ensures { IfSome result (λ r. Rests r.0) }
     {
         let Crowd {
             sheet,
@@ -375,7 +372,7 @@ impl Crowd {
 
 /// A closed sheet is opened again. `None` where an allocation fails.
 pub fn reopened(alloc: Global, closed: ClosedSheet, hands: Hands) -> Option<Crowd>
-    requires { (b : Witness) × AtRest closed.layout (slots_items closed.table.words) b × AreTrue closed.layout (slots_items closed.table.words) b (past_of closed.before) }
+    requires { Rests closed }
 {
     match closed.reopen(alloc) {
         Ok((sheet, past, passes)) => {

@@ -3,7 +3,7 @@
 ghost use Rattle.std.specs.Prelude.{◌≡◌, ◌+◌};
 
 use crate::grid::{CELLS, FAULTY, texts};
-use ds_drives::fuse::Fuse;
+use pm_board::fuse::Fuse;
 use rand_core::utils::NextWord;
 use rand_pcg::Pcg32;
 use std::alloc::{AllocError, Global};

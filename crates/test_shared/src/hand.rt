@@ -7,7 +7,6 @@ use crate::account::Account;
 use crate::draw::{Draw, DrawnCall, Limit};
 use crate::grid::{Values, cell_of};
 use ds_core::ends::CallEnd;
-use ds_drives::fuse::Whole;
 use ds_eval::value::Value;
 use ds_formula::cells::Cell;
 use ds_shared::ended::Ended;
@@ -16,6 +15,7 @@ use ds_shared::sheet::SharedSheet;
 use ds_state::answer::{Answer, EditEnd};
 use ds_state::show::ShowEnd;
 use ds_state::work::WorkEnd;
+use pm_board::fuse::Whole;
 use std::alloc::Global;
 
 /// What a process draws, and what it was answered.

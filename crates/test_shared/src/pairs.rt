@@ -1,13 +1,9 @@
 // Two passes of a small sheet, in threads and one after the other: edits, works, reports, crashes and what is reported.
 
 ghost use Rattle.std.specs.Prelude.{◌≡◌, ◌+◌, ◌<◌, All, IfSome};
-ghost use Rattle.std.specs.Mem.Slots.{slots_items};
-ghost use Rattle.ds_drives.specs.Rule.{AreTrue, AtRest, Witness};
-ghost use Rattle.ds_drives.specs.Views.{past_of};
 ghost use Rattle.ds_formula.specs.Cells.{IsInside};
-ghost use Rattle.ds_shared.specs.Answers.{IsOf, IsPastOf};
+ghost use Rattle.ds_shared.specs.Answers.{IsOf, IsPastOf, Rests};
 
-use ds_drives::fuse::{Fuse, Whole};
 use ds_eval::value::Value;
 use ds_formula::cells::{Cell, Shape};
 use ds_formula::fault::{FaultKind, TextFault};
@@ -21,6 +17,7 @@ use ds_state::recovery::{LastEdit, RecoveryEnd};
 use ds_state::refusal::Refusal;
 use ds_state::show::ShowEnd;
 use ds_state::shown::SheetReader;
+use pm_board::fuse::{Fuse, Whole};
 use std::alloc::{AllocError, Global};
 use std::test::Fail;
 use std::thread::{Threads, join};
@@ -83,7 +80,7 @@ fn ended(
     requires past { IsPastOf sheet past }
     requires first { IsOf sheet first }
     requires second { IsOf sheet second }
-    ensures { IfSome result (λ c. (c.layout ≡ sheet.board.layout) × ((b : Witness) × AtRest c.layout (slots_items c.table.words) b × AreTrue c.layout (slots_items c.table.words) b (past_of c.before))) }
+    ensures { IfSome result (λ c. (c.layout ≡ sheet.board.layout) × Rests c) }
 {
     let mut passes: Vec<Pass, Global> = match Vec::with_capacity(alloc, 2) {
         Ok(passes) => passes,

@@ -1,9 +1,7 @@
 //! Four threads, in rounds: they play, the sheet is closed, a crash comes, it is opened again, and it is compared.
 
+ghost use Rattle.ds_shared.specs.Answers.{Rests};
 ghost use Rattle.std.specs.Prelude.{◌≡◌, IfOk};
-ghost use Rattle.std.specs.Mem.Slots.{slots_items};
-ghost use Rattle.ds_drives.specs.Rule.{AreTrue, AtRest, Witness};
-ghost use Rattle.ds_drives.specs.Views.{past_of};
 
 use crate::crowd::{Crowd, Game, Hands, reopened};
 use crate::draw::Draw;
@@ -27,8 +25,8 @@ const STEPS: u64 = 3_200;
 
 /// A crash in front of which the words with these numbers were evicted; none where they are not all words.
 pub fn crash(closed: &mut ClosedSheet, sides: &[bool])
-    requires { (b : Witness) × AtRest closed.old.layout (slots_items closed.old.table.words) b × AreTrue closed.old.layout (slots_items closed.old.table.words) b (past_of closed.old.before) }
-    ensures { (b : Witness) × AtRest closed.new.layout (slots_items closed.new.table.words) b × AreTrue closed.new.layout (slots_items closed.new.table.words) b (past_of closed.new.before) }
+    requires { Rests closed.old }
+    ensures { Rests closed.new }
 {
     if sides.len() == closed.layout().words() {
         closed.crash_with(sides);
@@ -60,7 +58,7 @@ fn play<R: Threads + Sync>(
 
 // A closed sheet, opened again, and what it shows.
 fn shown(alloc: Global, closed: ClosedSheet, hands: Hands) -> Result<(Crowd, Vec<Shown>), Wrong>
-    requires { (b : Witness) × AtRest closed.layout (slots_items closed.table.words) b × AreTrue closed.layout (slots_items closed.table.words) b (past_of closed.before) }
+    requires { Rests closed }
 {
     let Some(all) = shown_by(alloc, &closed) else {
         closed.free();

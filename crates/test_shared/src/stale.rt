@@ -4,7 +4,6 @@ ghost use Rattle.std.specs.Prelude.{◌≡◌, All, IfSome};
 ghost use Rattle.ds_formula.specs.Cells.{IsInside};
 ghost use Rattle.ds_shared.specs.Answers.{IsOf, IsPastOf};
 
-use ds_drives::fuse::{Fuse, Whole};
 use ds_eval::value::Value;
 use ds_formula::cells::{Cell, Shape};
 use ds_layout::layout::Layout;
@@ -13,6 +12,7 @@ use ds_shared::pass::Pass;
 use ds_shared::sheet::SharedSheet;
 use ds_state::answer::EditEnd;
 use ds_state::work::WorkEnd;
+use pm_board::fuse::{Fuse, Whole};
 use std::alloc::Global;
 use std::test::Fail;
 

@@ -1,9 +1,7 @@
 //! The same drawn calls, one after the other, on a world and on a shared sheet: they end alike, and leave the same words.
 
+ghost use Rattle.ds_shared.specs.Answers.{Rests};
 ghost use Rattle.std.specs.Prelude.{◌≡◌};
-ghost use Rattle.std.specs.Mem.Slots.{slots_items};
-ghost use Rattle.ds_drives.specs.Rule.{AreTrue, AtRest, Witness};
-ghost use Rattle.ds_drives.specs.Views.{past_of};
 
 use crate::crowd::{Crowd, reopened};
 use crate::draw::{Draw, DrawnCall};
@@ -111,8 +109,8 @@ fn crash_both(
     closed: &mut ClosedSheet,
     draw: &mut Draw,
 ) -> Result<(), Difference>
-    requires { (b : Witness) × AtRest closed.old.layout (slots_items closed.old.table.words) b × AreTrue closed.old.layout (slots_items closed.old.table.words) b (past_of closed.old.before) }
-    ensures { (b : Witness) × AtRest closed.new.layout (slots_items closed.new.table.words) b × AreTrue closed.new.layout (slots_items closed.new.table.words) b (past_of closed.new.before) }
+    requires { Rests closed.old }
+    ensures { Rests closed.new }
 {
     single.stop(alloc);
     compare(single, closed)?;

@@ -1,4 +1,4 @@
-use Rattle.ds_c.proofs.HeldCarried.{carried}
+use Rattle.c_handles.proofs.Carried.{carried}
 use Rattle.ds_c.proofs.closed.ds_c_closed_crash.Goals as goal
 
 pub returns : goal.returns

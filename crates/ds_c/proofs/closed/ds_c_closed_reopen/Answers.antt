@@ -1,5 +1,5 @@
 use Rattle.std.proofs.Common.{refl, subst}
-use Rattle.ds_c.specs.Shared.{moved, fails}
+use Rattle.c_handles.specs.Handles.{fails, moved}
 use Rattle.ds_c.specs.Sheets.{Opens, OpensNot}
 use Rattle.ds_c.proofs.closed.ds_c_closed_reopen.Goals as goal
 

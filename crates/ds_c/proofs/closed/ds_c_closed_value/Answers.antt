@@ -1,4 +1,4 @@
-use Rattle.ds_c.proofs.HeldCarried.{looked}
+use Rattle.c_handles.proofs.Carried.{looked}
 use Rattle.ds_c.proofs.closed.ds_c_closed_value.Goals as goal
 
 pub returns : goal.returns

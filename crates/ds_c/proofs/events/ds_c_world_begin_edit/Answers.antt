@@ -1,4 +1,4 @@
-use Rattle.ds_c.proofs.Carried.{carried}
+use Rattle.c_handles.proofs.Carried.{carried}
 use Rattle.ds_c.proofs.events.ds_c_world_begin_edit.Goals as goal
 
 pub returns : goal.returns

@@ -1,5 +1,5 @@
 use Rattle.std.proofs.Common.{refl}
-use Rattle.ds_c.specs.Making.{made, fails}
+use Rattle.c_handles.specs.Handles.{fails, made}
 use Rattle.ds_c.proofs.make.make.Goals as goal
 
 pub returns-in-Ok : goal.returns-in-Ok

@@ -1,10 +1,11 @@
 use Rattle.std.proofs.Common.{refl, sym, subst}
-use Rattle.ds_c.specs.Shared.{LacksCellAt, seat}
+use Rattle.c_handles.specs.Handles.{content}
+use Rattle.ds_c.specs.Shared.{LacksCellAt}
 use Rattle.ds_c.proofs.HeldSteps.{lacks_cell}
 use Rattle.ds_c.proofs.seat_calls.edit.Goals as goal
 
 pub returns-in-Ok : goal.returns-in-Ok
-returns-in-Ok c = seat c.in-Seat.seat c.edit.new.self c.in-Seat.is refl (record {
+returns-in-Ok c = content c.in-Seat.seat c.edit.new.self c.in-Seat.is refl (record {
   how = c.in-Ok.ended;
   did = c.in-Ok.ensures.made;
   row_is = c.of_ended.ensures;
@@ -15,4 +16,4 @@ returns-in-Ok c = seat c.in-Seat.seat c.edit.new.self c.in-Seat.is refl (record 
 pub returns-in-Err : goal.returns-in-Err
 returns-in-Err c =
     let lacks = lacks_cell c.in-Seat.seat c.args.cell c.in-Err.fault c.in-Err.ensures.err.0 in
-    seat c.in-Seat.seat c.edit.new.self c.in-Seat.is refl (subst (LacksCellAt c.args.cell c.in-Seat.seat) (sym c.of.ensures) lacks, c.in-Err.ensures.err.1)
+    content c.in-Seat.seat c.edit.new.self c.in-Seat.is refl (subst (LacksCellAt c.args.cell c.in-Seat.seat) (sym c.of.ensures) lacks, c.in-Err.ensures.err.1)

@@ -1,4 +1,4 @@
-use Rattle.ds_c.proofs.HeldCarried.{carried}
+use Rattle.c_handles.proofs.Carried.{carried}
 use Rattle.ds_c.proofs.seats.ds_c_seat_recover.Goals as goal
 
 pub returns : goal.returns

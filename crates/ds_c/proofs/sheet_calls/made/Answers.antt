@@ -1,5 +1,5 @@
 use Rattle.std.proofs.Common.{ap, sym, ◌∙◌}
-use Rattle.ds_drives.specs.Table.{new_words}
+use Rattle.ds_structure_shared.specs.Boards.{new_words}
 use Rattle.ds_c.proofs.sheet_calls.made.Goals as goal
 
 pub returns-in-Ok-new-clause-ok : goal.returns-in-Ok-new-clause-ok

@@ -1,5 +1,5 @@
 use Rattle.std.proofs.Common.{refl, subst}
-use Rattle.ds_c.specs.Shared.{moved, fails}
+use Rattle.c_handles.specs.Handles.{fails, moved}
 use Rattle.ds_c.specs.Sheets.{Closes, ClosesNot}
 use Rattle.ds_c.proofs.sheets.ds_c_sheet_close.Goals as goal
 

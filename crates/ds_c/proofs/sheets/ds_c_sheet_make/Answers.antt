@@ -1,5 +1,5 @@
 use Rattle.std.proofs.Common.{refl}
-use Rattle.ds_c.specs.Sheets.{made, fails}
+use Rattle.c_handles.specs.Handles.{fails, made}
 use Rattle.ds_c.proofs.sheets.ds_c_sheet_make.Goals as goal
 
 pub returns-in-Ok : goal.returns-in-Ok

@@ -1,5 +1,6 @@
 use Rattle.std.proofs.Common.{refl, subst}
-use Rattle.ds_c.specs.Sheets.{IsTaken, IsNotTaken, taken, fails}
+use Rattle.c_handles.specs.Handles.{fails, taken}
+use Rattle.ds_c.specs.Sheets.{IsTaken, IsNotTaken}
 use Rattle.ds_c.proofs.sheets.ds_c_sheet_take.Goals as goal
 
 pub returns-in-Ok : goal.returns-in-Ok

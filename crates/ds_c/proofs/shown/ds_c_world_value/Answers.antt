@@ -1,4 +1,4 @@
-use Rattle.ds_c.proofs.Carried.{looked}
+use Rattle.c_handles.proofs.Carried.{looked}
 use Rattle.ds_c.proofs.shown.ds_c_world_value.Goals as goal
 
 pub returns : goal.returns

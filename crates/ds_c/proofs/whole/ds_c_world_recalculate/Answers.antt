@@ -1,4 +1,4 @@
-use Rattle.ds_c.proofs.Carried.{carried}
+use Rattle.c_handles.proofs.Carried.{carried}
 use Rattle.ds_c.proofs.whole.ds_c_world_recalculate.Goals as goal
 
 pub returns : goal.returns

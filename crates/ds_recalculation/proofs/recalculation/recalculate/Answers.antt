@@ -1,14 +1,11 @@
-use Rattle.std.proofs.Common.{ℕ, List, [], inr, subst}
-use Rattle.ds_recalculation.specs.Recalculations.{Ordered}
+use Rattle.std.proofs.Common.{ℕ, List, subst}
+use Rattle.ds_recalculation.specs.Recalculations.{EndsInOrder, lacks_order, recalculates}
 use Rattle.ds_recalculation.proofs.recalculation.recalculate.Goals as goal
 
-pub returns-clause-recalculates : goal.returns-clause-recalculates
-returns-clause-recalculates c = record {
-  order = c.planned-order.result.items;
-  planned = c.planned-order.ensures;
-  ends = inr (record {
-    mid = c.work_in_order.new.world;
-    all = subst (λ (xs : List ℕ). Ordered c.args.process xs c.args.world.now [] c.work_in_order.new.world) c.as_slice.ensures.value c.in-None.ensures.goes;
-    settling = c.settle.ensures.settles;
-  });
-}
+pub returns-in-Ok-clause-recalculates : goal.returns-in-Ok-clause-recalculates
+returns-in-Ok-clause-recalculates c =
+    recalculates c.in-Ok.order.items c.recalculate_in.result c.recalculate_in.new.world c.in-Ok.ensures
+    (subst (λ (xs : List ℕ). EndsInOrder c.args.process xs c.args.world.now c.recalculate_in.result c.recalculate_in.new.world) c.as_slice.ensures.value c.recalculate_in.ensures.ends)
+
+pub returns-in-Err-clause-recalculates : goal.returns-in-Err-clause-recalculates
+returns-in-Err-clause-recalculates c = lacks_order

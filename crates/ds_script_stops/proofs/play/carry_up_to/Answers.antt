@@ -1,7 +1,7 @@
 use Rattle.std.proofs.Common.{subst}
 use Rattle.std.specs.Prelude.{Option}
 use Rattle.ds_script.specs.Orders.{command_view}
-use Rattle.ds_script_stops.specs.declared.turn.Left.{Left}
+use Rattle.ds_script.specs.declared.turn.Left.{Left}
 use Rattle.ds_script_stops.specs.Reaching.{OpensOrder}
 use Rattle.ds_script_stops.proofs.Carrying.{carried_on}
 use Rattle.ds_script_stops.proofs.play.carry_up_to.Goals as goal

@@ -1,5 +1,5 @@
 use Rattle.std.proofs.Common.{◌+◌, ◌*◌, ◌-◌, ◌<◌}
-use Rattle.ds_script_stops.specs.ScriptTurns.{IsWithin, doing_of, events_to_step}
+use Rattle.ds_script.specs.ScriptTurns.{IsWithin, doing_of, events_to_step}
 use Rattle.ds_script_stops.specs.Reaching.{OnTheWay}
 use Rattle.ds_script_stops.proofs.play.play.Given as goal
 

@@ -2,7 +2,7 @@ use Rattle.std.proofs.Common.{◌≡◌, ℕ, sym, subst, arith, add-one}
 use Rattle.std.specs.Prelude.{Option}
 use Rattle.ds_script_io.specs.ScriptLines.{ALine, next_of}
 use Rattle.ds_script_io.proofs.LinesLemmas.{next_shorter}
-use Rattle.ds_script_stops.specs.declared.turn.Left.{Left}
+use Rattle.ds_script.specs.declared.turn.Left.{Left}
 use Rattle.ds_script_stops.specs.declared.reach.Advance.{Advance}
 use Rattle.ds_script_stops.specs.declared.reach.Advance.TheVariants.{Passed, Halted}
 use Rattle.ds_script_stops.specs.declared.reach.Short.{Short}

@@ -3,7 +3,7 @@ use Rattle.std.specs.Prelude.{IfSome}
 use Rattle.std.specs.Io.KnownBytes.{Appends}
 use Rattle.ds_script_io.specs.Streams.{writer_of, write_failed}
 use Rattle.ds_script_stops.specs.StopBlocks.{Blocks}
-use Rattle.ds_script_stops.specs.ScriptTurns.{IsWithin}
+use Rattle.ds_script.specs.ScriptTurns.{IsWithin}
 use Rattle.ds_script_stops.specs.Reaching.{IsAt}
 use Rattle.ds_script_stops.proofs.stops.write_blocks.Given as goal
 

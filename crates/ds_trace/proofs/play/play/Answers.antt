@@ -1,7 +1,7 @@
 use Rattle.std.proofs.Common.{subst}
 use Rattle.std.specs.Prelude.{Option, IfSome}
-use Rattle.ds_script_stops.specs.declared.turn.Left.{Left}
-use Rattle.ds_script_stops.specs.ScriptTurns.{IsWithin, doing_of}
+use Rattle.ds_script.specs.declared.turn.Left.{Left}
+use Rattle.ds_script.specs.ScriptTurns.{IsWithin, doing_of}
 use Rattle.ds_trace.specs.Trails.{BreaksOff}
 use Rattle.ds_trace.proofs.Trails.{breaks_turn, handed_on, sets_out, goes_on, is_over}
 use Rattle.ds_trace.proofs.play.play.Goals as goal

@@ -1,5 +1,5 @@
 use Rattle.std.proofs.Common.{◌-◌, length}
-use Rattle.ds_script_stops.specs.ScriptTurns.{IsWithin, doing_of}
+use Rattle.ds_script.specs.ScriptTurns.{IsWithin, doing_of}
 use Rattle.ds_trace.proofs.Trails.{OnTheWay}
 use Rattle.ds_trace.specs.declared.turn.TheConstants.{EVENT_LIMIT}
 use Rattle.ds_trace.proofs.play.play.Given as goal

@@ -1,7 +1,7 @@
 use Rattle.std.proofs.Common.{subst}
 use Rattle.std.specs.Prelude.{Option}
-use Rattle.ds_script_stops.specs.declared.turn.Left.{Left}
-use Rattle.ds_script_stops.specs.ScriptTurns.{Remains}
+use Rattle.ds_script.specs.declared.turn.Left.{Left}
+use Rattle.ds_script.specs.ScriptTurns.{Remains}
 use Rattle.ds_trace.proofs.Trails.{none_left}
 use Rattle.ds_trace.proofs.play.play_on.Goals as goal
 

@@ -2,9 +2,9 @@ use Rattle.std.proofs.Common.{rules, ◌≡◌, ◌+◌, ◌∙◌, sym, refl, a
 use Rattle.std.specs.Prelude.{false}
 use Rattle.ds_words.specs.declared.access.BufferEntry.{BufferEntry}
 use Rattle.ds_words.specs.declared.access.Access.{Access}
-use Rattle.pm_board.specs.Table.{answer, buffer_after, word_flushed, HasRoom}
+use Rattle.pm_board.specs.Table.{answer, buffer_after, HasRoom}
 use Rattle.pm_board.specs.Machines.{stepped, left, IsServed, IsIn, Drives, unbegun, under_way}
-use Rattle.pm_board.proofs.Driving.{within, room, flushed_in, asked_none, asked_also, asked_stop}
+use Rattle.pm_board.proofs.Driving.{within, room, asked_none, asked_also, asked_stop}
 use Rattle.pm_board.proofs.Machines.{poised_steps, poised, steps_on, broken, settled}
 use Rattle.pm_board.proofs.drive.drive.Goals as goal
 
@@ -24,7 +24,7 @@ returns-then-not-go-clause-me g c =
     let few = c.loop-end.invariant.few in (
       c.loop-end.invariant.taken,
       asked_stop g.F.Fuse.said c.args.fuse.now c.loop-end.fuse _ c.loop-end.invariant.taken c.loop-end.invariant.asked c.if-not-go.ensures,
-      broken g.P.Structured.structure g.M.Machine.calls c.args.board.now.key c.law.ensures c.law-2.ensures c.args.call.now c.args.seat.now.me c.loop-end.begun c.loop-end.seat.me c.loop-end.call c.loop-end.buffer.items c.loop-end.invariant.taken (omega (arith, few)) c.loop-end.invariant.drives,
+      broken g.P.Structured.structure g.M.Machine.calls c.args.board.now.key c.law.ensures c.law-2.ensures c.args.call.now c.args.seat.now.me c.loop-end.begun c.loop-end.seat.me c.loop-end.call c.loop-end.buffer.items c.loop-end.invariant.taken (omega (arith, few)) c.in-None.ensures c.loop-end.invariant.drives,
     )
 
 pub returns-in-Some-clause-me : goal.returns-in-Some-clause-me
@@ -32,7 +32,7 @@ returns-in-Some-clause-me g c =
     let few = c.loop-end.invariant.few in (
       c.loop-end.invariant.taken,
       c.loop-end.invariant.asked,
-      settled g.P.Structured.structure g.M.Machine.calls c.args.board.now.key c.law.ensures c.law-2.ensures c.args.call.now c.args.seat.now.me c.loop-end.begun c.loop-end.seat.me c.loop-end.call c.loop-end.buffer.items c.loop-end.invariant.taken c.in-Some.end (omega (arith, few)) c.in-Some.ensures c.loop-end.invariant.drives,
+      settled g.P.Structured.structure g.M.Machine.calls c.args.board.now.key c.law.ensures c.law-2.ensures c.args.call.now c.args.seat.now.me c.loop-end.begun c.loop-end.seat.me c.loop-end.call c.loop-end.buffer.items c.loop-end.invariant.taken c.in-Some.end few c.in-Some.ensures c.loop-end.invariant.drives,
     )
 
 pub access-found-requires-clause-within : goal.access-found-requires-clause-within
@@ -66,8 +66,7 @@ loop-end-preserved g c =
     let next : c.got.new.self ≡ stepped g.P.Structured.structure g.M.Machine.calls c.args.board.now.key c.loop-end.call found =
     c.got.ensures.next ∙ ap (g.M.Machine.calls.next c.loop-end.call) (c.answer.ensures ∙ ap (λ (a : Access ℕ). answer a found) is) in
     let back : c.keep.new.buffer.items ≡ left g.P.Structured.structure g.M.Machine.calls c.args.board.now.key c.loop-end.call c.loop-end.buffer.items found =
-    c.keep.ensures ∙ (λ i. buffer_after (λ n. (c.class-class.ensures ∙ ap (g.P.Structured.structure.class_in c.args.board.now.key) (c.flushed.ensures ∙ ap word_flushed is)) i) (is i) c.loop-end.buffer.items found)
-    ∙ flushed_in (g.P.Structured.structure.class_in c.args.board.now.key) (g.M.Machine.calls.access c.args.board.now.key c.loop-end.call) c.loop-end.buffer.items found in
+    c.keep.ensures ∙ ap (λ (a : Access ℕ). buffer_after (g.P.Structured.structure.class_in c.args.board.now.key) a c.loop-end.buffer.items found) is in
     let on = steps_on g.P.Structured.structure g.M.Machine.calls c.args.board.now.key c.law.ensures c.law-2.ensures c.args.call.now c.args.seat.now.me c.loop-end.begun c.loop-end.seat.me c.access-found.new.seat.me c.loop-end.call c.loop-end.buffer.items taken found c.in-None.ensures c.loop-end.invariant.drives landed empty in
     let fewer = c.got.ensures.fewer in
     let few = c.loop-end.invariant.few in

@@ -1,4 +1,4 @@
-use Rattle.pq_c.proofs.HeldCarried.{carried}
+use Rattle.c_handles.proofs.Carried.{carried}
 use Rattle.pq_c.proofs.closed.pq_c_closed_crash.Goals as goal
 
 pub returns : goal.returns

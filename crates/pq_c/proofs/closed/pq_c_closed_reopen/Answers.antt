@@ -1,5 +1,5 @@
 use Rattle.std.proofs.Common.{refl, subst}
-use Rattle.pq_c.specs.Shared.{moved, fails}
+use Rattle.c_handles.specs.Handles.{fails, moved}
 use Rattle.pq_c.specs.Queues.{Opens, OpensNot}
 use Rattle.pq_c.proofs.closed.pq_c_closed_reopen.Goals as goal
 

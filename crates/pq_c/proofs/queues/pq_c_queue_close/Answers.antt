@@ -1,5 +1,5 @@
 use Rattle.std.proofs.Common.{refl, subst}
-use Rattle.pq_c.specs.Shared.{moved, fails}
+use Rattle.c_handles.specs.Handles.{fails, moved}
 use Rattle.pq_c.specs.Queues.{Closes, ClosesNot}
 use Rattle.pq_c.proofs.queues.pq_c_queue_close.Goals as goal
 

@@ -1,5 +1,5 @@
 use Rattle.std.proofs.Common.{refl}
-use Rattle.pq_c.specs.Queues.{made, fails}
+use Rattle.c_handles.specs.Handles.{fails, made}
 use Rattle.pq_c.proofs.queues.pq_c_queue_make.Goals as goal
 
 pub returns-in-Ok : goal.returns-in-Ok

@@ -1,5 +1,6 @@
 use Rattle.std.proofs.Common.{refl, subst}
-use Rattle.pq_c.specs.Queues.{IsTaken, IsNotTaken, taken, fails}
+use Rattle.c_handles.specs.Handles.{fails, taken}
+use Rattle.pq_c.specs.Queues.{IsTaken, IsNotTaken}
 use Rattle.pq_c.proofs.queues.pq_c_queue_take.Goals as goal
 
 pub returns-in-Ok : goal.returns-in-Ok

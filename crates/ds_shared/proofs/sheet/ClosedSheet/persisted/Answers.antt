@@ -1,9 +1,11 @@
-use Rattle.std.proofs.Common.{◌≡◌, ◌∙◌, ◌*◌, ◌+◌, ℕ, ap, arith, get_or}
+use Rattle.std.proofs.Common.{◌<◌, ◌∙◌, ◌*◌, ◌+◌, ℕ, ap, get_or, subst, sym}
 use Rattle.std.specs.Mem.Slots.{slots_items}
-use Rattle.ds_shared.proofs.Ordered.{elem_index}
+use Rattle.ds_layout.specs.Places.{words_of}
+use Rattle.ds_layout.specs.declared.layout.Layout.{Layout}
 use Rattle.ds_shared.proofs.sheet.ClosedSheet.persisted.Goals as goal
 
+pub persisted-requires : goal.persisted-requires
+persisted-requires c = subst (λ (l : Layout). c.number.result < words_of l) (sym c.args.self.now.same) c.number.ensures.below
+
 pub returns : goal.returns
-returns c =
-    let twice : c.number.result * 8 + 1 ≡ 8 * c.number.result + 1 = omega arith in
-    elem_index (slots_items c.args.self.now.table.words) (c.number.result * 8 + 1) c.word.result c.word.ensures ∙ ap (λ (n : ℕ). get_or (slots_items c.args.self.now.table.words) n 0) (twice ∙ ap (λ (n : ℕ). 8 * n + 1) c.number.ensures.value)
+returns c = c.persisted.ensures ∙ ap (λ (n : ℕ). get_or (slots_items c.args.self.now.words.table.words) (8 * n + 1) 0) c.number.ensures.value

@@ -6,7 +6,7 @@ use base.Logic.{via, mono_r}
 use denote.Triple.Entry.{on_entry}
 use borrow.Fn.Kinds.{sig_of}
 use contract.Monad.{fact_mono}
-use Rattle.ds_shared_seats.specs.Resting.{Rests}
+use Rattle.ds_shared.specs.Answers.{Rests}
 use Rattle.ds_shared_seats.proofs.resting.RestingSheet.into_sheet.Statement.{statement}
 use Rattle.ds_shared_seats.proofs.resting.RestingSheet.into_sheet.Lts as lts
 use Rattle.ds_shared_seats.proofs.resting.RestingSheet.into_sheet.Reads as reads

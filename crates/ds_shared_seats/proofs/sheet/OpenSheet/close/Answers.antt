@@ -5,10 +5,6 @@ use Rattle.ds_shared.specs.Answers.{IsOf}
 use Rattle.ds_shared.specs.Known.{past_in}
 use Rattle.ds_shared_seats.specs.Sheets.{IsClosed, IsClosedWith}
 use Rattle.ds_shared_seats.proofs.Looking.{order_looked, own_looked}
-use Rattle.std.specs.Mem.Slots.{slots_items}
-use Rattle.ds_layout.specs.declared.layout.Layout.{Layout}
-use Rattle.ds_drives.specs.Rule.{AreTrue, AtRest, Witness}
-use Rattle.ds_drives.specs.Views.{past_of}
 use Rattle.ds_shared_seats.proofs.sheet.OpenSheet.close.Goals as goal
 
 pub invariant_of-self : goal.invariant_of-self
@@ -41,11 +37,8 @@ returns-in-Ok-try_unwrap-clause-ok c =
       passes = passes;
       each = c.gathered-passes.ensures.order ∙ (order_looked _ _ c.look.ensures.looked ∙ (s.order ∙ ap (λ l. range_with_len 0 l.processes) s.fits));
       of = subst (λ x. All (λ p. IsOf x p) passes) is c.gathered-passes.ensures.fit;
-      closed = subst (λ x. IsClosedWith x (past_in s.past.place) passes c.close.result) is (record { layout = h.layout; handed = h.handed; before = h.before; stand = h.stand });
+      closed = subst (λ x. IsClosedWith x (past_in s.past.place) passes c.close.result) is (record { layout = h.layout.0; handed = h.handed; before = h.before; stand = h.stand });
     })
 
 pub of-requires : goal.of-requires
-of-requires c =
-    let h = c.close.ensures in
-    subst (λ (l : Layout). (b : Witness) × AtRest l (slots_items c.close.result.table.words) b × AreTrue l (slots_items c.close.result.table.words) b (past_of c.close.result.before)) (sym h.layout)
-    (h.stand.witness, h.stand.rests, h.stand.call_events)
+of-requires c = c.close.ensures.rests

@@ -30,3 +30,13 @@ returns-clause-sits g c =
       runs = record { seat = newcomer (first_now s c.args.stopped) (Some c.requires.rest.seen) c.args.process; at = c.split_seat.ensures.4 ∙ (λ i. (t.right i, [])); own = refl; seen = c.requires.rest.seen; looked = refl };
       does = refl;
     }
+
+pub returns-clause-others : goal.returns-clause-others
+returns-clause-others g c = λ seen rest.
+    let t = cut g.P.Structured.structure c.args.self.now.key (first_now g.P.Structured.structure c.args.stopped) seen c.args.process _ _ _ c.requires.low rest in
+    rw c.split_seat.ensures.2 t.left
+
+pub returns-clause-alone : goal.returns-clause-alone
+returns-clause-alone g c = λ seen rest.
+    let t = cut g.P.Structured.structure c.args.self.now.key (first_now g.P.Structured.structure c.args.stopped) seen c.args.process _ _ _ c.requires.low rest in
+    c.split_seat.ensures.4 ∙ (λ i. (t.right i, []))
