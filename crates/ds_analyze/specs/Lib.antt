@@ -1,3 +1,4 @@
 pub mod Statuses
 pub mod Details
 pub mod Forms
+pub mod Analyses

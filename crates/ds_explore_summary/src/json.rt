@@ -1,10 +1,10 @@
 //! An exploration as lines of JSON.
 
-ghost use Rattle.std.specs.Prelude.{◌≡◌, IfOk, OnOk, length, map, string_bytes};
+ghost use Rattle.std.specs.Prelude.{◌≡◌, IfErr, IfOk, OnOk, length, map, string_bytes};
 ghost use Rattle.serde_json.specs.Data.{array, put as with_member, string};
 ghost use Rattle.serde_json.specs.View.{items_of, members_view, view};
 ghost use Rattle.serde_json.specs.Written.{compact_text};
-ghost use Rattle.ds_explore_summary.specs.Lines.{data_line, figures_data, flaw_data, found_data, kind_data, line_at, lines_text, orders_data, outcome_data, texts_data};
+ghost use Rattle.ds_explore_summary.specs.Lines.{IsLinesFault, IsOutcomeFault, IsTextFault, data_line, figures_data, flaw_data, found_data, kind_data, line_at, lines_text, orders_data, outcome_data, texts_data};
 ghost use Rattle.ds_explore_summary.specs.Summaries.{texts_below};
 
 use ds_explore::exploration::{Exploration, Outcome};
@@ -16,27 +16,32 @@ use std::str;
 /// Why an exploration is not written as JSON.
 #[derive(Clone, Copy, Debug, PartialEq, Eq)]
 pub enum LinesFault {
-    /// The script is not UTF-8.
+    /// A text of an outcome is not UTF-8, as where the script is not.
     NotUtf8,
     /// An allocation failed.
     NoMemory,
 }
 
 impl From<AllocError> for LinesFault {
-    fn from(_error: AllocError) -> LinesFault {
+    fn from(_error: AllocError) -> LinesFault
+        ensures { result ≡ LinesFault.NoMemory }
+    {
         LinesFault::NoMemory
     }
 }
 
 impl<T: Drop> From<AllocFailed<T>> for LinesFault {
-    fn from(_failed: AllocFailed<T>) -> LinesFault {
+    fn from(_failed: AllocFailed<T>) -> LinesFault
+        ensures { result ≡ LinesFault.NoMemory }
+    {
         LinesFault::NoMemory
     }
 }
 
 // Bytes as a text.
 fn text_value(alloc: Global, bytes: &[u8]) -> Result<Value, LinesFault>
-    ensures { IfOk result (λ v. view v ≡ string bytes.now) }
+    ensures value { IfOk result (λ v. view v ≡ string bytes.now) }
+    ensures none { IfErr result (IsTextFault bytes.now) }
 {
     match str::from_utf8(bytes) {
         Ok(text) => Ok(Value::String(String::from_str(alloc, text)?)),
@@ -51,7 +56,8 @@ fn put_text(
     key: &str,
     bytes: &[u8],
 ) -> Result<(), LinesFault>
-    ensures { OnOk result (members_view map.new.entries ≡ with_member key.now (string bytes.now) (members_view map.old.entries)) }
+    ensures puts { OnOk result (members_view map.new.entries ≡ with_member key.now (string bytes.now) (members_view map.old.entries)) }
+    ensures none { IfErr result (IsTextFault bytes.now) }
 {
     let value = text_value(alloc, bytes)?;
     put(map, alloc, key, value)?;
@@ -59,14 +65,14 @@ fn put_text(
 }
 
 // How many orders there are.
-fn orders_value(alloc: Global, orders: u128) -> Result<Value, LinesFault>
+fn orders_value(alloc: Global, orders: u128) -> Result<Value, AllocError>
     ensures { IfOk result (λ v. view v ≡ orders_data orders) }
 {
     Ok(Value::String(orders.to_string(alloc)?))
 }
 
 // What is wrong.
-fn flaws_value(alloc: Global, flaws: &[Flaw]) -> Result<Value, LinesFault>
+fn flaws_value(alloc: Global, flaws: &[Flaw]) -> Result<Value, AllocError>
     ensures { IfOk result (λ v. view v ≡ array (items_of (map flaw_data flaws.now))) }
 {
     let mut items = Vec::with_capacity(alloc, flaws.len())?;
@@ -77,7 +83,7 @@ fn flaws_value(alloc: Global, flaws: &[Flaw]) -> Result<Value, LinesFault>
 }
 
 // The outcome with this number, but for its texts.
-fn kind_value(alloc: Global, number: u64, outcome: &Outcome) -> Result<Value, LinesFault>
+fn kind_value(alloc: Global, number: u64, outcome: &Outcome) -> Result<Value, AllocError>
     ensures { IfOk result (λ v. view v ≡ kind_data number outcome.now) }
 {
     let orders = outcome.orders.to_string(alloc)?;
@@ -89,7 +95,8 @@ fn kind_value(alloc: Global, number: u64, outcome: &Outcome) -> Result<Value, Li
 
 // The texts of an outcome.
 fn texts_of(alloc: Global, outcome: &Outcome) -> Result<Map<String, Value>, LinesFault>
-    ensures { IfOk result (λ map. members_view map.entries ≡ texts_data outcome.now) }
+    ensures texts { IfOk result (λ map. members_view map.entries ≡ texts_data outcome.now) }
+    ensures none { IfErr result (IsOutcomeFault outcome.now) }
 {
     let mut map = Map::new(alloc);
     put_text(alloc, &mut map, "answers", &outcome.answers)?;
@@ -100,7 +107,8 @@ fn texts_of(alloc: Global, outcome: &Outcome) -> Result<Map<String, Value>, Line
 
 // The outcome with this number.
 fn outcome_value(alloc: Global, number: u64, outcome: &Outcome) -> Result<Value, LinesFault>
-    ensures { IfOk result (λ v. view v ≡ outcome_data number outcome.now) }
+    ensures value { IfOk result (λ v. view v ≡ outcome_data number outcome.now) }
+    ensures none { IfErr result (IsOutcomeFault outcome.now) }
 {
     let kind = kind_value(alloc, number, outcome)?;
     let mut map = texts_of(alloc, outcome)?;
@@ -109,7 +117,7 @@ fn outcome_value(alloc: Global, number: u64, outcome: &Outcome) -> Result<Value,
 }
 
 // How much was found.
-fn found_value(alloc: Global, exploration: &Exploration) -> Result<Value, LinesFault>
+fn found_value(alloc: Global, exploration: &Exploration) -> Result<Value, AllocError>
     ensures { IfOk result (λ v. view v ≡ found_data exploration.now) }
 {
     let orders = orders_value(alloc, exploration.orders())?;
@@ -120,7 +128,7 @@ fn found_value(alloc: Global, exploration: &Exploration) -> Result<Value, LinesF
 }
 
 // The figures.
-fn figures_value(alloc: Global, exploration: &Exploration) -> Result<Value, LinesFault>
+fn figures_value(alloc: Global, exploration: &Exploration) -> Result<Value, AllocError>
     ensures { IfOk result (λ v. view v ≡ figures_data exploration.now) }
 {
     let found = found_value(alloc, exploration)?;
@@ -132,7 +140,7 @@ fn figures_value(alloc: Global, exploration: &Exploration) -> Result<Value, Line
 
 // The text of the figures, without a line feed.
 #[tactic(auto, using(crate::proofs::Floats::figures_no_float))]
-fn figures_text(alloc: Global, exploration: &Exploration) -> Result<String, LinesFault>
+fn figures_text(alloc: Global, exploration: &Exploration) -> Result<String, AllocError>
     ensures { IfOk result (λ t. string_bytes t ≡ compact_text (figures_data exploration.now)) }
 {
     let value = figures_value(alloc, exploration)?;
@@ -141,7 +149,8 @@ fn figures_text(alloc: Global, exploration: &Exploration) -> Result<String, Line
 
 // The text of an outcome, without a line feed.
 fn outcome_text(alloc: Global, number: u64, outcome: &Outcome) -> Result<String, LinesFault>
-    ensures { IfOk result (λ t. string_bytes t ≡ compact_text (outcome_data number outcome.now)) }
+    ensures text { IfOk result (λ t. string_bytes t ≡ compact_text (outcome_data number outcome.now)) }
+    ensures none { IfErr result (IsOutcomeFault outcome.now) }
 {
     let value = outcome_value(alloc, number, outcome)?;
     Ok(value.to_string(alloc)?)
@@ -149,7 +158,8 @@ fn outcome_text(alloc: Global, number: u64, outcome: &Outcome) -> Result<String,
 
 // The line of an outcome.
 fn outcome_line(alloc: Global, number: u64, outcome: &Outcome) -> Result<Vec<u8>, LinesFault>
-    ensures { IfOk result (λ line. line.items ≡ data_line (outcome_data number outcome.now)) }
+    ensures line { IfOk result (λ line. line.items ≡ data_line (outcome_data number outcome.now)) }
+    ensures none { IfErr result (IsOutcomeFault outcome.now) }
 {
     let mut line = outcome_text(alloc, number, outcome)?.into_bytes();
     line.push(b'\n')?;
@@ -158,7 +168,8 @@ fn outcome_line(alloc: Global, number: u64, outcome: &Outcome) -> Result<Vec<u8>
 
 // The lines of outcomes.
 fn outcome_lines(alloc: Global, outcomes: &[Outcome]) -> Result<Vec<u8>, LinesFault>
-    ensures { IfOk result (λ text. text.items ≡ texts_below (line_at outcomes.now) (length outcomes.now)) }
+    ensures lines { IfOk result (λ text. text.items ≡ texts_below (line_at outcomes.now) (length outcomes.now)) }
+    ensures none { IfErr result (IsLinesFault outcomes.now) }
 {
     let mut text = Vec::new(alloc);
     for at in 0..outcomes.len() {
@@ -169,9 +180,11 @@ fn outcome_lines(alloc: Global, outcomes: &[Outcome]) -> Result<Vec<u8>, LinesFa
 }
 
 /// An exploration as lines of JSON: one of its figures, and one of each outcome, with its script, what that is answered, and
-/// what of it is reported after the order. The fault is that the script is not UTF-8, or that an allocation failed.
+/// what of it is reported after the order. The fault is that one of these texts is not UTF-8, as where the script is not, or
+/// that an allocation failed.
 pub fn lines(alloc: Global, exploration: &Exploration) -> Result<Vec<u8>, LinesFault>
-    ensures { IfOk result (λ text. text.items ≡ lines_text exploration.now) }
+    ensures lines { IfOk result (λ text. text.items ≡ lines_text exploration.now) }
+    ensures none { IfErr result (IsLinesFault exploration.now.outcomes.items) }
 {
     let outcomes = outcome_lines(alloc, &exploration.outcomes)?;
     let mut text = figures_text(alloc, exploration)?.into_bytes();

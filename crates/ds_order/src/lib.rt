@@ -1,6 +1,7 @@
 //! The order of recalculation: each cell after those that it refers to.
 #![tactic(auto)]
 
+pub mod along;
 mod bits;
 mod components;
 pub mod course;

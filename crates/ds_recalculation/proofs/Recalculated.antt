@@ -27,7 +27,7 @@ use Rattle.ds_calls.specs.Traces.{Leads, call_trace, settle_trace}
 use Rattle.ds_calls.proofs.Runs.{both_lead, call_leads, settle_leads, whole_runs, run_keeps_layout}
 use Rattle.ds_calls.proofs.LoneFacts.{CallLeft, wanted, lacked, worked_so, whole_left}
 use Rattle.ds_calls.proofs.LoneSettles.{settles_clean}
-use Rattle.ds_order.specs.Orders.{IsOrder}
+use Rattle.ds_recalculation.specs.Plans.{IsPlan}
 use Rattle.ds_recalculation.specs.Recalculations.{Ordered, begins, passes, works, TakesTurn, passes_it, works_on_it, Stops, stop_of, EndsInOrder, Recalculates, lacks_order, recalculates, order_trace, recalculation_trace, trace_of}
 
 -- ---- runs
@@ -176,18 +176,18 @@ module _ (p : ℕ) (first : WorldValue) (good : IsGood first) (there : HasProces
       stops_clean s.cell s.old s.result end new (left_of s.cell s.rest s.old s.result new (alone order (s.cell ∷ s.rest) s.old h s.so_far) s.marked s.whole) s.stop_is
   ends_clean order end new h (inr s) = settles_alone end s.mid new (alone order [] s.mid h s.all) s.settling
 
-  begins_alone : AreIdle (world_of first) → AreYoung (world_of first) (2 * cells_of first.sheet.layout + 2) → (order : List ℕ) → IsOrder (cells_of first.sheet.layout) order → Lone order first
+  begins_alone : AreIdle (world_of first) → AreYoung (world_of first) (2 * cells_of first.sheet.layout + 2) → (order : List ℕ) → IsPlan first order → Lone order first
   begins_alone idle young order o = record {
     good = good;
     layout_is = refl;
     idle = idle;
-    young = λ c l. (let y = young.each c l in let n = o.count in omega (arith, y, n));
-    inside = o.below;
+    young = λ c l. (let y = young.each c l in let n = o.once.count in omega (arith, y, n));
+    inside = o.once.below;
   }
 
 -- a recalculation in an order, where each process is idle and marks are young, ends clean, or out of memory
 pub ends_in_order_clean : (p : ℕ) (order : List ℕ) (old : WorldValue) (end : SettleEnd) (new : WorldValue) → IsGood old → HasProcess old p → AreIdle (world_of old) → AreYoung (world_of old) (2 * cells_of old.sheet.layout + 2)
-    → IsOrder (cells_of old.sheet.layout) order → EndsInOrder p order old end new → EndsClean (world_of new) end
+    → IsPlan old order → EndsInOrder p order old end new → EndsClean (world_of new) end
 ends_in_order_clean p order old end new good there idle young is ends = ends_clean p old good there order end new (begins_alone p old good there idle young order is) ends
 
 -- so does any

@@ -1,1 +1,2 @@
 pub mod Recalculations
+pub mod Plans

@@ -2,14 +2,13 @@
 use Rattle.std.proofs.Common.{inl, inr}
 use Rattle.std.specs.Prelude.{ℕ, ◌≡◌, ◌⊎◌, List, [], ◌∷◌, true, false, Option, Some, None, Result, Ok, Err}
 use Rattle.ds_formula.specs.Cells.{cell_at}
-use Rattle.ds_layout.specs.Places.{cells_of}
 use Rattle.ds_state.specs.Value.{WorldValue, world_of}
 use Rattle.ds_state.specs.declared.refusal.Refusal.{Refusal}
 use Rattle.ds_state.specs.declared.answer.Answer.TheVariants.{Work}
 use Rattle.ds_state.specs.declared.work.WorkEnd.{WorkEnd}
 use Rattle.ds_state.specs.declared.work.WorkEnd.TheVariants as work_ends
 use Rattle.ds_core.specs.declared.event.Event.TheVariants.{BeginWork}
-use Rattle.ds_order.specs.Orders.{IsOrder}
+use Rattle.ds_recalculation.specs.Plans.{IsPlan}
 use Rattle.ds_calls.specs.declared.settle.SettleEnd.{SettleEnd}
 use Rattle.ds_calls.specs.declared.settle.SettleEnd.TheVariants.{Refused, NoMemory}
 use Rattle.ds_calls.specs.declared.settle.SettleStage.TheVariants.{Ends}
@@ -69,10 +68,10 @@ abbrev pub EndsInOrder : ℕ → List ℕ → WorldValue → SettleEnd → World
 EndsInOrder p order first end new = Stops p order first end new ⊎ Settles p order first end new
 
 -- a recalculation by the process ends so: it lacks the memory for its order, and has done nothing; or it has worked in an
--- order with each cell once
+-- order that goes along the references
 pub data Recalculates (p : ℕ) (first : WorldValue) : SettleEnd → WorldValue → Type 0 where
   lacks_order : Recalculates p first NoMemory first
-  recalculates : (order : List ℕ) (end : SettleEnd) (new : WorldValue) → IsOrder (cells_of first.sheet.layout) order → EndsInOrder p order first end new
+  recalculates : (order : List ℕ) (end : SettleEnd) (new : WorldValue) → IsPlan first order → EndsInOrder p order first end new
       → Recalculates p first end new
 
 -- ---- its events

@@ -4,3 +4,4 @@
 pub mod laws;
 pub mod recalculation;
 mod references;
+mod sheet;

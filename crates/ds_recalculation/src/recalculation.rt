@@ -8,14 +8,15 @@ ghost use Rattle.ds_state.specs.declared.answer.Answer.TheVariants.{Work};
 ghost use Rattle.ds_core.specs.declared.event.Event.TheVariants.{BeginWork};
 ghost use Rattle.ds_calls.specs.Marked.{state_at, is_marked};
 ghost use Rattle.ds_calls.specs.Whole.{HasProcess, IsWhole, KeepsFree};
-ghost use Rattle.ds_order.specs.Orders.{IsOrder};
+ghost use Rattle.ds_recalculation.specs.Plans.{IsPlan};
 ghost use Rattle.ds_recalculation.specs.Recalculations.{EndsInOrder, Ordered, Recalculates, Stops, TakesTurn, WorksOn, stop_of};
 
-use crate::references::ShownReferences;
+use crate::references::guessed;
+use crate::sheet::shown_sheet;
 use ds_calls::call::whole_work;
 use ds_calls::settle::{SettleEnd, settle};
 use ds_layout::mark::State;
-use ds_order::order::order;
+use ds_order::along::goes_along;
 use ds_state::refusal::Refusal;
 use ds_state::shown::mark;
 use ds_state::work::WorkEnd;
@@ -44,13 +45,19 @@ pub fn stop_of(answered: Result<WorkEnd, Refusal>) -> Option<SettleEnd>
     }
 }
 
-/// The order of a recalculation: the cells by their numbers, each once, after those that the text that it shows refers to
-/// where no references run in a circle. An error is that an allocation failed.
+/// The order of a recalculation: the cells by their numbers, each once, after those that are written in the text that it
+/// shows, but where references can be followed from it for ever. An error is that an allocation failed, or that the order
+/// that was found is none.
 pub fn planned(alloc: Global, world: &World) -> Result<Vec<usize>, AllocError>
-    ensures { IfOk result (λ order. IsOrder (cells_of world.now.sheet.layout) order.items) }
+    ensures { IfOk result (λ order. IsPlan world.now order.items) }
 {
-    let references = ShownReferences::of(alloc, world)?;
-    order(alloc, &references, world.words.layout().cells())
+    let sheet = shown_sheet(alloc, world)?;
+    let order = guessed(alloc, &sheet)?;
+    if goes_along(alloc, &sheet, order.as_slice())? {
+        Ok(order)
+    } else {
+        Err(AllocError)
+    }
 }
 
 // A whole work on the cell with this number.

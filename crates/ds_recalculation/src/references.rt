@@ -1,38 +1,29 @@
-//! The references of the texts that a sheet shows.
+//! The references of a sheet.
 
-ghost use Rattle.std.specs.Prelude.{◌<◌};
-ghost use Rattle.ds_layout.specs.Places.{cells_of};
+ghost use Rattle.std.specs.Prelude.{IfOk};
+ghost use Rattle.ds_formula.specs.Cells.{count_of};
+ghost use Rattle.ds_order.specs.Orders.{IsOrder};
 
+use ds_eval::sheet::Sheet;
 use ds_formula::cells::{Cell, Shape};
-use ds_formula::reading::read_content;
-use ds_order::order::References;
-use ds_state::shown::text;
-use ds_state::world::World;
+use ds_order::order::{References, order};
 use std::alloc::{AllocError, Global};
 
-/// Which cells of a sheet each of its cells refers to, by the texts that it showed. Orders that are made of it are guesses.
+// Which cells of a sheet each of its cells refers to. Orders that are made of it are guesses.
 #[derive(Drop)]
-pub(crate) struct ShownReferences {
+struct SheetReferences {
     shape: Shape,
     // A bit for each cell and each cell that it may refer to.
     words: Vec<u64>,
 }
 
-// The cells that a text refers to; none where it has a fault.
-fn cells_in(alloc: Global, shape: Shape, text: &[u8]) -> Result<Vec<Cell>, AllocError> {
-    match read_content(alloc, &shape, text) {
-        Ok(content) => content.refs(alloc),
-        Err(_) => Ok(Vec::new(alloc)),
-    }
-}
-
-impl ShownReferences {
+impl SheetReferences {
     // Of a sheet of this shape, none of whose cells refers to any.
-    fn none(alloc: Global, shape: Shape) -> Result<ShownReferences, AllocError> {
+    fn none(alloc: Global, shape: Shape) -> Result<SheetReferences, AllocError> {
         let count = shape.count() * shape.count().div_ceil(64);
         let mut words = Vec::with_capacity(alloc, count)?;
         words.resize(count, 0)?;
-        Ok(ShownReferences { shape, words })
+        Ok(SheetReferences { shape, words })
     }
 
     // Where the word of a cell for the 64 cells from `64 * at` on stands.
@@ -54,32 +45,30 @@ impl ShownReferences {
         }
     }
 
-    // Notes the cells that a cell of the sheet refers to now.
-    fn look(&mut self, alloc: Global, world: &World, cell: usize) -> Result<(), AllocError>
-        requires { cell < cells_of world.now.sheet.layout }
-    {
-        let text = text(&world.words, alloc, cell)?;
-        let references = cells_in(alloc, self.shape, text.as_slice())?;
-        self.note(cell, references.as_slice());
-        Ok(())
-    }
-
-    /// Of the texts that the sheet shows now. An error is that an allocation failed.
-    pub(crate) fn of(alloc: Global, world: &World) -> Result<ShownReferences, AllocError> {
-        let layout = world.words.layout();
-        let mut references = ShownReferences::none(alloc, layout.shape)?;
-        for cell in 0..layout.cells() {
-            references.look(alloc, world, cell)?;
+    // Of the contents of a sheet. An error is that an allocation failed.
+    fn of(alloc: Global, sheet: &Sheet) -> Result<SheetReferences, AllocError> {
+        let mut references = SheetReferences::none(alloc, sheet.shape)?;
+        for cell in 0..sheet.contents.len() {
+            let cells = sheet.contents[cell].refs(alloc)?;
+            references.note(cell, cells.as_slice());
         }
         Ok(references)
     }
 }
 
-impl References for ShownReferences {
+impl References for SheetReferences {
     fn word(&self, cell: usize, at: usize) -> u64 {
         match self.words.get(self.place(cell, at)) {
             Some(word) => *word,
             None => 0,
         }
     }
+}
+
+/// An order of components, each after those that it refers to. An error is that an allocation failed.
+pub(crate) fn guessed(alloc: Global, sheet: &Sheet) -> Result<Vec<usize>, AllocError>
+    ensures { IfOk result (λ order. IsOrder (count_of sheet.now.shape) order.items) }
+{
+    let references = SheetReferences::of(alloc, sheet)?;
+    order(alloc, &references, sheet.shape.count())
 }

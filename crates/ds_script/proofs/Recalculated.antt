@@ -30,7 +30,7 @@ use Rattle.ds_calls.specs.Whole.{HasProcess, IsCallingAs, Goes, Finishes, Whole,
 use Rattle.ds_calls.proofs.Ages.{young_marks}
 use Rattle.ds_calls.proofs.Begins.{work_begins}
 use Rattle.ds_calls.proofs.Stepping.{answered_wants}
-use Rattle.ds_order.specs.Orders.{IsOrder}
+use Rattle.ds_recalculation.specs.Plans.{IsPlan}
 use Rattle.ds_recalculation.specs.Recalculations.{Ordered, begins, passes, works, stop_of, EndsInOrder}
 use Rattle.ds_recalculation.proofs.Recalculated.{ends_in_order_clean, work_keeps_layout}
 use Rattle.ds_script.specs.Orders.{Recalculate}
@@ -297,15 +297,15 @@ module _ (p : ℕ) (order : List ℕ) (first : WorldValue) (good : IsGood first)
 
 -- a recalculation where each process is idle and marks are young says that all is clean, or that an allocation failed
 pub lone_recalculates_clean : (p : ℕ) (order : List ℕ) (old : WorldValue) (text : List ℕ) (new : WorldValue) → IsGood old → HasProcess old p → AreIdle (world_of old) → AreYoung (world_of old) (2 * cells_of old.sheet.layout + 2)
-    → IsOrder (cells_of old.sheet.layout) order → Played (in_order old p order) old text new → SaysClean p text
+    → IsPlan old order → Played (in_order old p order) old text new → SaysClean p text
 lone_recalculates_clean p order old text new good there idle young planned h =
-    let r = played_recalculates p order old good there text new planned.below h.events h.replies h.plays in
+    let r = played_recalculates p order old good there text new planned.once.below h.events h.replies h.plays in
     subst (λ (xs : List ℕ). SaysClean p xs) (sym r.text_is)
     (clean_line p new r.end (ends_in_order_clean p order old r.end new good there idle young planned r.ends))
 
 -- the same, at a point of a script with few enough events
 pub script_recalculates_clean : (whole : Bool) (script : List ℕ) (lines : ℕ) (at : Progress) (out rest : List ℕ) → Carried whole script lines at out rest → (p : ℕ) (order : List ℕ) (text : List ℕ) (new : WorldValue) → HasProcess at.world p → AreIdle (world_of at.world)
-    → IsOrder (cells_of at.world.sheet.layout) order → length at.events + 2 * (2 * cells_of at.world.sheet.layout + 2) ≤ SEEN_MOST → Played (plan at.world order (Recalculate p)) at.world text new → SaysClean p text
+    → IsPlan at.world order → length at.events + 2 * (2 * cells_of at.world.sheet.layout + 2) ≤ SEEN_MOST → Played (plan at.world order (Recalculate p)) at.world text new → SaysClean p text
 script_recalculates_clean whole script lines at out rest carried p order text new there idle planned few h =
     let run : WorldRun at.start at.events at.replies at.world = carried_runs whole script lines at out rest carried in
     let good : IsGood at.start = carried_good whole script lines at out rest carried in

@@ -1,7 +1,6 @@
 -- What a command does, event by event, and the text that it ends with.
 use Rattle.std.specs.Prelude.{ℕ, ◌≡◌, List, [], ◌∷◌, Option, Some, None, Ok, if◌then◌else◌}
 use Rattle.ds_formula.specs.Cells.{cell_at}
-use Rattle.ds_layout.specs.Places.{cells_of}
 use Rattle.ds_layout.specs.SheetMemory.{memory}
 use Rattle.ds_state.specs.Value.{WorldValue, world_of}
 use Rattle.ds_state.specs.declared.situation.Situation.{Situation}
@@ -19,7 +18,7 @@ use Rattle.ds_calls.specs.declared.settle.SettleStage.TheVariants as turns
 use Rattle.ds_calls.specs.Wanted.{wants}
 use Rattle.ds_calls.specs.Settling.{first_turn, worked}
 use Rattle.ds_calls.specs.Marked.{state_at, is_marked}
-use Rattle.ds_order.specs.Orders.{IsOrder}
+use Rattle.ds_recalculation.specs.Plans.{IsPlan}
 use Rattle.ds_recalculation.specs.Recalculations.{stop_of}
 use Rattle.ds_script.specs.declared.point.PointName.{PointName}
 use Rattle.ds_script.specs.declared.drive.Until.{Until}
@@ -145,9 +144,9 @@ told (DrivesInOrder p rest) event reply w = gone w p rest reply
 
 -- ---- how it begins
 
--- the order of cells in which a deed works: of a recalculation one with each cell of the sheet once; no other deed has one
+-- the order of cells in which a deed works: of a recalculation one that goes along the references; no other deed has one
 abbrev pub IsOrderOf : WorldValue → Deed → List ℕ → Type 0
-IsOrderOf w (deed.Recalculate p) order = IsOrder (cells_of w.sheet.layout) order
+IsOrderOf w (deed.Recalculate p) order = IsPlan w order
 IsOrderOf w deed order = order ≡ []
 
 -- what a command does first, by the deed that its line asks for; a recalculation works in this order of cells

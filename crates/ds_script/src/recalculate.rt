@@ -1,9 +1,8 @@
 //! Works on the marked cells in the order of their references, then settles.
 
 ghost use Rattle.std.specs.Prelude.{ℕ, List, IfOk};
-ghost use Rattle.ds_layout.specs.Places.{cells_of};
 ghost use Rattle.ds_calls.specs.Whole.{HasProcess};
-ghost use Rattle.ds_order.specs.Orders.{IsOrder};
+ghost use Rattle.ds_recalculation.specs.Plans.{IsPlan};
 ghost use Rattle.ds_script.specs.Doing.{in_order};
 ghost use Rattle.ds_script.specs.Plays.{Played};
 
@@ -16,7 +15,7 @@ use std::alloc::{AllocError, Global};
 /// then settles; and the text of that. An error means that an allocation failed.
 pub fn recalculate(alloc: Global, world: &mut World, process: usize) -> Result<Vec<u8>, AllocError>
     requires { HasProcess world.old process }
-    ensures { IfOk result (λ answer. (order : List ℕ) × IsOrder (cells_of world.old.sheet.layout) order
+    ensures { IfOk result (λ answer. (order : List ℕ) × IsPlan world.old order
         × Played (in_order world.old process order) world.old answer.items world.new) }
 {
     let order = planned(alloc, world)?;

@@ -2,9 +2,8 @@
 
 ghost use Rattle.std.specs.Prelude.{ℕ, List, ◌≡◌, ◌≤◌, IfOk};
 ghost use Rattle.ds_state.specs.Value.{WorldValue, world_of};
-ghost use Rattle.ds_layout.specs.Places.{cells_of};
 ghost use Rattle.ds_calls.specs.Whole.{HasProcess};
-ghost use Rattle.ds_order.specs.Orders.{IsOrder};
+ghost use Rattle.ds_recalculation.specs.Plans.{IsPlan};
 ghost use Rattle.ds_script.specs.Orders.{CanDo, command_view, beginning};
 ghost use Rattle.ds_script.specs.Doing.{Once, Calls, Drives, in_order, settle, to_point};
 ghost use Rattle.ds_script.specs.Plays.{Played, IsNoRound, halt_text};
@@ -134,7 +133,7 @@ fn settle(alloc: Global, world: &mut World, process: usize) -> CommandEnd
 // `recalc P`.
 fn recalculate(alloc: Global, world: &mut World, process: usize) -> Result<CommandEnd, AllocError>
     requires { HasProcess world.old process }
-    ensures played { IfOk result (λ end. (order : List ℕ) × IsOrder (cells_of world.old.sheet.layout) order
+    ensures played { IfOk result (λ end. (order : List ℕ) × IsPlan world.old order
         × Played (in_order world.old process order) world.old (text_of world.new end) world.new) }
     ensures shows { IfOk result (CanShow world.new) }
 {

@@ -1,8 +1,7 @@
 //! Plays commands up to a step.
 
 ghost use Rattle.std.specs.Prelude.{ℕ, List, ◌≡◌, ◌<◌, ◌+◌, ◌-◌, ◌^◌, IfSome, IfOk};
-ghost use Rattle.ds_layout.specs.Places.{cells_of};
-ghost use Rattle.ds_order.specs.Orders.{IsOrder};
+ghost use Rattle.ds_recalculation.specs.Plans.{IsPlan};
 ghost use Rattle.ds_script.specs.Orders.{CanDo, beginning, command_view};
 ghost use Rattle.ds_script.specs.Doing.{Calls, in_order, settle};
 ghost use Rattle.ds_script.specs.ScriptTurns.{IsWithin, Remains, doing_of, steps_of};
@@ -45,7 +44,7 @@ fn settle(world: &World, process: usize) -> Option<Left>
 
 // A recalculation, in the order of the references. An error means that an allocation failed.
 fn recalculate(alloc: Global, world: &World, process: usize) -> Result<Option<Left>, AllocError>
-    ensures opens { IfOk result (λ left. (order : List ℕ) × IsOrder (cells_of world.now.sheet.layout) order × Remains left (in_order world.now process order)) }
+    ensures opens { IfOk result (λ left. (order : List ℕ) × IsPlan world.now order × Remains left (in_order world.now process order)) }
     ensures within { IfOk result (λ left. IfSome left (IsWithin world.now)) }
 {
     let order = planned(alloc, world)?;

@@ -1,8 +1,7 @@
 //! Carries commands out, and keeps their events.
 
 ghost use Rattle.std.specs.Prelude.{ℕ, ◌≡◌, ◌⊎◌, ◌≤◌, List, [], IfErr, IfOk, IfSome, OnOk, length};
-ghost use Rattle.ds_layout.specs.Places.{cells_of};
-ghost use Rattle.ds_order.specs.Orders.{IsOrder};
+ghost use Rattle.ds_recalculation.specs.Plans.{IsPlan};
 ghost use Rattle.ds_script.specs.Orders.{CanDo, beginning, command_view};
 ghost use Rattle.ds_script.specs.Doing.{Doing, Calls, Once, in_order, to_point, settle};
 ghost use Rattle.ds_script.specs.Script.{IsMade};
@@ -167,9 +166,9 @@ fn recalculate(
     process: usize,
     rows: &mut Vec<TraceRow>,
 ) -> Result<(), NoTrace>
-    ensures trail { OnOk result ((order : List ℕ) × IsOrder (cells_of world.old.sheet.layout) order
+    ensures trail { OnOk result ((order : List ℕ) × IsPlan world.old order
         × Trail places.now (in_order world.old process order) world.old world.new rows.old.items rows.new.items) }
-    ensures breaks_off { IfErr result (λ why. (why ≡ hindered.NoMemory) ⊎ ((order : List ℕ) × IsOrder (cells_of world.old.sheet.layout) order
+    ensures breaks_off { IfErr result (λ why. (why ≡ hindered.NoMemory) ⊎ ((order : List ℕ) × IsPlan world.old order
         × BreaksOff (in_order world.old process order) world.old rows.old.items why)) }
 {
     let order = planned(alloc, world)?;

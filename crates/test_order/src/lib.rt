@@ -1,6 +1,8 @@
-//! Orders of recalculation and sweeps: inputs first, which no clause says, and what they cost.
+//! Orders of recalculation and sweeps: that those of components are always found, and what sweeps cost.
 #![tactic(auto)]
 
+#[cfg(test)]
+mod along;
 #[cfg(test)]
 mod components;
 #[cfg(test)]

@@ -1,8 +1,7 @@
 use Rattle.std.proofs.Common.{ℕ, List, [], refl, subst, sym, Some}
 use Rattle.std.specs.Prelude.{Option}
 use Rattle.std.proofs.lemmas.Result.{IfOk-weaker}
-use Rattle.ds_layout.specs.Places.{cells_of}
-use Rattle.ds_order.specs.Orders.{IsOrder}
+use Rattle.ds_recalculation.specs.Plans.{IsPlan}
 use Rattle.ds_script.specs.declared.order.Command.{Command}
 use Rattle.ds_script.specs.declared.drive.Until.TheVariants.{OneStep, ToAnswer}
 use Rattle.ds_script.specs.Orders.{command_view}
@@ -23,7 +22,7 @@ returns-in-Settle-clause-opens c =
 pub returns-in-Recalculate-clause-opens : goal.returns-in-Recalculate-clause-opens
 returns-in-Recalculate-clause-opens c =
     IfOk-weaker c.recalculate.result
-    (λ (next : Option Left). (order : List ℕ) × IsOrder (cells_of c.args.world.now.sheet.layout) order × Remains next (in_order c.args.world.now c.in-Recalculate.process order))
+    (λ (next : Option Left). (order : List ℕ) × IsPlan c.args.world.now order × Remains next (in_order c.args.world.now c.in-Recalculate.process order))
     (λ (next : Option Left). OpensOrder c.args.world.now (command_view c.args.command) next c.args.world.now)
     (λ next o. subst (λ (d : Command). OpensOrder c.args.world.now (command_view d) next c.args.world.now) (sym c.in-Recalculate.is)
     (o.0, o.1, opens_at (in_order c.args.world.now c.in-Recalculate.process o.0) c.args.world.now next o.2)) c.recalculate.ensures.opens
