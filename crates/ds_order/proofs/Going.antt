@@ -55,7 +55,7 @@ one_placed sheet order place number cells h there below has = record {
         inputs = subst (λ (n : ℕ). HasInputsBefore sheet.shape order place (content_at sheet n)) (sym same) (λ d refers inside_too. stands d inside_too (has d refers inside_too));
       })
       (λ (other : index_of sheet.shape c ≡ number → ⊥). placed_before sheet.shape (contents_of sheet) order place c
-          (h.each c inside (sym (get_or-set_other cells number (index_of sheet.shape c) true false other) ∙ among)))
+      (h.each c inside (sym (get_or-set_other cells number (index_of sheet.shape c) true false other) ∙ among)))
       (cases_eq (index_of sheet.shape c) number);
 }
   where

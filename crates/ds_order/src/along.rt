@@ -27,7 +27,12 @@ fn are_among(shape: Shape, references: &[Cell], cells: &[bool]) -> bool
 }
 
 // Whether all cells of the sheet that are written in the content are among these. An error is that an allocation failed.
-fn has_inputs(alloc: Global, shape: Shape, content: &Content, cells: &[bool]) -> Result<bool, AllocError>
+fn has_inputs(
+    alloc: Global,
+    shape: Shape,
+    content: &Content,
+    cells: &[bool],
+) -> Result<bool, AllocError>
     requires { length cells.now ≡ count_of shape }
     ensures all { IfOk result (λ b. IsTrue b → HasInputs shape cells.now (plain content.now)) }
     ensures one { IfOk result (λ b. IsFalse b → LacksInput shape cells.now (plain content.now)) }
@@ -37,7 +42,13 @@ fn has_inputs(alloc: Global, shape: Shape, content: &Content, cells: &[bool]) ->
 }
 
 // The cell at this place of the order is one of these from now on, where all its inputs are.
-fn place_next(alloc: Global, sheet: &Sheet, order: &[usize], place: usize, cells: &mut Vec<bool>) -> Result<(), AllocError>
+fn place_next(
+    alloc: Global,
+    sheet: &Sheet,
+    order: &[usize],
+    place: usize,
+    cells: &mut Vec<bool>,
+) -> Result<(), AllocError>
     requires place { place < length order.now }
     requires below { slice_index_or order.now place 0 < count_of sheet.now.shape }
     requires placed { ArePlaced sheet.now.shape (contents_of sheet.now) order.now place cells.old.items }

@@ -74,7 +74,10 @@ fn components_go_along(rt: HostRuntime) -> Result<(), Fail> {
         Kind::All,
     ] {
         let known = known(rt.alloc(), kind, shape)?;
-        assert!(rt; goes(rt.alloc(), kind, shape, &known)?, "components, inputs first");
+        assert!(rt;
+            goes(rt.alloc(), kind, shape, &known)?,
+            "components, inputs first"
+        );
     }
     Ok(())
 }
@@ -84,7 +87,10 @@ fn other_orders_do_not(rt: HostRuntime) -> Result<(), Fail> {
     let shape = Shape::new(16, 16).ok_or("no shape")?;
     let nothing = KnownReferences::new(rt.alloc(), shape)?;
     for kind in [Kind::ChainAgainst, Kind::SumsBelow, Kind::AllAfter] {
-        assert!(rt; !goes(rt.alloc(), kind, shape, &nothing)?, "cells before their inputs");
+        assert!(rt;
+            !goes(rt.alloc(), kind, shape, &nothing)?,
+            "cells before their inputs"
+        );
     }
     Ok(())
 }

@@ -12,5 +12,5 @@ returns c =
     (λ (b : Bool). IsTrue b → LeadsOn c.args.sheet.now.shape (content_at c.args.sheet.now) c.as_slice.result.now (count_of c.args.sheet.now.shape))
     (λ (b : Bool). IsTrue b → GoesAlong c.args.sheet.now.shape (contents_of c.args.sheet.now) c.args.order.now)
     (λ b leads yes. goes c.args.sheet.now c.args.order.now c.in_ok-cells.cells.items c.in_ok-cells.ensures
-        (subst (λ (cells : List Bool). LeadsOn c.args.sheet.now.shape (content_at c.args.sheet.now) cells (count_of c.args.sheet.now.shape)) c.as_slice.ensures.value (leads yes)))
+    (subst (λ (cells : List Bool). LeadsOn c.args.sheet.now.shape (content_at c.args.sheet.now) cells (count_of c.args.sheet.now.shape)) c.as_slice.ensures.value (leads yes)))
     c.others_lead_on.ensures
