@@ -119,8 +119,8 @@ class Client:
         lines = [f"{method} {path} HTTP/1.1", f"host: {self.host}"]
         lines += [f"{name.replace('_', '-')}: {value}" for name, value in fields.items()]
         if body is not None:
-            lines.append(f"content-length: {len(body.encode())}")
-        self.socket.sendall(("\r\n".join(lines) + "\r\n\r\n" + (body or "")).encode())
+            lines.append(f"content-length: {len(body.encode('utf-8', 'surrogateescape'))}")
+        self.socket.sendall(("\r\n".join(lines) + "\r\n\r\n" + (body or "")).encode("utf-8", "surrogateescape"))
         return self.answer(method)
 
     def edit(self, cell, text):
@@ -399,7 +399,8 @@ def questions(program, server, quick):
     row("the picture of a run", (status, fields["content-type"], body), (200, "image/svg+xml", said(program, two, "trace", "--brief")))
     unfit = "422 text/plain; charset=utf-8 "
     for path, script, why in [("/explore", "begin 0 set A1 1\nfoo\n", "line 2: unknown command"), ("/trace", "set 0 A1 1\nfoo\n", "line 2: unknown command"),
-                              ("/trace", "set 0 A1 1\n" * 60, "run too long: more than 1000 events"), ("/explore", "# " + "x" * 600, "line 1: line too long")]:
+                              ("/trace", "set 0 A1 1\n" * 60, "run too long: more than 1000 events"), ("/explore", "# " + "x" * 600, "line 1: line too long"),
+                              ("/explore", "# \udcff\n", "the script is not UTF-8, and JSON is")]:
         status, fields, body = client.ask("POST", path, script)
         row(f"{path}: {why}", f"{status} {fields['content-type']} {body}", unfit + why)
     if not quick:
