@@ -7,7 +7,7 @@ use Rattle.ds_trace.proofs.Trails.{on_err, on_ok}
 use Rattle.ds_trace.proofs.play.recalculate.Goals as goal
 
 pub in_order-left-requires : goal.in_order-left-requires
-in_order-left-requires c = c.in_ok-order.ensures.below
+in_order-left-requires c = c.in_ok-order.ensures.once.below
 
 pub returns-clause-trail : goal.returns-clause-trail
 returns-clause-trail c =
