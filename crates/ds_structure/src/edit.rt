@@ -29,6 +29,7 @@ impl Machine<Sheet> for EditCall {
 
     ghost calls = { edits };
 
+    #[inline(always)]
     fn turn(&self, key: &SheetKey) -> Option<EditEnd> {
         let _key = key;
         match self.stage {
@@ -37,10 +38,12 @@ impl Machine<Sheet> for EditCall {
         }
     }
 
+    #[inline(always)]
     fn want(&self, key: &SheetKey) -> Access<usize> {
         key.numbered(want(self))
     }
 
+    #[inline(always)]
     fn got(&mut self, key: &SheetKey, word: u64) {
         let _key = key;
         got(self, word);

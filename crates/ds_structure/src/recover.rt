@@ -26,6 +26,7 @@ impl Machine<Sheet> for RecoverCall {
 
     ghost calls = { recoveries };
 
+    #[inline(always)]
     fn turn(&self, key: &SheetKey) -> Option<RecoveryEnd> {
         let _key = key;
         match effect_of(self) {
@@ -34,10 +35,12 @@ impl Machine<Sheet> for RecoverCall {
         }
     }
 
+    #[inline(always)]
     fn want(&self, key: &SheetKey) -> Access<usize> {
         key.numbered(want(self))
     }
 
+    #[inline(always)]
     fn got(&mut self, key: &SheetKey, word: u64) {
         let _key = key;
         got(self, word);

@@ -92,6 +92,7 @@ impl SheetKey {
     }
 
     // Whether the sheet has the place.
+    #[inline(always)]
     fn has(&self, place: Place) -> bool
         ensures { result ≡ is_place self.now.layout place }
     {
@@ -99,6 +100,7 @@ impl SheetKey {
     }
 
     // Whether the place that an access names is one of the sheet.
+    #[inline(always)]
     fn names(&self, access: Access<Place>) -> bool
         ensures { result ≡ names_place self.now.layout access }
     {
@@ -115,6 +117,7 @@ impl SheetKey {
     }
 
     // An access by the number of its word, or none where the sheet has no such place.
+    #[inline(always)]
     pub(crate) fn numbered_in(&self, access: Access<Place>) -> Access<usize>
         ensures { result ≡ access_in self.now.layout access }
     {
@@ -126,6 +129,7 @@ impl SheetKey {
     }
 
     // An access by the number of its word.
+    #[inline(always)]
     pub(crate) fn numbered(&self, access: Access<Place>) -> Access<usize>
         requires { NamesPlace self.now.layout access }
         ensures { result ≡ access_at self.now.layout access }
@@ -160,6 +164,7 @@ impl Structured for Sheet {
         }
     }
 
+    #[inline(always)]
     fn class(key: &SheetKey, word: usize) -> Class {
         key.class_at(word)
     }

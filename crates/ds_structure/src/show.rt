@@ -25,6 +25,7 @@ impl Machine<Sheet> for ShowCall {
 
     ghost calls = { shows };
 
+    #[inline(always)]
     fn turn(&self, key: &SheetKey) -> Option<ShowEnd> {
         let _key = key;
         match self.stage {
@@ -33,10 +34,12 @@ impl Machine<Sheet> for ShowCall {
         }
     }
 
+    #[inline(always)]
     fn want(&self, key: &SheetKey) -> Access<usize> {
         key.numbered(want(self))
     }
 
+    #[inline(always)]
     fn got(&mut self, key: &SheetKey, word: u64) {
         let _key = key;
         got(self, word);

@@ -29,6 +29,7 @@ impl Machine<Sheet> for WorkCall {
 
     ghost calls = { works };
 
+    #[inline(always)]
     fn turn(&self, key: &SheetKey) -> Option<WorkPause> {
         let _key = key;
         match self.stage {
@@ -39,10 +40,12 @@ impl Machine<Sheet> for WorkCall {
         }
     }
 
+    #[inline(always)]
     fn want(&self, key: &SheetKey) -> Access<usize> {
         key.numbered_in(want(self, key.layout.shape))
     }
 
+    #[inline(always)]
     fn got(&mut self, key: &SheetKey, word: u64) {
         let _key = key;
         got(self, word);
