@@ -1,5 +1,5 @@
 -- What of an exploration is written, in each form (our own formats).
-use Rattle.std.specs.Prelude.{ℕ, ◌≡◌, ◌≢◌, ◌-◌, Bool, true, List, Option, Some, None, length, slice_get, Contains}
+use Rattle.std.specs.Prelude.{ℕ, ◌≡◌, ◌≢◌, ◌-◌, Bool, true, List, Option, Some, None, length, slice_get}
 use Rattle.std.specs.Io.KnownBytes.{Appends}
 use Rattle.ds_cli.specs.declared.exploring.ExploreForm.{ExploreForm}
 use Rattle.ds_cli.specs.declared.exploring.ExploreForm.TheVariants as forms
@@ -8,9 +8,7 @@ use Rattle.ds_explore.specs.declared.explore.ExploreEnd.{ExploreEnd}
 use Rattle.ds_explore.specs.declared.explore.ExploreEnd.TheVariants as ends
 use Rattle.ds_explore.specs.declared.exploration.Exploration.{Exploration}
 use Rattle.ds_explore.specs.declared.exploration.Outcome.{Outcome}
-use Rattle.ds_explore_summary.specs.Lines.{lines_text, IsLinesFault}
-use Rattle.ds_explore_summary.specs.declared.json.LinesFault.{LinesFault}
-use Rattle.ds_explore_summary.specs.declared.json.LinesFault.TheVariants as faults
+use Rattle.ds_explore_summary.specs.Lines.{lines_text}
 use Rattle.ds_explore_summary.specs.Summaries.{summary_text}
 use Rattle.ds_trace_picture.specs.Drawing.{PICTURE_MOST, Draws}
 use Rattle.ds_trace_picture.specs.declared.script.PictureEnd.{PictureEnd}
@@ -42,22 +40,12 @@ IsForm exploration forms.Json out = out ≡ lines_text exploration
 IsForm exploration (forms.Outcome number) out = IsOutcomeText exploration number out
 IsForm exploration (forms.Picture number) out = IsOutcomePicture exploration number out
 
--- the drawing of the script ends so, without a picture
-abbrev pub IsNoPicture : List ℕ → PictureEnd → Type 0
-IsNoPicture script end = (end ≢ drawn.Drawn) × ((out : List ℕ) × Draws PICTURE_MOST script end out)
-
--- where that is said to be why: no outcome has the number, and this is how many there are; a text of an outcome is none; of the
--- script of an outcome there is no picture
+-- where that is said to be why: no outcome has the number, and this is how many there are
 abbrev pub IsUnwritten : Exploration → Unwritten → Type 0
 IsUnwritten exploration (unwritten.NoOutcome number count) = (numbered exploration number ≡ None) × (count ≡ length exploration.outcomes.items)
-IsUnwritten exploration unwritten.NotUtf8 = IsLinesFault exploration.outcomes.items faults.NotUtf8
-IsUnwritten exploration (unwritten.NoPicture end) = (outcome : Outcome) × Contains exploration.outcomes.items outcome × IsNoPicture outcome.script.items end
+IsUnwritten exploration unwritten.NotUtf8 = Unit {0}
+IsUnwritten exploration (unwritten.NoPicture end) = Unit {0}
 IsUnwritten exploration unwritten.NoMemory = Unit {0}
-
--- why a form is not written whose lines have this fault
-abbrev pub why_of : LinesFault → Unwritten
-why_of faults.NotUtf8 = unwritten.NotUtf8
-why_of faults.NoMemory = unwritten.NoMemory
 
 -- this form of the exploration was written and passed on, and it is said how the exploration ends; or the writer failed
 abbrev pub WritesForm : Exploration → ExploreForm → Option (List ℕ) → Option (List ℕ) → Bool → ExploreEnd → Type 0

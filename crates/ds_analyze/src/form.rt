@@ -5,7 +5,7 @@ ghost use Rattle.std.specs.Io.KnownBytes.{Appends};
 ghost use Rattle.ds_script_io.specs.Streams.{is_flushed, writer_of};
 ghost use Rattle.ds_trace_picture.specs.Drawing.{Draws, PICTURE_MOST};
 ghost use Rattle.ds_trace_picture.specs.declared.script.PictureEnd.TheVariants as drawn;
-ghost use Rattle.ds_analyze.specs.Forms.{IsForm, IsNoPicture, IsOutcomePicture, IsOutcomeText, IsUnwritten, WritesForm, numbered, why_of};
+ghost use Rattle.ds_analyze.specs.Forms.{IsForm, IsOutcomePicture, IsOutcomeText, IsUnwritten, WritesForm, numbered};
 
 use ds_cli::exploring::ExploreForm;
 use ds_explore::exploration::{Exploration, Outcome};
@@ -31,17 +31,13 @@ pub enum Unwritten {
 }
 
 impl From<AllocError> for Unwritten {
-    fn from(_error: AllocError) -> Unwritten
-        ensures { result ≡ Unwritten.NoMemory }
-    {
+    fn from(_error: AllocError) -> Unwritten {
         Unwritten::NoMemory
     }
 }
 
 impl From<LinesFault> for Unwritten {
-    fn from(fault: LinesFault) -> Unwritten
-        ensures { result ≡ why_of fault }
-    {
+    fn from(fault: LinesFault) -> Unwritten {
         match fault {
             LinesFault::NotUtf8 => Unwritten::NotUtf8,
             LinesFault::NoMemory => Unwritten::NoMemory,
@@ -80,14 +76,13 @@ fn outcome_text(
 }
 
 // A picture of a script.
-fn picture(alloc: Global, script: &[u8]) -> Result<Vec<u8>, PictureEnd>
-    ensures draws { IfOk result (λ text. Draws PICTURE_MOST script.now drawn.Drawn text.items) }
-    ensures none { IfErr result (IsNoPicture script.now) }
+fn picture(alloc: Global, script: &[u8]) -> Result<Vec<u8>, Unwritten>
+    ensures { IfOk result (λ text. Draws PICTURE_MOST script.now drawn.Drawn text.items) }
 {
     let mut writer = Writing::new(Vec::new(alloc));
     match draw_script(alloc, script, Detail::Steps, &mut writer) {
         PictureEnd::Drawn => Ok(writer.into_inner()),
-        end => Err(end),
+        end => Err(Unwritten::NoPicture(end)),
     }
 }
 
@@ -97,14 +92,10 @@ fn outcome_picture(
     exploration: &Exploration,
     number: usize,
 ) -> Result<Vec<u8>, Unwritten>
-    ensures is { IfOk result (λ text. IsOutcomePicture exploration.now number text.items) }
-    ensures none { IfErr result (IsUnwritten exploration.now) }
+    ensures { IfOk result (λ text. IsOutcomePicture exploration.now number text.items) }
 {
     let outcome = outcome(exploration, number)?;
-    match picture(alloc, &outcome.script) {
-        Ok(text) => Ok(text),
-        Err(end) => Err(Unwritten::NoPicture(end)),
-    }
+    picture(alloc, &outcome.script)
 }
 
 // What of an exploration is written, in the form that is asked for.
@@ -113,8 +104,7 @@ fn form_text(
     exploration: &Exploration,
     form: ExploreForm,
 ) -> Result<Vec<u8>, Unwritten>
-    ensures is { IfOk result (λ text. IsForm exploration.now form text.items) }
-    ensures none { IfErr result (IsUnwritten exploration.now) }
+    ensures { IfOk result (λ text. IsForm exploration.now form text.items) }
 {
     match form {
         ExploreForm::All => Ok(exploration.text(alloc)?),
@@ -142,7 +132,7 @@ pub fn write_form<W: Write>(
     writer: &mut Writing<W>,
 ) -> Result<ExploreEnd, Unwritten>
     ensures writes { IfOk result (WritesForm exploration.now form (W.contents (writer_of writer.old)) (W.contents (writer_of writer.new)) (is_flushed writer.new)) }
-    ensures none { IfErr result (λ why. IsUnwritten exploration.now why × (writer.new ≡ writer.old)) }
+    ensures none { IfErr result (λ why. writer.new ≡ writer.old) }
 {
     let text = form_text(alloc, exploration, form)?;
     if write_whole(writer, &text) {

@@ -1,5 +1,5 @@
 -- An exploration as lines of JSON.
-use Rattle.std.specs.Prelude.{ℕ, ◌+◌, ◌++◌, Bool, List, [], ◌∷◌, Option, Some, None, codes, length, map, slice_get, Contains, IsUtf8, ◌⊎◌}
+use Rattle.std.specs.Prelude.{ℕ, ◌+◌, ◌++◌, Bool, List, [], ◌∷◌, Option, Some, None, codes, length, map, slice_get}
 use Rattle.std.specs.Fmt.{decimal}
 use Rattle.serde_json.specs.Data.{Data, string, boolean, number, unsigned, array, object, Members, no_members, member}
 use Rattle.serde_json.specs.View.{items_of}
@@ -8,8 +8,6 @@ use Rattle.ds_explore.specs.Explored.{at_most_orders, flaw_text, orders_to, wron
 use Rattle.ds_explore.specs.declared.exploration.Exploration.{Exploration}
 use Rattle.ds_explore.specs.declared.exploration.Outcome.{Outcome}
 use Rattle.ds_explore.specs.declared.flaw.Flaw.{Flaw}
-use Rattle.ds_explore_summary.specs.declared.json.LinesFault.{LinesFault}
-use Rattle.ds_explore_summary.specs.declared.json.LinesFault.TheVariants as faults
 use Rattle.ds_explore_summary.specs.Summaries.{texts_below}
 
 -- what is wrong, as JSON: its words
@@ -60,20 +58,3 @@ line_at outcomes at = line_by (at + 1) (slice_get outcomes at)
 -- the lines of an exploration: that of its figures, and one of each outcome
 abbrev pub lines_text : Exploration → List ℕ
 lines_text e = data_line (figures_data e) ++ texts_below (line_at e.outcomes.items) (length e.outcomes.items)
-
--- ---- why nothing is written
-
--- the bytes have this fault: they are no text
-abbrev pub IsTextFault : List ℕ → LinesFault → Type 0
-IsTextFault bytes faults.NotUtf8 = IsUtf8 bytes → ⊥
-IsTextFault bytes faults.NoMemory = Unit {0}
-
--- the outcome has this fault: one of its texts is none
-abbrev pub IsOutcomeFault : Outcome → LinesFault → Type 0
-IsOutcomeFault outcome faults.NotUtf8 = (IsUtf8 outcome.answers.items → ⊥) ⊎ ((IsUtf8 outcome.tail.items → ⊥) ⊎ (IsUtf8 outcome.script.items → ⊥))
-IsOutcomeFault outcome faults.NoMemory = Unit {0}
-
--- the outcomes have this fault: one of them has it
-abbrev pub IsLinesFault : List Outcome → LinesFault → Type 0
-IsLinesFault outcomes faults.NotUtf8 = (outcome : Outcome) × Contains outcomes outcome × IsOutcomeFault outcome faults.NotUtf8
-IsLinesFault outcomes faults.NoMemory = Unit {0}

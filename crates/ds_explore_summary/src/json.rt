@@ -1,10 +1,10 @@
 //! An exploration as lines of JSON.
 
-ghost use Rattle.std.specs.Prelude.{◌≡◌, IfErr, IfOk, OnOk, length, map, string_bytes};
+ghost use Rattle.std.specs.Prelude.{◌≡◌, IfOk, OnOk, length, map, string_bytes};
 ghost use Rattle.serde_json.specs.Data.{array, put as with_member, string};
 ghost use Rattle.serde_json.specs.View.{items_of, members_view, view};
 ghost use Rattle.serde_json.specs.Written.{compact_text};
-ghost use Rattle.ds_explore_summary.specs.Lines.{IsLinesFault, IsOutcomeFault, IsTextFault, data_line, figures_data, flaw_data, found_data, kind_data, line_at, lines_text, orders_data, outcome_data, texts_data};
+ghost use Rattle.ds_explore_summary.specs.Lines.{data_line, figures_data, flaw_data, found_data, kind_data, line_at, lines_text, orders_data, outcome_data, texts_data};
 ghost use Rattle.ds_explore_summary.specs.Summaries.{texts_below};
 
 use ds_explore::exploration::{Exploration, Outcome};
@@ -16,32 +16,27 @@ use std::str;
 /// Why an exploration is not written as JSON.
 #[derive(Clone, Copy, Debug, PartialEq, Eq)]
 pub enum LinesFault {
-    /// A text of an outcome is not UTF-8, as where the script is not.
+    /// The script is not UTF-8.
     NotUtf8,
     /// An allocation failed.
     NoMemory,
 }
 
 impl From<AllocError> for LinesFault {
-    fn from(_error: AllocError) -> LinesFault
-        ensures { result ≡ LinesFault.NoMemory }
-    {
+    fn from(_error: AllocError) -> LinesFault {
         LinesFault::NoMemory
     }
 }
 
 impl<T: Drop> From<AllocFailed<T>> for LinesFault {
-    fn from(_failed: AllocFailed<T>) -> LinesFault
-        ensures { result ≡ LinesFault.NoMemory }
-    {
+    fn from(_failed: AllocFailed<T>) -> LinesFault {
         LinesFault::NoMemory
     }
 }
 
 // Bytes as a text.
 fn text_value(alloc: Global, bytes: &[u8]) -> Result<Value, LinesFault>
-    ensures value { IfOk result (λ v. view v ≡ string bytes.now) }
-    ensures none { IfErr result (IsTextFault bytes.now) }
+    ensures { IfOk result (λ v. view v ≡ string bytes.now) }
 {
     match str::from_utf8(bytes) {
         Ok(text) => Ok(Value::String(String::from_str(alloc, text)?)),
@@ -56,8 +51,7 @@ fn put_text(
     key: &str,
     bytes: &[u8],
 ) -> Result<(), LinesFault>
-    ensures puts { OnOk result (members_view map.new.entries ≡ with_member key.now (string bytes.now) (members_view map.old.entries)) }
-    ensures none { IfErr result (IsTextFault bytes.now) }
+    ensures { OnOk result (members_view map.new.entries ≡ with_member key.now (string bytes.now) (members_view map.old.entries)) }
 {
     let value = text_value(alloc, bytes)?;
     put(map, alloc, key, value)?;
@@ -65,14 +59,14 @@ fn put_text(
 }
 
 // How many orders there are.
-fn orders_value(alloc: Global, orders: u128) -> Result<Value, AllocError>
+fn orders_value(alloc: Global, orders: u128) -> Result<Value, LinesFault>
     ensures { IfOk result (λ v. view v ≡ orders_data orders) }
 {
     Ok(Value::String(orders.to_string(alloc)?))
 }
 
 // What is wrong.
-fn flaws_value(alloc: Global, flaws: &[Flaw]) -> Result<Value, AllocError>
+fn flaws_value(alloc: Global, flaws: &[Flaw]) -> Result<Value, LinesFault>
     ensures { IfOk result (λ v. view v ≡ array (items_of (map flaw_data flaws.now))) }
 {
     let mut items = Vec::with_capacity(alloc, flaws.len())?;
@@ -83,7 +77,7 @@ fn flaws_value(alloc: Global, flaws: &[Flaw]) -> Result<Value, AllocError>
 }
 
 // The outcome with this number, but for its texts.
-fn kind_value(alloc: Global, number: u64, outcome: &Outcome) -> Result<Value, AllocError>
+fn kind_value(alloc: Global, number: u64, outcome: &Outcome) -> Result<Value, LinesFault>
     ensures { IfOk result (λ v. view v ≡ kind_data number outcome.now) }
 {
     let orders = outcome.orders.to_string(alloc)?;
@@ -95,8 +89,7 @@ fn kind_value(alloc: Global, number: u64, outcome: &Outcome) -> Result<Value, Al
 
 // The texts of an outcome.
 fn texts_of(alloc: Global, outcome: &Outcome) -> Result<Map<String, Value>, LinesFault>
-    ensures texts { IfOk result (λ map. members_view map.entries ≡ texts_data outcome.now) }
-    ensures none { IfErr result (IsOutcomeFault outcome.now) }
+    ensures { IfOk result (λ map. members_view map.entries ≡ texts_data outcome.now) }
 {
     let mut map = Map::new(alloc);
     put_text(alloc, &mut map, "answers", &outcome.answers)?;
@@ -107,8 +100,7 @@ fn texts_of(alloc: Global, outcome: &Outcome) -> Result<Map<String, Value>, Line
 
 // The outcome with this number.
 fn outcome_value(alloc: Global, number: u64, outcome: &Outcome) -> Result<Value, LinesFault>
-    ensures value { IfOk result (λ v. view v ≡ outcome_data number outcome.now) }
-    ensures none { IfErr result (IsOutcomeFault outcome.now) }
+    ensures { IfOk result (λ v. view v ≡ outcome_data number outcome.now) }
 {
     let kind = kind_value(alloc, number, outcome)?;
     let mut map = texts_of(alloc, outcome)?;
@@ -117,7 +109,7 @@ fn outcome_value(alloc: Global, number: u64, outcome: &Outcome) -> Result<Value,
 }
 
 // How much was found.
-fn found_value(alloc: Global, exploration: &Exploration) -> Result<Value, AllocError>
+fn found_value(alloc: Global, exploration: &Exploration) -> Result<Value, LinesFault>
     ensures { IfOk result (λ v. view v ≡ found_data exploration.now) }
 {
     let orders = orders_value(alloc, exploration.orders())?;
@@ -128,7 +120,7 @@ fn found_value(alloc: Global, exploration: &Exploration) -> Result<Value, AllocE
 }
 
 // The figures.
-fn figures_value(alloc: Global, exploration: &Exploration) -> Result<Value, AllocError>
+fn figures_value(alloc: Global, exploration: &Exploration) -> Result<Value, LinesFault>
     ensures { IfOk result (λ v. view v ≡ figures_data exploration.now) }
 {
     let found = found_value(alloc, exploration)?;
@@ -140,7 +132,7 @@ fn figures_value(alloc: Global, exploration: &Exploration) -> Result<Value, Allo
 
 // The text of the figures, without a line feed.
 #[tactic(auto, using(crate::proofs::Floats::figures_no_float))]
-fn figures_text(alloc: Global, exploration: &Exploration) -> Result<String, AllocError>
+fn figures_text(alloc: Global, exploration: &Exploration) -> Result<String, LinesFault>
     ensures { IfOk result (λ t. string_bytes t ≡ compact_text (figures_data exploration.now)) }
 {
     let value = figures_value(alloc, exploration)?;
@@ -149,8 +141,7 @@ fn figures_text(alloc: Global, exploration: &Exploration) -> Result<String, Allo
 
 // The text of an outcome, without a line feed.
 fn outcome_text(alloc: Global, number: u64, outcome: &Outcome) -> Result<String, LinesFault>
-    ensures text { IfOk result (λ t. string_bytes t ≡ compact_text (outcome_data number outcome.now)) }
-    ensures none { IfErr result (IsOutcomeFault outcome.now) }
+    ensures { IfOk result (λ t. string_bytes t ≡ compact_text (outcome_data number outcome.now)) }
 {
     let value = outcome_value(alloc, number, outcome)?;
     Ok(value.to_string(alloc)?)
@@ -158,8 +149,7 @@ fn outcome_text(alloc: Global, number: u64, outcome: &Outcome) -> Result<String,
 
 // The line of an outcome.
 fn outcome_line(alloc: Global, number: u64, outcome: &Outcome) -> Result<Vec<u8>, LinesFault>
-    ensures line { IfOk result (λ line. line.items ≡ data_line (outcome_data number outcome.now)) }
-    ensures none { IfErr result (IsOutcomeFault outcome.now) }
+    ensures { IfOk result (λ line. line.items ≡ data_line (outcome_data number outcome.now)) }
 {
     let mut line = outcome_text(alloc, number, outcome)?.into_bytes();
     line.push(b'\n')?;
@@ -168,8 +158,7 @@ fn outcome_line(alloc: Global, number: u64, outcome: &Outcome) -> Result<Vec<u8>
 
 // The lines of outcomes.
 fn outcome_lines(alloc: Global, outcomes: &[Outcome]) -> Result<Vec<u8>, LinesFault>
-    ensures lines { IfOk result (λ text. text.items ≡ texts_below (line_at outcomes.now) (length outcomes.now)) }
-    ensures none { IfErr result (IsLinesFault outcomes.now) }
+    ensures { IfOk result (λ text. text.items ≡ texts_below (line_at outcomes.now) (length outcomes.now)) }
 {
     let mut text = Vec::new(alloc);
     for at in 0..outcomes.len() {
@@ -180,11 +169,9 @@ fn outcome_lines(alloc: Global, outcomes: &[Outcome]) -> Result<Vec<u8>, LinesFa
 }
 
 /// An exploration as lines of JSON: one of its figures, and one of each outcome, with its script, what that is answered, and
-/// what of it is reported after the order. The fault is that one of these texts is not UTF-8, as where the script is not, or
-/// that an allocation failed.
+/// what of it is reported after the order. The fault is that the script is not UTF-8, or that an allocation failed.
 pub fn lines(alloc: Global, exploration: &Exploration) -> Result<Vec<u8>, LinesFault>
-    ensures lines { IfOk result (λ text. text.items ≡ lines_text exploration.now) }
-    ensures none { IfErr result (IsLinesFault exploration.now.outcomes.items) }
+    ensures { IfOk result (λ text. text.items ≡ lines_text exploration.now) }
 {
     let outcomes = outcome_lines(alloc, &exploration.outcomes)?;
     let mut text = figures_text(alloc, exploration)?.into_bytes();
