@@ -48,8 +48,8 @@ fn found_orders(
     script: &[u8],
     states_most: usize,
 ) -> Result<Analysis, AllocError>
-    requires { IsUtf8 script.now }
-    requires { IsExploration script.now (with_crashes states_most) exploration.now }
+    requires text { IsUtf8 script.now }
+    requires explores { IsExploration script.now (with_crashes states_most) exploration.now }
     ensures { IfOk result (FindsOrders states_most script.now) }
 {
     match lines(alloc, exploration) {
@@ -65,8 +65,8 @@ fn lacks_orders(
     script: &[u8],
     states_most: usize,
 ) -> Result<Analysis, AllocError>
-    requires { IsUtf8 script.now }
-    requires { LacksExploration script.now lack }
+    requires text { IsUtf8 script.now }
+    requires lacks { LacksExploration script.now lack }
     ensures { IfOk result (FindsOrders states_most script.now) }
 {
     match lack {
