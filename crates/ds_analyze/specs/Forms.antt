@@ -11,7 +11,6 @@ use Rattle.ds_explore.specs.declared.exploration.Outcome.{Outcome}
 use Rattle.ds_explore_summary.specs.Lines.{lines_text}
 use Rattle.ds_explore_summary.specs.Summaries.{summary_text}
 use Rattle.ds_trace_picture.specs.Drawing.{PICTURE_MOST, Draws}
-use Rattle.ds_trace_picture.specs.declared.script.PictureEnd.{PictureEnd}
 use Rattle.ds_trace_picture.specs.declared.script.PictureEnd.TheVariants as drawn
 use Rattle.ds_analyze.specs.declared.form.Unwritten.{Unwritten}
 use Rattle.ds_analyze.specs.declared.form.Unwritten.TheVariants as unwritten

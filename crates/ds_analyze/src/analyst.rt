@@ -1,6 +1,6 @@
 //! Questions about scripts, which a server passes on.
 
-ghost use Rattle.std.specs.Prelude.{◌≡◌, IfOk, IsUtf8};
+ghost use Rattle.std.specs.Prelude.{IfOk, IsUtf8, ℕ};
 ghost use Rattle.ds_explore.specs.Whole.{IsExploration, LacksExploration};
 ghost use Rattle.ds_analyze.specs.Analyses.{Finds, FindsOrders, FindsRun, IsNoText, with_crashes};
 
