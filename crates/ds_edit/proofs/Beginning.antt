@@ -1,19 +1,18 @@
 -- What an edit that begins makes of a world, and the references that it has.
-use Rattle.std.proofs.Common.{ℕ, ◌≡◌, ◌≢◌, ◌<◌, ◌≤◌, ◌*◌, List, length, get_or, set, map, refl, ap, sym, ◌∙◌, subst, arith, inl, inr, Some, None, suc, Ok, Err}
+use Rattle.std.proofs.Common.{ℕ, ◌≡◌, ◌≢◌, ◌<◌, ◌≤◌, List, length, get_or, set, map, refl, ap, sym, ◌∙◌, subst, arith, inl, inr, Some, None, Ok, Err}
 use Rattle.std.specs.Prelude.{All, Contains, Result, IfErr, IsErrAnd}
 use Rattle.std.proofs.lemmas.List.{get_or-set_same, get_or-set_other, get_or-map, get_or_default, length-map, length-set}
-use Rattle.std.proofs.Math.Nat.{mul-le-mul_right}
+use Rattle.std.proofs.lemmas.Nat.{mul-add-lt}
 use Rattle.std.proofs.lemmas.List.Elements.{All-map, All-contains, Contains-get_or}
 use Rattle.ds_formula.specs.declared.cells.Shape.{Shape}
 use Rattle.ds_formula.specs.declared.cells.Cell.{Cell}
 use Rattle.ds_formula.specs.Cells.{IsInside, index_of, count_of}
-use Rattle.ds_formula.specs.Refs.{IsPossible}
 use Rattle.ds_formula.specs.declared.fault.TextFault.{TextFault}
 use Rattle.ds_formula.specs.declared.fault.FaultKind.{FaultKind}
 use Rattle.ds_formula.specs.declared.fault.FaultKind.TheVariants as kinds
 use Rattle.ds_formula.specs.Functions.{scope_of}
 use Rattle.ds_formula.specs.Grammar.{Answers}
-use Rattle.ds_formula.proofs.Formed.{read_inside}
+use Rattle.ds_formula.proofs.Formed.{is_possible, read_inside}
 use Rattle.ds_formula.proofs.Memory.{of_formulas}
 use Rattle.ds_state.specs.Refusals.{refusal_by, refusal_of}
 use Rattle.ds_layout.specs.declared.layout.Layout.{Layout}
@@ -110,19 +109,8 @@ Contains-map f xs x has =
     let lt = has.1 in
     (has.0, omega arith, get_or-map f xs has.0 x (f x) lt ∙ ap f has.2)
 
-is_possible : (shape : Shape) (cell : Cell) → IsInside shape cell → IsPossible cell
-is_possible shape cell inside =
-    let columns = shape.within.columns_to_z in
-    let rows = shape.within.rows_to_64 in
-    let column = inside.column in
-    let row = inside.row in
-    record { column = omega arith; row = omega arith }
-
 index_below : (shape : Shape) (cell : Cell) → IsInside shape cell → index_of shape cell < count_of shape
-index_below shape cell inside =
-    let column = inside.column in
-    let whole : suc cell.row * shape.columns ≤ shape.rows * shape.columns = mul-le-mul_right shape.columns inside.row in
-    omega arith
+index_below shape cell inside = mul-add-lt cell.row shape.columns cell.column shape.rows inside.row inside.column
 
 -- the numbers of the cells of a text are those of all its cells, and numbers of the sheet
 pub refers_all : (shape : Shape) (text refs : List ℕ) → RefersTo shape text refs → HasRefs shape text refs

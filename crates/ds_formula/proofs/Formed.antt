@@ -17,7 +17,7 @@ use Rattle.ds_formula.specs.declared.tokens.Lead.{Lead}
 use Rattle.ds_formula.specs.declared.tokens.Lead.TheVariants as leads
 use Rattle.ds_formula.specs.Cells.{IsInside}
 use Rattle.ds_formula.specs.Plain.{Formula, Literal, At, Area, Signed, Joined, Called, Formulas, Nothing, Then, count, PlainContent}
-use Rattle.ds_formula.specs.Refs.{Mentions, SomeMentions, Refers}
+use Rattle.ds_formula.specs.Refs.{Mentions, SomeMentions, Refers, IsPossible}
 use Rattle.ds_formula.specs.Bytes.{Read, ◌>>=◌, stop_at, unexpected_stop, begins, skipped, number_from, goes_on_as_fraction, number_at, byte_at}
 use Rattle.ds_formula.specs.References.{letters_at, row_at, without_dollar, cell_of, corner_at, inside_sheet, both_inside, behind_corner, reference_at}
 use Rattle.ds_formula.specs.Functions.{Scope, takes, takes_ranges, function_named}
@@ -313,3 +313,12 @@ pub read_inside : (s : Shape) (text : List ℕ) (p : PlainContent) (c : Cell) �
 read_inside s text p c blank m = absurd m
 read_inside s text p c (constant t z l n e) m = absurd m
 read_inside s text p c (computed t b f r n e q k) m = formed_inside s f c (level_good e.2).formed m
+
+-- a cell of a sheet is one that a formula can name
+pub is_possible : (s : Shape) (c : Cell) → IsInside s c → IsPossible c
+is_possible s c inside =
+    let columns = s.within.columns_to_z in
+    let rows = s.within.rows_to_64 in
+    let column = inside.column in
+    let row = inside.row in
+    record { column = omega arith; row = omega arith }

@@ -1,5 +1,5 @@
 -- How an order is found to go along the references of a sheet.
-use Rattle.std.proofs.Common.{◌≡◌, ◌<◌, ◌≤◌, ◌+◌, ◌*◌, ◌∙◌, ◌⊎◌, ⊎_elim, Bool, true, false, ℕ, suc, zero, List, length, slice_index_or, Some, None, refl, ap, sym, subst, arith, mul-le-mul_right, inl, inr}
+use Rattle.std.proofs.Common.{◌≡◌, ◌<◌, ◌≤◌, ◌+◌, ◌∙◌, ◌⊎◌, ⊎_elim, Bool, true, false, ℕ, suc, zero, List, length, slice_index_or, Some, None, refl, ap, sym, subst, arith, inl, inr}
 use Rattle.std.specs.Prelude.{slice_get, slice_set}
 use Rattle.std.proofs.lemmas.Bool.{cases_Bool, cases_eq}
 use Rattle.std.proofs.lemmas.List.{length-set, get_or-set_same, get_or-set_other}
@@ -7,27 +7,12 @@ use Rattle.ds_formula.specs.declared.cells.Shape.{Shape}
 use Rattle.ds_formula.specs.declared.cells.Cell.{Cell}
 use Rattle.ds_formula.specs.Cells.{IsInside, count_of, index_of}
 use Rattle.ds_formula.specs.Plain.{PlainContent}
-use Rattle.ds_formula.specs.Refs.{Refers, IsPossible, AreRefs}
+use Rattle.ds_formula.specs.Refs.{Refers, AreRefs}
 use Rattle.ds_eval.specs.Scratch.{Walk}
 use Rattle.ds_eval.specs.SheetContents.{contents_of}
 use Rattle.ds_eval.specs.declared.sheet.Sheet.{Sheet}
+use Rattle.ds_eval.proofs.Walks.{index_below}
 use Rattle.ds_order.specs.Along.{ArePlaced, FollowsInputs, GoesAlong, HasInputs, HasInputsBefore, IsAmong, LacksInput, LacksOne, LeadsOn, PlacedBefore, StandsBefore, content_at}
-
--- ---- cells
-
-pub is_possible : (shape : Shape) (cell : Cell) → IsInside shape cell → IsPossible cell
-is_possible shape cell inside =
-    let columns = shape.within.columns_to_z in
-    let rows = shape.within.rows_to_64 in
-    let column = inside.column in
-    let row = inside.row in
-    record { column = omega arith; row = omega arith }
-
-index_below : (shape : Shape) (cell : Cell) → IsInside shape cell → index_of shape cell < count_of shape
-index_below shape cell inside =
-    let column = inside.column in
-    let whole : suc cell.row * shape.columns ≤ shape.rows * shape.columns = mul-le-mul_right shape.columns inside.row in
-    omega arith
 
 -- what is lacking of the references of a content is lacking of the content
 pub lacks_input : (shape : Shape) (content : PlainContent) (references : List Cell) (cells : List Bool) → AreRefs content references → LacksOne shape references cells → LacksInput shape cells content

@@ -146,7 +146,7 @@ pub fn recalculate_in(
 /// a whole one by a process of the sheet.
 ///
 /// It ends as a settle does: by how many cells are marked or held; or by a work whose begin was refused, or that lacked
-/// memory. So it ends too where the memory for the order lacks: then it has done nothing.
+/// memory. It ends as where memory lacks, too, where `planned` has no order: then it has done nothing.
 pub fn recalculate(alloc: Global, world: &mut World, process: usize) -> SettleEnd
     requires { HasProcess world.old process }
     ensures recalculates { Recalculates process world.old result world.new }
