@@ -24,9 +24,6 @@ namespace {
 
 constexpr size_t CELLS = 8, PROCESSES = 8, RECORDS = 256, PARTS = 15, DONE_PARTS = RECORDS / 64;
 
-// Both sides of a word lie beside each other, and 64 bytes after those of the word before it: no two words share a line of a cache.
-constexpr size_t SPREAD = 8;
-
 enum class Class : uint8_t { Stamped, Bit, Owned };
 
 struct Entry {
@@ -39,7 +36,7 @@ enum class End { Done, Overtaken, NotDirty, Missed, Published, Again, Settled, U
 
 class Sheet {
   public:
-    Sheet() : words(new std::atomic<uint64_t>[SPREAD * WORDS]()) {}
+    Sheet() : words(new std::atomic<uint64_t>[at(WORDS)]()) {}
 
     class Process {
       public:
@@ -192,14 +189,18 @@ class Sheet {
                             WORDS = DONE + PROCESSES * DONE_PARTS;
     std::unique_ptr<std::atomic<uint64_t>[]> words;
 
-    uint64_t load(size_t place) { return words[SPREAD * place].load(); }
-    void store(size_t place, uint64_t value) { words[SPREAD * place].store(value); }
-    void add(size_t place, uint64_t bits) { words[SPREAD * place].fetch_or(bits); }
-    bool swap(size_t place, uint64_t expected, uint64_t value) { return words[SPREAD * place].compare_exchange_strong(expected, value); }
+    // Both sides of a word lie beside each other. The words before the records lie 64 bytes apart, no two in a line of a cache;
+    // those of records, to which one process stores, follow one on the other.
+    static constexpr size_t at(size_t place) { return place < HEADERS ? 8 * place : 6 * HEADERS + 2 * place; }
+
+    uint64_t load(size_t place) { return words[at(place)].load(); }
+    void store(size_t place, uint64_t value) { words[at(place)].store(value); }
+    void add(size_t place, uint64_t bits) { words[at(place)].fetch_or(bits); }
+    bool swap(size_t place, uint64_t expected, uint64_t value) { return words[at(place)].compare_exchange_strong(expected, value); }
 
     // a write-back never makes a word older
     void persist(const Entry &entry) {
-        std::atomic<uint64_t> &side = words[SPREAD * entry.place + 1];
+        std::atomic<uint64_t> &side = words[at(entry.place) + 1];
         if (entry.kind == Class::Owned) {
             side.store(entry.value);
         } else if (entry.kind == Class::Bit) {

@@ -9,6 +9,7 @@ use Rattle.ds_layout.specs.SheetMemory.{memory_at}
 use Rattle.ds_words.specs.Memory.{Memory}
 use Rattle.ds_state.specs.Shown.{mark_at, value_at}
 use Rattle.pm_board.specs.Table.{two_sided}
+use Rattle.ds_structure.specs.Sheet.{apart_of}
 use Rattle.ds_shared.specs.declared.sheet.ClosedSheet.{ClosedSheet}
 use Rattle.ds_shared_seats.specs.Resting.{Crashes, IsTextIn}
 use Rattle.ds_shared_seats.specs.declared.resting.RestingSheet.{RestingSheet}
@@ -22,7 +23,7 @@ use Rattle.ds_c.specs.Rows.{mark_row, size_row, value_row}
 
 -- what the words of a closed sheet hold
 abbrev pub words_in : ClosedSheet → Memory Place
-words_in c = memory_at c.layout (two_sided (slots_items c.words.table.words) (λ q. []))
+words_in c = memory_at c.layout (two_sided (apart_of c.layout) (slots_items c.words.table.words) (λ q. []))
 
 -- the row says how large the sheet is, which stays
 abbrev pub ClosedSize : RestingSheet → SizeRow → RestingSheet → Type 0

@@ -16,12 +16,12 @@ use Rattle.ds_state.proofs.LastText.{text_at_head, text_without_head}
 use Rattle.ds_state.proofs.ReadBack.{record_read}
 use Rattle.pm_board.specs.Rule.{Witness, world_on}
 use Rattle.pm_board.specs.Table.{two_sided}
-use Rattle.ds_structure.specs.Sheet.{plain, sheet}
+use Rattle.ds_structure.specs.Sheet.{apart_of, plain, sheet}
 use Rattle.ds_structure.specs.declared.sheet.SheetKey.{SheetKey}
 
 -- the words of a closed sheet by their places
 abbrev pub closed_in : Layout → List ℕ → Memory Place
-closed_in layout words = memory_at layout (two_sided words (λ q. []))
+closed_in layout words = memory_at layout (two_sided (apart_of layout) words (λ q. []))
 
 module _ (key : SheetKey) (words : List ℕ) (cell : ℕ) (b : Witness sheet key) (s : IsSound (plain key (world_on sheet key words b))) where
   abbrev layout : Layout

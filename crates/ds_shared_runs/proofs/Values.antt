@@ -1,5 +1,5 @@
 -- A tidy plain world is that of a value.
-use Rattle.std.proofs.Common.{ℕ, ◌≡◌, ◌*◌, ◌+◌, ◌<◌, ◌≤◌, Bool, true, false, List, [], ◌∷◌, length, get_or, map, refl, sym, ap, ◌∙◌, zero, suc, arith, inl, inr}
+use Rattle.std.proofs.Common.{ℕ, ◌≡◌, ◌<◌, ◌≤◌, Bool, true, false, List, [], ◌∷◌, length, get_or, map, refl, sym, ap, ◌∙◌, zero, suc, arith, inl, inr}
 use Rattle.std.specs.Prelude.{if◌then◌else◌, None}
 use Rattle.std.proofs.lemmas.Bool.Decides.{leb_tells}
 use Rattle.ds_words.specs.Words.{WordsValue, word_at, buffer_of, memory_of, zero_word}
@@ -15,7 +15,7 @@ use Rattle.ds_state.specs.Reports.{PlainReports}
 use Rattle.ds_state.specs.World.{PlainWorld}
 use Rattle.ds_state.specs.Value.{WorldValue, world_of, first_rest}
 use Rattle.ds_state.specs.declared.situation.Situation.TheVariants.{Idle}
-use Rattle.pm_board.specs.Table.{two_sided}
+use Rattle.pm_board.specs.Table.{two_sided, cached_at, persisted_at}
 use Rattle.ds_shared_runs.specs.History.{IsTidy}
 
 -- the first n values of a function
@@ -55,7 +55,7 @@ side_within layout f g h r = same_if (is_place layout r) (f (number_of layout r)
 
 -- both sides of the word with this number
 abbrev pub both_sides : List ℕ → ℕ → Word
-both_sides words n = record { cached = get_or words (8 * n) 0; persisted = get_or words (8 * n + 1) 0 }
+both_sides words n = record { cached = get_or words (cached_at 0 n) 0; persisted = get_or words (persisted_at 0 n) 0 }
 
 abbrev pub words_on : Layout → List ℕ → (ℕ → List (BufferEntry ℕ)) → WordsValue
 words_on layout words buffer = record { classes = []; words = tab (both_sides words) (words_of layout); buffers = tab buffer layout.processes }
@@ -73,11 +73,11 @@ value_on w t done settled reports = record {
 }
 
 module _ (layout : Layout) (words : List ℕ) (buffer : ℕ → List (BufferEntry ℕ)) (far : (q : ℕ) → layout.processes ≤ q → buffer q ≡ []) where
-  cached : (r : Place) → side_at layout (memory_of (words_on layout words buffer)).cached r ≡ side_at layout (two_sided words buffer).cached r
+  cached : (r : Place) → side_at layout (memory_of (words_on layout words buffer)).cached r ≡ side_at layout (two_sided 0 words buffer).cached r
   unfolding word_at
   cached = side_within layout _ _ (λ n low. ap (λ (z : Word). z.cached) (tab_low (both_sides words) (words_of layout) zero_word n low))
 
-  persisted : (r : Place) → side_at layout (memory_of (words_on layout words buffer)).persisted r ≡ side_at layout (two_sided words buffer).persisted r
+  persisted : (r : Place) → side_at layout (memory_of (words_on layout words buffer)).persisted r ≡ side_at layout (two_sided 0 words buffer).persisted r
   unfolding word_at
   persisted = side_within layout _ _ (λ n low. ap (λ (z : Word). z.persisted) (tab_low (both_sides words) (words_of layout) zero_word n low))
 
@@ -85,7 +85,7 @@ module _ (layout : Layout) (words : List ℕ) (buffer : ℕ → List (BufferEntr
   unfolding buffer_of
   buffers q = ap (map (entry_at layout)) (tab_all buffer layout.processes [] far q)
 
-  pub memory_is : memory_at layout (memory_of (words_on layout words buffer)) ≡ memory_at layout (two_sided words buffer)
+  pub memory_is : memory_at layout (memory_of (words_on layout words buffer)) ≡ memory_at layout (two_sided 0 words buffer)
   memory_is = λ i. record { cached = λ r. cached r i; persisted = λ r. persisted r i; buffer = λ q. buffers q i }
 
 pub value_is : (w : PlainWorld) (t : IsTidy w) (done settled : ℕ) (reports : PlainReports) → world_of (value_on w t done settled reports) ≡ w

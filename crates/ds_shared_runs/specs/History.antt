@@ -118,7 +118,7 @@ Run first (h ∷ hs) last = Moves h.before h.event h.reply last × Run first hs 
 pub record IsTidy (w : PlainWorld) : Type 0 where
   pub words : List ℕ
   pub buffer : ℕ → List (BufferEntry ℕ)
-  pub memory : w.memory ≡ memory_at w.layout (two_sided words buffer)
+  pub memory : w.memory ≡ memory_at w.layout (two_sided 0 words buffer)
   pub buffers : (q : ℕ) → w.layout.processes ≤ q → buffer q ≡ []
   pub situations : (q : ℕ) → w.layout.processes ≤ q → w.situation q ≡ Idle first_rest
   pub open_edits : (q : ℕ) → w.layout.processes ≤ q → w.open_edits q ≡ None

@@ -10,7 +10,7 @@ use Rattle.ds_state.specs.World.{of_cell}
 use Rattle.pm_base.specs.Structures.{In}
 use Rattle.pm_board.specs.Rule.{Witness, HasSideLeft, world_on}
 use Rattle.pm_board.specs.Views.{past_of}
-use Rattle.ds_structure.specs.Sheet.{plain, sheet}
+use Rattle.ds_structure.specs.Sheet.{apart_of, plain, sheet}
 use Rattle.ds_structure_shared.specs.Boards.{SheetSeated}
 use Rattle.ds_shared.specs.declared.sheet.ClosedSheet.{ClosedSheet}
 use Rattle.ds_shared_seats.specs.declared.fault.Fault.{Fault}
@@ -29,7 +29,7 @@ is_chosen choice n = if slice_index_or choice n 0 == 0 then false else true
 pub record Crashes (choice : List ℕ) (old new : ClosedSheet) : Type 0 where
   pub layout : new.layout ≡ old.layout
   pub before : past_of new.words.before ≡ past_of old.words.before
-  pub words : (n : ℕ) → n < words_of old.layout → HasSideLeft (is_chosen choice n) (slots_items old.words.table.words) (slots_items new.words.table.words) n
+  pub words : (n : ℕ) → n < words_of old.layout → HasSideLeft (apart_of old.layout) (is_chosen choice n) (slots_items old.words.table.words) (slots_items new.words.table.words) n
 
 -- why a crash is not made: the choice is too short, or an allocation failed
 abbrev pub CanNotCrash : List ℕ → ClosedSheet → Fault → Type 0

@@ -48,6 +48,7 @@ impl RestingSheet {
     ghost use Rattle.ds_layout.specs.SheetMemory.{memory_at};
     ghost use Rattle.ds_state.specs.Shown.{mark_at, value_at};
     ghost use Rattle.pm_board.specs.Table.{two_sided};
+    ghost use Rattle.ds_structure.specs.Sheet.{apart_of};
     ghost use Rattle.ds_shared.specs.Answers.{opened_with};
     ghost use Rattle.ds_shared.specs.Known.{past_in};
     ghost use Rattle.pm_board.specs.Views.{past_of};
@@ -93,7 +94,7 @@ impl RestingSheet {
 
     /// The value of a cell, as its words show it. An error is that the sheet has no such cell.
     pub fn value_of(&self, cell: Cell) -> Result<Value, Fault>
-        ensures ok { IfOk result (λ v. IsInside self.now.sheet.layout.shape cell × (v ≡ value_at self.now.sheet.layout (memory_at self.now.sheet.layout (two_sided (slots_items self.now.sheet.words.table.words) (λ q. []))) (index_of self.now.sheet.layout.shape cell))) }
+        ensures ok { IfOk result (λ v. IsInside self.now.sheet.layout.shape cell × (v ≡ value_at self.now.sheet.layout (memory_at self.now.sheet.layout (two_sided (apart_of self.now.sheet.layout) (slots_items self.now.sheet.words.table.words) (λ q. []))) (index_of self.now.sheet.layout.shape cell))) }
         ensures err { IfErr result (LacksCellIn self.now.sheet cell) }
     {
         if self.layout().shape.contains(cell) {
@@ -105,7 +106,7 @@ impl RestingSheet {
 
     /// The mark of a cell. An error is that the sheet has no such cell.
     pub fn mark_of(&self, cell: Cell) -> Result<Mark, Fault>
-        ensures ok { IfOk result (λ m. IsInside self.now.sheet.layout.shape cell × (m ≡ mark_at self.now.sheet.layout (memory_at self.now.sheet.layout (two_sided (slots_items self.now.sheet.words.table.words) (λ q. []))) (index_of self.now.sheet.layout.shape cell))) }
+        ensures ok { IfOk result (λ m. IsInside self.now.sheet.layout.shape cell × (m ≡ mark_at self.now.sheet.layout (memory_at self.now.sheet.layout (two_sided (apart_of self.now.sheet.layout) (slots_items self.now.sheet.words.table.words) (λ q. []))) (index_of self.now.sheet.layout.shape cell))) }
         ensures err { IfErr result (LacksCellIn self.now.sheet cell) }
     {
         if self.layout().shape.contains(cell) {

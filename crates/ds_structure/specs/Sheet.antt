@@ -176,11 +176,17 @@ pub data CallSteps (key : SheetKey) (p : ℕ) (now : Situation) (access : Access
   steps_show : StepsOf shows key p now access answer after says → CallSteps key p now access answer after says
   steps_recovery : StepsOf recoveries key p now access answer after says → CallSteps key p now access answer after says
 
+-- how many words lie apart: all before the records of the processes. To a record its own process alone stores, but for
+-- help with done bits
+abbrev pub apart_of : Layout → ℕ
+apart_of layout = number_of layout (place.Header 0 0)
+
 -- a sheet: at first each process is idle and begins with its edit 0, in the second layout
 abbrev pub sheet : Structure SheetKey Situation Response
 sheet = record {
   Hidden = Ledger;
   words = λ key. words_of key.layout;
+  apart = λ key. apart_of key.layout;
   class_in = λ key n. if nat_lt n (words_of key.layout) then class_of (place_of key.layout n) else Owned;
   first_word = λ key n. if n == number_of key.layout place.Version then 1 else 0;
   processes = λ key. key.layout.processes;

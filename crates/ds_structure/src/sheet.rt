@@ -12,12 +12,14 @@ use ds_state::situation::Situation;
 use ds_words::access::{Access, Class};
 use pm_base::machine::Structured;
 
-/// Where words of another class begin, by the numbers of words.
+/// Where the version's word is, and where words of another class and records begin, by the numbers of words.
 #[derive(Clone, Copy)]
 pub struct Bounds {
+    version: usize,
     values: usize,
     rows: usize,
     announcements: usize,
+    records: usize,
     done: usize,
     texts: usize,
 }
@@ -46,9 +48,14 @@ fn bounds_of(layout: &Layout) -> Bounds
         part: 0,
     };
     Bounds {
+        version: layout.number(Place::Version),
         values: layout.number(Place::Value(0)),
         rows: layout.number(Place::Kind(0)) + layout.cells(),
         announcements: layout.number(Place::Announce(0)),
+        records: layout.number(Place::Header {
+            process: 0,
+            number: 0,
+        }),
         done: layout.number(Place::Done {
             process: 0,
             part: 0,
@@ -156,8 +163,12 @@ impl Structured for Sheet {
         key.layout.words()
     }
 
+    fn apart(key: &SheetKey) -> usize {
+        key.bounds.records
+    }
+
     fn first_word(key: &SheetKey, word: usize) -> u64 {
-        if word == key.layout.number(Place::Version) {
+        if word == key.bounds.version {
             1
         } else {
             0

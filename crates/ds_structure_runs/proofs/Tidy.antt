@@ -11,6 +11,8 @@ use Rattle.ds_layout.specs.SheetMemory.{is_place, side_at, memory_at}
 use Rattle.ds_layout.proofs.Places.{number_of_below}
 use Rattle.ds_layout.proofs.Sheet.{IsPlace-is_place}
 use Rattle.ds_words.specs.Memory.{Memory}
+use Rattle.pm_board.specs.Table.{cached_at, persisted_at}
+use Rattle.pm_board.proofs.Sides.{lies_beside}
 use Rattle.ds_structure.specs.Sheet.{SheetWorld, plain}
 use Rattle.ds_structure.specs.declared.sheet.SheetKey.{SheetKey}
 use Rattle.ds_structure_runs.specs.Runs.{core_world}
@@ -21,24 +23,26 @@ pub record IsBare (key : SheetKey) (w : SheetWorld) : Type 0 where
   pub buffers : (q : ℕ) → key.layout.processes ≤ q → w.memory.buffer q ≡ []
   pub open_edits : (q : ℕ) → key.layout.processes ≤ q → w.hidden.open_edits q ≡ None
 
--- the table's word with this number
+-- the table's word with this number, where one word follows on the other
 abbrev word_at : Memory ℕ → ℕ → ℕ
-word_at m i = if i % 8 == 0 then m.cached (i / 8) else m.persisted (i / 8)
+word_at m i = if i % 2 == 0 then m.cached (i / 2) else m.persisted (i / 2)
 
 abbrev table : ℕ → Memory ℕ → List ℕ
-table count m = map (word_at m) (range_with_len 0 (8 * count))
+table count m = map (word_at m) (range_with_len 0 (2 * count))
 
-cached_there : (count : ℕ) (m : Memory ℕ) (n : ℕ) → n < count → slice_index (table count m) (8 * n) ≡ m.cached n
+cached_there : (count : ℕ) (m : Memory ℕ) (n : ℕ) → n < count → slice_index (table count m) (cached_at 0 n) ≡ m.cached n
 cached_there count m n low =
-    let at : 8 * n / 8 ≡ n = omega arith in
-    get_or-map-range_with_len (word_at m) 0 (8 * count) (8 * n) (8 * n) 0 (omega arith) (let e : 0 + 8 * n ≡ 8 * n = omega arith in e)
-    ∙ ap (λ (b : Bool). if b then m.cached (8 * n / 8) else m.persisted (8 * n / 8)) (eq-eqb (8 * n % 8) 0 (omega arith)) ∙ ap m.cached at
+    let at : 2 * n / 2 ≡ n = omega arith in
+    ap (λ (i : ℕ). slice_index (table count m) i) (let is = lies_beside 0 n (omega arith) in let here : cached_at 0 n ≡ 2 * n = omega (arith, is) in here)
+    ∙ get_or-map-range_with_len (word_at m) 0 (2 * count) (2 * n) (2 * n) 0 (omega arith) (let e : 0 + 2 * n ≡ 2 * n = omega arith in e)
+    ∙ ap (λ (b : Bool). if b then m.cached (2 * n / 2) else m.persisted (2 * n / 2)) (eq-eqb (2 * n % 2) 0 (omega arith)) ∙ ap m.cached at
 
-persisted_there : (count : ℕ) (m : Memory ℕ) (n : ℕ) → n < count → slice_index (table count m) (8 * n + 1) ≡ m.persisted n
+persisted_there : (count : ℕ) (m : Memory ℕ) (n : ℕ) → n < count → slice_index (table count m) (persisted_at 0 n) ≡ m.persisted n
 persisted_there count m n low =
-    let at : (8 * n + 1) / 8 ≡ n = omega arith in
-    get_or-map-range_with_len (word_at m) 0 (8 * count) (8 * n + 1) (8 * n + 1) 0 (omega arith) (let e : 0 + (8 * n + 1) ≡ 8 * n + 1 = omega arith in e)
-    ∙ ap (λ (b : Bool). if b then m.cached ((8 * n + 1) / 8) else m.persisted ((8 * n + 1) / 8)) (ne_eqb ((8 * n + 1) % 8) 0 (λ e. omega arith)) ∙ ap m.persisted at
+    let at : (2 * n + 1) / 2 ≡ n = omega arith in
+    ap (λ (i : ℕ). slice_index (table count m) i) (let is = lies_beside 0 n (omega arith) in let here : persisted_at 0 n ≡ 2 * n + 1 = omega (arith, is) in here)
+    ∙ get_or-map-range_with_len (word_at m) 0 (2 * count) (2 * n + 1) (2 * n + 1) 0 (omega arith) (let e : 0 + (2 * n + 1) ≡ 2 * n + 1 = omega arith in e)
+    ∙ ap (λ (b : Bool). if b then m.cached ((2 * n + 1) / 2) else m.persisted ((2 * n + 1) / 2)) (ne_eqb ((2 * n + 1) % 2) 0 (λ e. omega arith)) ∙ ap m.persisted at
 
 if_same : (b : Bool) (x y : ℕ) → (b ≡ true → x ≡ y) → (if b then x else 0) ≡ (if b then y else 0)
 if_same true x y h = h refl
@@ -54,8 +58,8 @@ tidy key w bare = record {
   words = table (words_of key.layout) w.memory;
   buffer = w.memory.buffer;
   memory = λ i. record {
-    cached = λ r. side_in key.layout w.memory.cached (λ n. slice_index (table (words_of key.layout) w.memory) (8 * n)) (λ n low. sym (cached_there (words_of key.layout) w.memory n low)) r i;
-    persisted = λ r. side_in key.layout w.memory.persisted (λ n. slice_index (table (words_of key.layout) w.memory) (8 * n + 1)) (λ n low. sym (persisted_there (words_of key.layout) w.memory n low)) r i;
+    cached = λ r. side_in key.layout w.memory.cached (λ n. slice_index (table (words_of key.layout) w.memory) (cached_at 0 n)) (λ n low. sym (cached_there (words_of key.layout) w.memory n low)) r i;
+    persisted = λ r. side_in key.layout w.memory.persisted (λ n. slice_index (table (words_of key.layout) w.memory) (persisted_at 0 n)) (λ n low. sym (persisted_there (words_of key.layout) w.memory n low)) r i;
     buffer = (memory_at key.layout w.memory).buffer;
   };
   buffers = bare.buffers;

@@ -1,5 +1,5 @@
 -- Boards of sheets, and what their seats know.
-use Rattle.std.specs.Prelude.{ℕ, ◌+◌, ◌*◌, List, replicate, slice_set}
+use Rattle.std.specs.Prelude.{ℕ, List, replicate, slice_set}
 use Rattle.atomic_table.specs.declared.shared.Seat.{Seat}
 use Rattle.ds_layout.specs.declared.layout.Layout.{Layout}
 use Rattle.ds_layout.specs.declared.place.Place.TheVariants.{Version}
@@ -8,9 +8,11 @@ use Rattle.ds_state.specs.declared.situation.Situation.{Situation}
 use Rattle.ds_state.specs.declared.situation.Situation.TheVariants.{Stopped}
 use Rattle.pm_base.specs.declared.history.Deed.{Deed}
 use Rattle.pm_base.specs.declared.history.Entry.{Entry}
+use Rattle.pm_board.specs.Table.{cached_at, persisted_at}
 use Rattle.pm_board.specs.Views.{first_in}
 use Rattle.pm_board.specs.declared.board.Seated.{Seated}
 use Rattle.pm_board.specs.declared.board.View.{View}
+use Rattle.ds_structure.specs.Sheet.{apart_of}
 use Rattle.ds_structure.specs.declared.response.Response.{Response}
 
 -- what a seat of a sheet knows
@@ -39,4 +41,4 @@ sole s = first_in Stopped s.me.0.entries
 
 -- the words of the table of a new sheet: both sides of the version's word say the second layout, all others are 0
 abbrev pub new_words : Layout → List ℕ
-new_words layout = slice_set (slice_set (replicate (8 * words_of layout) 0) (8 * number_of layout Version) 1) (8 * number_of layout Version + 1) 1
+new_words layout = slice_set (slice_set (replicate (cached_at (apart_of layout) (words_of layout)) 0) (cached_at (apart_of layout) (number_of layout Version)) 1) (persisted_at (apart_of layout) (number_of layout Version)) 1

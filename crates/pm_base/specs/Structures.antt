@@ -25,7 +25,8 @@ pub record World (S H : Type 0) : Type 0 where
   pub hidden : H
 
 -- a structure, by its layout K, by what a process does, S, and by what it is answered, T.
--- Of words: how many there are, the class of each, and what each is at first, on both sides.
+-- Of words: how many there are, how many of the first ones share no line of a cache, the class of each, and what each is
+-- at first, on both sides.
 -- Of processes: how many there are, what each does at first, and what each does after a stop or a crash.
 -- Of calls: whether a process that does the one thing may begin the other; and whether it may make this access, and,
 -- answered with this number, go on to the other thing and be answered this.
@@ -34,6 +35,7 @@ pub record World (S H : Type 0) : Type 0 where
 pub record Structure (K S T : Type 0) : Type 1 where
   pub Hidden : Type 0
   pub words : K → ℕ
+  pub apart : K → ℕ
   pub class_in : K → ℕ → Class
   pub first_word : K → ℕ → ℕ
   pub processes : K → ℕ

@@ -22,6 +22,13 @@ pub trait Structured {
         requires { structure.words key.now < 2 ^ 28 }
         ensures { result ≡ structure.words key.now };
 
+    /// How many of the first words share no line of a cache with another one: those that several processes store to. A word
+    /// behind them lies beside the next one, which costs a quarter of the memory: what one process alone stores to, but for
+    /// write-backs and help, suits that.
+    fn apart(key: &Self::Key) -> usize
+        requires { structure.words key.now < 2 ^ 28 }
+        ensures { result ≡ structure.apart key.now };
+
     /// What a word is at first, on both sides.
     fn first_word(key: &Self::Key, word: usize) -> u64
         requires { word < structure.words key.now }

@@ -12,7 +12,7 @@ use Rattle.pm_base.proofs.Lists.{in_append}
 use Rattle.pm_base.proofs.Puts.{put_here, put_else}
 use Rattle.pm_board.specs.declared.board.Seated.{Seated}
 use Rattle.pm_board.specs.declared.board.View.{View}
-use Rattle.pm_board.specs.Table.{two_sided}
+use Rattle.pm_board.specs.Table.{two_sided, cached_at, persisted_at}
 use Rattle.pm_board.specs.Views.{lone, newcomer, newcomers_from, first_now, first_seen, first_view, whole_view, RunsFrom, seen_so_far, headed, tailed, united, nobody, bygone, HasRest}
 use Rattle.pm_board.specs.Rule.{Witness, Start, IsOrigin, all_of, HasSeen, IsPast, world_on, Fits, AreTrue, AreFirst, Ruled, Closes}
 use Rattle.pm_board.proofs.Histories.{run_all, seen_all}
@@ -182,7 +182,7 @@ module _ {K S T : Type 0} (s : Structure K S T) (key : K) where
 
   -- a table opens with a world to which a run leads, in which each process does the same and has flushed nothing, and what
   -- is remembered is what happened
-  pub opens : (words : List ℕ) (b : Witness s key) (stopped : Bool) (past : List (Seated S T)) → Run s key b.origin.opened b.happened (world_on s key words b) → IsOrigin s key b.origin → (stopped ≡ false → all_of s key b ≡ []) → length words ≡ 8 * s.words key
+  pub opens : (words : List ℕ) (b : Witness s key) (stopped : Bool) (past : List (Seated S T)) → Run s key b.origin.opened b.happened (world_on s key words b) → IsOrigin s key b.origin → (stopped ≡ false → all_of s key b ≡ []) → length words ≡ cached_at (s.apart key) (s.words key)
       → ((p : ℕ) → p < s.processes key → b.situation p ≡ first_now s stopped) → ((p : ℕ) → p < s.processes key → b.buffer p ≡ []) → AreTrue s key b past
       → Ruled s key {X = ℕ} (record { stopped = stopped; words = words }) (opening words [] (first_view s key stopped past))
   opens words b stopped past run from made long now buffer true_then = record {
@@ -223,7 +223,7 @@ module _ {K S T : Type 0} (s : Structure K S T) (key : K) where
 
   -- the world of a new structure with these words
   first_on : List ℕ → World S s.Hidden
-  first_on words = first_world s key (two_sided words (λ p. []))
+  first_on words = first_world s key (two_sided (s.apart key) words (λ p. []))
 
   blank : List ℕ → Witness s key
   blank words = record { situation = λ p. s.first; buffer = λ p. []; hidden = s.first_hidden key; origin = record { first = first_on words; older = []; opened = first_on words }; happened = [] }
@@ -233,7 +233,7 @@ module _ {K S T : Type 0} (s : Structure K S T) (key : K) where
   unfolding blank first_on
   opens_new words first =
       let b : Witness s key = blank words in
-      let memory : IsFirst s key (two_sided words (λ p. [])) = record { cached = first.cached; persisted = first.persisted; buffer = λ q. refl } in
+      let memory : IsFirst s key (two_sided (s.apart key) words (λ p. [])) = record { cached = λ r low. first.sides (cached_at (s.apart key) r) r low (inl refl); persisted = λ r low. first.sides (persisted_at (s.apart key) r) r low (inr refl); buffer = λ q. refl } in
       opens words b false [] refl (record { new = record { memory = memory; is = refl }; run = refl }) (λ new_one. refl) first.long (λ p low. refl) (λ p low. refl) (λ x none. absurd none)
 
   cut_from : (now : S) (seen : Option (List (Entry S T))) (p processes n : ℕ) (past : List (Seated S T)) → p < processes → p + n ≡ processes → Cut s now seen p processes past (record { entries = newcomers_from now seen p n; past = past })

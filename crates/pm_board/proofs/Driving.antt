@@ -1,33 +1,34 @@
 -- The words of an access lie on the table; fuses.
-use Rattle.std.proofs.Common.{ℕ, ◌≡◌, ◌+◌, ◌*◌, ◌<◌, List, [], ◌∷◌, length, arith, subst}
+use Rattle.std.proofs.Common.{ℕ, ◌≡◌, ◌+◌, ◌<◌, List, [], ◌∷◌, length, arith, subst}
 use Rattle.ds_words.specs.declared.access.BufferEntry.{BufferEntry}
 use Rattle.ds_words.specs.declared.access.Access.{Access}
 use Rattle.ds_words.specs.declared.access.Access.TheVariants.{Nothing, Load, Store, Or, SwapIf, Flush, Back}
 use Rattle.pm_base.specs.Structures.{Serves}
 use Rattle.pm_board.specs.Fuses.{Asked}
-use Rattle.pm_board.specs.Table.{word_of, oldest_of, HasRoom}
+use Rattle.pm_board.specs.Table.{cached_at, word_of, oldest_of, HasRoom}
+use Rattle.pm_board.proofs.Sides.{before, positive}
 use Rattle.pm_board.proofs.Words.{IsThere}
 
 -- where an access is served, the table has its words
-pub there : (words : List ℕ) (count : ℕ) (a : Access ℕ) (x : List (BufferEntry ℕ)) → length words ≡ 8 * count → Serves count a x → IsThere words a x
-there words count Nothing x long h = tt
-there words count (Load r) x long h = omega arith
-there words count (Store r v) x long h = omega arith
-there words count (Or r k) x long h = omega arith
-there words count (SwapIf r o v) x long h = omega arith
-there words count (Flush r) x long h = (let l = h.0 in omega arith)
-there words count Back [] long h = absurd h
-there words count Back (y ∷ x) long h = omega arith
+pub there : (apart : ℕ) (words : List ℕ) (count : ℕ) (a : Access ℕ) (x : List (BufferEntry ℕ)) → length words ≡ cached_at apart count → Serves count a x → IsThere apart words a x
+there apart words count Nothing x long h = tt
+there apart words count (Load r) x long h = (let b = before apart r count h in omega arith)
+there apart words count (Store r v) x long h = (let b = before apart r count h in omega arith)
+there apart words count (Or r k) x long h = (let b = before apart r count h in omega arith)
+there apart words count (SwapIf r o v) x long h = (let b = before apart r count h in omega arith)
+there apart words count (Flush r) x long h = (let b = before apart r count h.0 in omega arith)
+there apart words count Back [] long h = absurd h
+there apart words count Back (y ∷ x) long h = (let b = before apart y.place count h in omega arith)
 
-pub within : (words count : ℕ) (a : Access ℕ) (x : List (BufferEntry ℕ)) → 0 < words → Serves words a x → count ≡ 8 * words → word_of a (oldest_of x) < count
-within words count Nothing x some s is = omega arith
-within words count (Load n) x some s is = omega arith
-within words count (Store n v) x some s is = omega arith
-within words count (Or n k) x some s is = omega arith
-within words count (SwapIf n o v) x some s is = omega arith
-within words count (Flush n) x some s is = (let l = s.0 in omega arith)
-within words count Back [] some s is = absurd s
-within words count Back (y ∷ x) some s is = omega arith
+pub within : (apart words count : ℕ) (a : Access ℕ) (x : List (BufferEntry ℕ)) → 0 < words → Serves words a x → count ≡ cached_at apart words → word_of apart a (oldest_of x) < count
+within apart words count Nothing x some s is = (let b = positive apart words some in omega arith)
+within apart words count (Load n) x some s is = (let b = before apart n words s in omega arith)
+within apart words count (Store n v) x some s is = (let b = before apart n words s in omega arith)
+within apart words count (Or n k) x some s is = (let b = before apart n words s in omega arith)
+within apart words count (SwapIf n o v) x some s is = (let b = before apart n words s in omega arith)
+within apart words count (Flush n) x some s is = (let b = before apart n words s.0 in omega arith)
+within apart words count Back [] some s is = absurd s
+within apart words count Back (y ∷ x) some s is = (let b = before apart y.place words s in omega arith)
 
 pub room : (words : ℕ) (a : Access ℕ) (x : List (BufferEntry ℕ)) → Serves words a x → HasRoom a x
 room words Nothing x s = tt

@@ -1,3 +1,4 @@
+pub mod Sides
 pub mod Words
 pub mod Histories
 pub mod Seating

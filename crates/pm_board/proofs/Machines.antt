@@ -19,7 +19,7 @@ use Rattle.pm_base.proofs.Puts.{put_here, put_else}
 use Rattle.pm_board.specs.declared.board.Deeds.{Deeds}
 use Rattle.pm_board.specs.declared.board.Seated.{Seated}
 use Rattle.pm_board.specs.declared.board.View.{View}
-use Rattle.pm_board.specs.Table.{two_sided, word_of, change, answer, reported, oldest_of, buffer_after}
+use Rattle.pm_board.specs.Table.{two_sided, cached_at, word_of, change, answer, reported, oldest_of, buffer_after}
 use Rattle.pm_board.specs.Views.{lone, seated, one_step_later, deeds_at, deeds_in, seen_so_far}
 use Rattle.pm_board.specs.Rule.{Origin, OpensWith, Start, IsOrigin, Witness, world_on, all_of, HasSeen, Fits, Ruled, After}
 use Rattle.pm_board.specs.Machines.{answered_so, Grows, Ran, still, steps, stepped, left, MayStep, MayBegin, Landed, due, IsIn, Drives, unbegun, under_way, Settles, Breaks, before_all, within}
@@ -147,10 +147,10 @@ module _ {K S T C E : Type 0} (s : Structure K S T) (c : Calls K S T C E) (key :
   ]
 
   abbrev read : List ℕ → C → List (BufferEntry ℕ) → ℕ
-  read words call x = get_or words (word_of (c.access key call) (oldest_of x)) 0
+  read words call x = get_or words (word_of (s.apart key) (c.access key call) (oldest_of x)) 0
 
   abbrev written : List ℕ → C → List (BufferEntry ℕ) → List ℕ
-  written words call x = set words (word_of (c.access key call) (oldest_of x)) (change (c.access key call) (oldest_of x) (read words call x))
+  written words call x = set words (word_of (s.apart key) (c.access key call) (oldest_of x)) (change (c.access key call) (oldest_of x) (read words call x))
 
   abbrev answered : List ℕ → C → List (BufferEntry ℕ) → ℕ
   answered words call x = answer (c.access key call) (read words call x)
@@ -163,14 +163,14 @@ module _ {K S T C E : Type 0} (s : Structure K S T) (c : Calls K S T C E) (key :
     witness : Witness s key
     after : After s key words (written words call x) b witness (c.process call) (c.doing (c.next call (answered words call x))) (kept_back words call x) (answered_so (c.says (c.next call (answered words call x))))
 
-  take : (words : List ℕ) (b : Witness s key) (call : C) (x : List (BufferEntry ℕ)) → length words ≡ 8 * s.words key → s.sound key (world_on s key words b) → c.process call < s.processes key
+  take : (words : List ℕ) (b : Witness s key) (call : C) (x : List (BufferEntry ℕ)) → length words ≡ cached_at (s.apart key) (s.words key) → s.sound key (world_on s key words b) → c.process call < s.processes key
       → b.situation (c.process call) ≡ c.doing call → b.buffer (c.process call) ≡ x → c.fits key call → c.goes call → Took words b call x
   take words b call x long sound low at same fits go =
       let p : ℕ = c.process call in
       let a : Access ℕ = c.access key call in
       let w : World S s.Hidden = world_on s key words b in
       let served : Serves (s.words key) a x = subst (Serves (s.words key) a) same (calls.serves w call sound low at fits go) in
-      let memory : Memory ℕ = two_sided (written words call x) (put b.buffer p (kept_back words call x)) in
+      let memory : Memory ℕ = two_sided (s.apart key) (written words call x) (put b.buffer p (kept_back words call x)) in
       let now : S = c.doing (c.next call (answered words call x)) in
       let says : List T = c.says (c.next call (answered words call x)) in
       let takes : s.steps key p (b.situation p) a (answered words call x) now says = subst (λ (z : S). s.steps key p z a (answered words call x) now says) (sym at) (calls.steps call (answered words call x) fits go) in
@@ -185,7 +185,7 @@ module _ {K S T C E : Type 0} (s : Structure K S T) (c : Calls K S T C E) (key :
           origin = refl;
           more = h ∷ [];
           happened = refl;
-          run = (record { low = low; access = a; answer = answered words call x; now = now; takes = takes; performs = performs (s.class_in key) p words b.buffer a x same (there words (s.words key) a x long served); lands = refl }, refl);
+          run = (record { low = low; access = a; answer = answered words call x; now = now; takes = takes; performs = performs (s.apart key) (s.class_in key) p words b.buffer a x same (there (s.apart key) words (s.words key) a x long served); lands = refl }, refl);
           own = append-nil _ ∙ deed_own p (answered_so says);
           others_quiet = λ q ne. append-nil _ ∙ deed_else p q (answered_so says) ne;
         };
@@ -250,7 +250,7 @@ module _ {K S T C E : Type 0} (s : Structure K S T) (c : Calls K S T C E) (key :
         lone e',
         keeps,
         tt,
-        turns_to s key start t h b2 id (word_of a (oldest_of x)) (change a (oldest_of x) n) seat e' ts at (subst (λ (q : ℕ). After s key t.words words2 h.witness b2 q (c.doing call2) x2 ts) (sym own) whole) (p2 ∙ sym own) refl saw_now,
+        turns_to s key start t h b2 id (word_of (s.apart key) a (oldest_of x)) (change a (oldest_of x) n) seat e' ts at (subst (λ (q : ℕ). After s key t.words words2 h.witness b2 q (c.doing call2) x2 ts) (sym own) whole) (p2 ∙ sym own) refl saw_now,
         (
           refl,
           record {

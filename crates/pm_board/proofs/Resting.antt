@@ -49,7 +49,7 @@ module _ {K S T : Type 0} (s : Structure K S T) (key : K) where
     stopped b p = record {
       situation = put b.situation p s.stopped;
       buffer = put b.buffer p [];
-      hidden = s.hidden_after key (world_on s key words b) (Stop p) (two_sided words (put b.buffer p []));
+      hidden = s.hidden_after key (world_on s key words b) (Stop p) (two_sided (s.apart key) words (put b.buffer p []));
       origin = b.origin;
       happened = stop_of b p ∷ b.happened;
     }

@@ -1,5 +1,5 @@
 -- An access is one step on one word of the table.
-use Rattle.std.proofs.Common.{ℕ, Bool, ◌≡◌, ◌+◌, ◌*◌, ◌<◌, eqb, List, [], ◌∷◌, ◌++◌, length, get_or, set, refl, sym, ap, subst, ◌∙◌, inl, inr, arith, bit_or, eq-eqb, ne_eqb}
+use Rattle.std.proofs.Common.{ℕ, Bool, ◌≡◌, ◌+◌, ◌<◌, eqb, List, [], ◌∷◌, ◌++◌, length, get_or, set, refl, sym, ap, subst, ◌∙◌, inl, inr, arith, bit_or, eq-eqb, ne_eqb}
 use Rattle.std.proofs.lemmas.List.{get_or-set_same, get_or-set_other, set-get_or}
 use mathlib.Core.Logic.{dite}
 use native.Mathlib.Decide.{ℕ_discrete}
@@ -9,20 +9,21 @@ use Rattle.ds_words.specs.declared.access.BufferEntry.{BufferEntry}
 use Rattle.ds_words.specs.declared.access.Access.{Access}
 use Rattle.ds_words.specs.declared.access.Access.TheVariants.{Nothing, Load, Store, Or, SwapIf, Flush, Back}
 use Rattle.ds_words.specs.Memory.{Memory, Performs, SameMemory, StoresAt, SwapsAt}
-use Rattle.pm_board.specs.Table.{two_sided, word_of, change, answer, reported, oldest_of, buffer_after}
+use Rattle.pm_board.specs.Table.{two_sided, cached_at, persisted_at, word_of, change, answer, reported, oldest_of, buffer_after}
 use Rattle.pm_base.specs.Structures.{put}
+use Rattle.pm_board.proofs.Sides.{same_cached, no_sides}
 use Rattle.pm_base.proofs.Puts.{put_here, put_else, put_same}
 
 -- the table has the word that the access takes, and a write-back has an entry
-abbrev pub IsThere : List ℕ → Access ℕ → List (BufferEntry ℕ) → Type 0
-IsThere words Nothing b = Unit {0}
-IsThere words (Load n) b = 8 * n + 1 < length words
-IsThere words (Store n v) b = 8 * n + 1 < length words
-IsThere words (Or n k) b = 8 * n + 1 < length words
-IsThere words (SwapIf n o v) b = 8 * n + 1 < length words
-IsThere words (Flush n) b = 8 * n + 1 < length words
-IsThere words Back [] = ⊥
-IsThere words Back (x ∷ b) = 8 * x.place + 1 < length words
+abbrev pub IsThere : ℕ → List ℕ → Access ℕ → List (BufferEntry ℕ) → Type 0
+IsThere apart words Nothing b = Unit {0}
+IsThere apart words (Load n) b = persisted_at apart n < length words
+IsThere apart words (Store n v) b = persisted_at apart n < length words
+IsThere apart words (Or n k) b = persisted_at apart n < length words
+IsThere apart words (SwapIf n o v) b = persisted_at apart n < length words
+IsThere apart words (Flush n) b = persisted_at apart n < length words
+IsThere apart words Back [] = ⊥
+IsThere apart words Back (x ∷ b) = persisted_at apart x.place < length words
 
 -- what the step tells gives the same answer and the same buffer
 pub answer_reported : (a : Access ℕ) (b : List (BufferEntry ℕ)) (n : ℕ) → answer a (reported a (oldest_of b) n) ≡ answer a n
@@ -44,57 +45,57 @@ buffer_reported classes (SwapIf w o v) b n = refl
 buffer_reported classes (Flush w) b n = refl
 buffer_reported classes Back b n = refl
 
-module _ (classes : ℕ → Class) (p : ℕ) (words : List ℕ) (buffers : ℕ → List (BufferEntry ℕ)) where
+module _ (apart : ℕ) (classes : ℕ → Class) (p : ℕ) (words : List ℕ) (buffers : ℕ → List (BufferEntry ℕ)) where
   abbrev pub now : Access ℕ → List (BufferEntry ℕ) → ℕ
-  now a b = get_or words (word_of a (oldest_of b)) 0
+  now a b = get_or words (word_of apart a (oldest_of b)) 0
 
   abbrev pub new_words : Access ℕ → List (BufferEntry ℕ) → List ℕ
-  new_words a b = set words (word_of a (oldest_of b)) (change a (oldest_of b) (now a b))
+  new_words a b = set words (word_of apart a (oldest_of b)) (change a (oldest_of b) (now a b))
 
   abbrev pub new_memory : Access ℕ → List (BufferEntry ℕ) → Memory ℕ
-  new_memory a b = two_sided (new_words a b) (put buffers p (buffer_after classes a b (now a b)))
+  new_memory a b = two_sided apart (new_words a b) (put buffers p (buffer_after classes a b (now a b)))
 
   old_memory : Memory ℕ
-  old_memory = two_sided words buffers
+  old_memory = two_sided apart words buffers
 
   -- the words stay, and the buffer too
-  same_words : (i : ℕ) (b : List (BufferEntry ℕ)) → buffers p ≡ b → SameMemory (two_sided words buffers) (two_sided (set words i (get_or words i 0)) (put buffers p b))
+  same_words : (i : ℕ) (b : List (BufferEntry ℕ)) → buffers p ≡ b → SameMemory (two_sided apart words buffers) (two_sided apart (set words i (get_or words i 0)) (put buffers p b))
   same_words i b same = record {
-    cached = λ r. ap (λ (ws : List ℕ). get_or ws (8 * r) 0) (set-get_or words i 0);
-    persisted = λ r. ap (λ (ws : List ℕ). get_or ws (8 * r + 1) 0) (set-get_or words i 0);
+    cached = λ r. ap (λ (ws : List ℕ). get_or ws (cached_at apart r) 0) (set-get_or words i 0);
+    persisted = λ r. ap (λ (ws : List ℕ). get_or ws (persisted_at apart r) 0) (set-get_or words i 0);
     buffer = put_same buffers p b same;
   }
 
   -- a cached side becomes the value
-  stores : (n v : ℕ) (b : List (BufferEntry ℕ)) → 8 * n + 1 < length words → buffers p ≡ b → StoresAt n v (two_sided words buffers) (two_sided (set words (8 * n) v) (put buffers p b))
+  stores : (n v : ℕ) (b : List (BufferEntry ℕ)) → persisted_at apart n < length words → buffers p ≡ b → StoresAt n v (two_sided apart words buffers) (two_sided apart (set words (cached_at apart n) v) (put buffers p b))
   stores n v b there same = record {
-    there = get_or-set_same words (8 * n) v 0 (omega arith);
-    elsewhere = λ r ne. get_or-set_other words (8 * n) (8 * r) v 0 (λ e. ne (omega arith));
-    persisted = λ r. get_or-set_other words (8 * n) (8 * r + 1) v 0 (λ e. omega arith);
+    there = get_or-set_same words (cached_at apart n) v 0 (omega arith);
+    elsewhere = λ r ne. get_or-set_other words (cached_at apart n) (cached_at apart r) v 0 (λ e. ne (same_cached apart r n e));
+    persisted = λ r. get_or-set_other words (cached_at apart n) (persisted_at apart r) v 0 (λ e. no_sides apart n r (sym e));
     buffer = put_same buffers p b same;
   }
 
-  swaps : (n o v : ℕ) (b : List (BufferEntry ℕ)) → 8 * n + 1 < length words → buffers p ≡ b
-      → SwapsAt n o v (get_or words (8 * n) 0) (two_sided words buffers) (two_sided (set words (8 * n) (either (eqb (get_or words (8 * n) 0) o) v (get_or words (8 * n) 0))) (put buffers p b))
+  swaps : (n o v : ℕ) (b : List (BufferEntry ℕ)) → persisted_at apart n < length words → buffers p ≡ b
+      → SwapsAt n o v (get_or words (cached_at apart n) 0) (two_sided apart words buffers) (two_sided apart (set words (cached_at apart n) (either (eqb (get_or words (cached_at apart n) 0) o) v (get_or words (cached_at apart n) 0))) (put buffers p b))
   swaps n o v b there same = (
     refl,
-    dite (ℕ_discrete (get_or words (8 * n) 0) o)
-        (λ e. inl (e, subst (λ (t : Bool). StoresAt n v (two_sided words buffers) (two_sided (set words (8 * n) (either t v (get_or words (8 * n) 0))) (put buffers p b))) (sym (eq-eqb (get_or words (8 * n) 0) o e)) (stores n v b there same)))
-        (λ ne. inr (ne, subst (λ (t : Bool). SameMemory (two_sided words buffers) (two_sided (set words (8 * n) (either t v (get_or words (8 * n) 0))) (put buffers p b))) (sym (ne_eqb (get_or words (8 * n) 0) o ne)) (same_words (8 * n) b same))),
+    dite (ℕ_discrete (get_or words (cached_at apart n) 0) o)
+        (λ e. inl (e, subst (λ (t : Bool). StoresAt n v (two_sided apart words buffers) (two_sided apart (set words (cached_at apart n) (either t v (get_or words (cached_at apart n) 0))) (put buffers p b))) (sym (eq-eqb (get_or words (cached_at apart n) 0) o e)) (stores n v b there same)))
+        (λ ne. inr (ne, subst (λ (t : Bool). SameMemory (two_sided apart words buffers) (two_sided apart (set words (cached_at apart n) (either t v (get_or words (cached_at apart n) 0))) (put buffers p b))) (sym (ne_eqb (get_or words (cached_at apart n) 0) o ne)) (same_words (cached_at apart n) b same))),
   )
 
-  pub performs : (a : Access ℕ) (b : List (BufferEntry ℕ)) → buffers p ≡ b → IsThere words a b → Performs classes a p (two_sided words buffers) (new_memory a b) (answer a (now a b))
+  pub performs : (a : Access ℕ) (b : List (BufferEntry ℕ)) → buffers p ≡ b → IsThere apart words a b → Performs classes a p (two_sided apart words buffers) (new_memory a b) (answer a (now a b))
   performs Nothing b same there = (refl, same_words 0 b same)
-  performs (Load n) b same there = (refl, same_words (8 * n) b same)
+  performs (Load n) b same there = (refl, same_words (cached_at apart n) b same)
   performs (Store n v) b same there = (refl, stores n v b there same)
-  performs (Or n k) b same there = (refl, stores n (bit_or (get_or words (8 * n) 0) k) b there same)
+  performs (Or n k) b same there = (refl, stores n (bit_or (get_or words (cached_at apart n) 0) k) b there same)
   performs (SwapIf n o v) b same there = swaps n o v b there same
   performs (Flush n) b same there = (
     refl,
     record {
-      cached = λ r. ap (λ (ws : List ℕ). get_or ws (8 * r) 0) (set-get_or words (8 * n) 0);
-      persisted = λ r. ap (λ (ws : List ℕ). get_or ws (8 * r + 1) 0) (set-get_or words (8 * n) 0);
-      mine = put_here buffers p _ p refl ∙ ap (λ (l : List (BufferEntry ℕ)). l ++ (let x : BufferEntry ℕ = record { place = n; class = classes n; value = get_or words (8 * n) 0 } in x) ∷ []) (sym same);
+      cached = λ r. ap (λ (ws : List ℕ). get_or ws (cached_at apart r) 0) (set-get_or words (cached_at apart n) 0);
+      persisted = λ r. ap (λ (ws : List ℕ). get_or ws (persisted_at apart r) 0) (set-get_or words (cached_at apart n) 0);
+      mine = put_here buffers p _ p refl ∙ ap (λ (l : List (BufferEntry ℕ)). l ++ (let x : BufferEntry ℕ = record { place = n; class = classes n; value = get_or words (cached_at apart n) 0 } in x) ∷ []) (sym same);
       others = λ q ne. put_else buffers p _ q ne;
     },
   )
@@ -106,9 +107,9 @@ module _ (classes : ℕ → Class) (p : ℕ) (words : List ℕ) (buffers : ℕ �
       b,
       record {
         oldest = same;
-        cached = λ r. get_or-set_other words (8 * x.place + 1) (8 * r) _ 0 (λ e. omega arith);
-        there = get_or-set_same words (8 * x.place + 1) _ 0 there;
-        elsewhere = λ r ne. get_or-set_other words (8 * x.place + 1) (8 * r + 1) _ 0 (λ e. ne (omega arith));
+        cached = λ r. get_or-set_other words (persisted_at apart x.place) (cached_at apart r) _ 0 (λ e. no_sides apart r x.place e);
+        there = get_or-set_same words (persisted_at apart x.place) _ 0 there;
+        elsewhere = λ r ne. get_or-set_other words (persisted_at apart x.place) (persisted_at apart r) _ 0 (λ e. ne (same_cached apart r x.place (omega (arith, e))));
         mine = put_here buffers p b p refl;
         others = λ q ne. put_else buffers p b q ne;
       },

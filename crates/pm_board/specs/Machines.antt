@@ -59,7 +59,7 @@ module _ {K S T C E : Type 0} (s : Structure K S T) (c : Calls K S T C E) (key :
 
   -- the step of the call is one that the rule allows
   abbrev pub MayStep : Start → ℕ → ℕ → Bool → Me ℕ (View S T) → C → List (BufferEntry ℕ) → Type 0
-  MayStep start slots id begun me call x = Allows (Ruled s key {X = ℕ} start) slots id me (word_of (c.access key call) (oldest_of x)) (change (c.access key call) (oldest_of x))
+  MayStep start slots id begun me call x = Allows (Ruled s key {X = ℕ} start) slots id me (word_of (s.apart key) (c.access key call) (oldest_of x)) (change (c.access key call) (oldest_of x))
       (λ n m'. (m'.1 ≡ me.1) × Landed begun me call x (reported (c.access key call) (oldest_of x) n) m'.0)
 
   -- the process may begin the call: from what it does, or after a stop

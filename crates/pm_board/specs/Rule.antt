@@ -1,5 +1,5 @@
 -- The rule of the table: a run of the structure leads to the words, and the views are what happened in it.
-use Rattle.std.specs.Prelude.{ℕ, ◌≡◌, ◌≢◌, ◌*◌, ◌+◌, ◌<◌, slice_index, if◌then◌else◌, Bool, false, List, [], ◌++◌, length, Some}
+use Rattle.std.specs.Prelude.{ℕ, ◌≡◌, ◌≢◌, ◌⊎◌, ◌+◌, ◌<◌, slice_index, if◌then◌else◌, Bool, false, List, [], ◌++◌, length, Some}
 use mathlib.Core.Option.{some}
 use lib.ListN.{get_elem?}
 use Rattle.atomic_table.specs.Table.{State}
@@ -13,7 +13,7 @@ use Rattle.pm_base.specs.declared.history.Event.{Event}
 use Rattle.pm_base.specs.declared.history.Event.TheVariants.{Evict, Stop, Crash}
 use Rattle.pm_board.specs.declared.board.Seated.{Seated}
 use Rattle.pm_board.specs.declared.board.View.{View}
-use Rattle.pm_board.specs.Table.{two_sided}
+use Rattle.pm_board.specs.Table.{two_sided, cached_at, persisted_at}
 use Rattle.pm_board.specs.Views.{}
 
 -- how a table begins: whether every process is stopped, and with which words
@@ -23,8 +23,10 @@ pub record Start : Type 0 where
 
 -- what a crash leaves of the word with this number: both its sides are the cached one where it was chosen, else the
 -- persisted one
-abbrev pub HasSideLeft : Bool → List ℕ → List ℕ → ℕ → Type 0
-HasSideLeft chosen words words' n = let side : ℕ = if chosen then slice_index words (8 * n) else slice_index words (8 * n + 1) in (slice_index words' (8 * n) ≡ side) × (slice_index words' (8 * n + 1) ≡ side)
+abbrev pub HasSideLeft : ℕ → Bool → List ℕ → List ℕ → ℕ → Type 0
+HasSideLeft apart chosen words words' n =
+    let side : ℕ = if chosen then slice_index words (cached_at apart n) else slice_index words (persisted_at apart n) in
+    (slice_index words' (cached_at apart n) ≡ side) × (slice_index words' (persisted_at apart n) ≡ side)
 
 module _ {K S T : Type 0} (s : Structure K S T) (key : K) where
   -- where a table comes from: a new structure, what happened to it before the table was made, the last event first, and
@@ -44,7 +46,7 @@ module _ {K S T : Type 0} (s : Structure K S T) (key : K) where
 
   -- the world with these words
   abbrev pub world_on : List ℕ → Witness → World S s.Hidden
-  world_on words b = record { memory = two_sided words b.buffer; situation = b.situation; hidden = b.hidden }
+  world_on words b = record { memory = two_sided (s.apart key) words b.buffer; situation = b.situation; hidden = b.hidden }
 
   -- a run leads from a new structure to the world with which the table was made
   pub record IsOrigin (o : Origin) : Type 0 where
@@ -117,7 +119,7 @@ module _ {K S T : Type 0} (s : Structure K S T) (key : K) where
   pub record Ruled {X : Type 0} (start : Start) (t : State X (View S T)) : Type 0 where
     pub witness : Witness
     pub owner : ℕ → ℕ
-    pub long : length t.words ≡ 8 * s.words key
+    pub long : length t.words ≡ cached_at (s.apart key) (s.words key)
     pub run : Run s key witness.origin.opened witness.happened (world_on t.words witness)
     pub from : IsOrigin witness.origin
     pub opens : OpensWith start.words witness.origin
@@ -218,9 +220,12 @@ module _ {K S T : Type 0} (s : Structure K S T) (key : K) where
   abbrev pub ClosedBoardsHaveRuns : Type 0
   ClosedBoardsHaveRuns = (words : List ℕ) (b : Witness) (past : List (Seated S T)) → AtRest words b → AreTrue b past → HasRun words past
 
+-- the table's word with this number is a side of the structure's word with that one
+abbrev pub IsSideOf : ℕ → ℕ → ℕ → Type 0
+IsSideOf apart i n = (i ≡ cached_at apart n) ⊎ (i ≡ persisted_at apart n)
+
 -- the table's words of a structure's first n words are on both sides what those are at first; what lies between is 0
 pub record AreFirst {K S T : Type 0} (s : Structure K S T) (key : K) (n : ℕ) (words : List ℕ) : Type 0 where
-  pub long : length words ≡ 8 * n
-  pub cached : (r : ℕ) → r < n → slice_index words (8 * r) ≡ s.first_word key r
-  pub persisted : (r : ℕ) → r < n → slice_index words (8 * r + 1) ≡ s.first_word key r
-  pub between : (r k : ℕ) → r < n → k < 6 → slice_index words (8 * r + (k + 2)) ≡ 0
+  pub long : length words ≡ cached_at (s.apart key) n
+  pub sides : (i r : ℕ) → r < n → IsSideOf (s.apart key) i r → slice_index words i ≡ s.first_word key r
+  pub between : (i : ℕ) → ((r : ℕ) → r < n → IsSideOf (s.apart key) i r → ⊥) → slice_index words i ≡ 0

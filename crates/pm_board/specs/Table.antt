@@ -1,6 +1,7 @@
--- The words of a structure on a table: word n is the table's words 8n, its cached side, and 8n + 1, its persisted side.
--- What lies between serves nothing: so two words are 64 bytes apart, and no two share a line of a cache.
-use Rattle.std.specs.Prelude.{ℕ, ◌+◌, ◌*◌, ◌<◌, ◌==◌, bit_or, List, [], ◌∷◌, ◌++◌, length, slice_index, Option, Some, None}
+-- The words of a structure on a table. The two sides of a word lie beside each other, the cached one first. Each of the
+-- structure's first words lies 64 bytes behind the one before, so that no two share a line of a cache; what lies between
+-- serves nothing. Behind them one word follows on the other.
+use Rattle.std.specs.Prelude.{ℕ, ◌+◌, ◌*◌, ◌<◌, ◌==◌, nat_lt, if◌then◌else◌, bit_or, List, [], ◌∷◌, ◌++◌, length, slice_index, Option, Some, None}
 use prog.Atomic.{either}
 use Rattle.ds_words.specs.declared.access.Class.{Class}
 use Rattle.ds_words.specs.declared.access.Class.TheVariants.{Stamped, Bit, Owned}
@@ -10,11 +11,20 @@ use Rattle.ds_words.specs.declared.access.Access.TheVariants.{Nothing, Load, Sto
 use Rattle.ds_words.specs.declared.words.TheConstants.{BUFFER_ENTRIES}
 use Rattle.ds_words.specs.Memory.{Memory, newer}
 
+-- the number of the table's word that is the cached side of word n, where so many of the first words lie apart; so many
+-- words of the table n words take
+unfoldable pub cached_at : ℕ → ℕ → ℕ
+cached_at apart n = if nat_lt n apart then 8 * n else 6 * apart + 2 * n
+
+-- that of its persisted side
+abbrev pub persisted_at : ℕ → ℕ → ℕ
+persisted_at apart n = cached_at apart n + 1
+
 -- the table's words as a memory, with these buffers
-abbrev pub two_sided : List ℕ → (ℕ → List (BufferEntry ℕ)) → Memory ℕ
-two_sided words buffer = record {
-  cached = λ n. slice_index words (8 * n);
-  persisted = λ n. slice_index words (8 * n + 1);
+abbrev pub two_sided : ℕ → List ℕ → (ℕ → List (BufferEntry ℕ)) → Memory ℕ
+two_sided apart words buffer = record {
+  cached = λ n. slice_index words (cached_at apart n);
+  persisted = λ n. slice_index words (persisted_at apart n);
   buffer = buffer;
 }
 
@@ -29,15 +39,15 @@ rest_of [] = []
 rest_of (x ∷ rest) = rest
 
 -- the table's word that an access takes, with this oldest entry
-abbrev pub word_of : Access ℕ → Option (BufferEntry ℕ) → ℕ
-word_of Nothing oldest = 0
-word_of (Load n) oldest = 8 * n
-word_of (Store n value) oldest = 8 * n
-word_of (Or n bits) oldest = 8 * n
-word_of (SwapIf n expected value) oldest = 8 * n
-word_of (Flush n) oldest = 8 * n
-word_of Back None = 0
-word_of Back (Some x) = 8 * x.place + 1
+abbrev pub word_of : ℕ → Access ℕ → Option (BufferEntry ℕ) → ℕ
+word_of apart Nothing oldest = 0
+word_of apart (Load n) oldest = cached_at apart n
+word_of apart (Store n value) oldest = cached_at apart n
+word_of apart (Or n bits) oldest = cached_at apart n
+word_of apart (SwapIf n expected value) oldest = cached_at apart n
+word_of apart (Flush n) oldest = cached_at apart n
+word_of apart Back None = 0
+word_of apart Back (Some x) = persisted_at apart x.place
 
 -- what it makes of that word
 abbrev pub change : Access ℕ → Option (BufferEntry ℕ) → ℕ → ℕ

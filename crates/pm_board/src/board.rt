@@ -6,8 +6,10 @@ ghost use Rattle.pm_base.specs.declared.history.Entry.{Entry};
 ghost use Rattle.pm_board.specs.Views.{RunsFrom, Sits, HasRest, deeds_at, first_now, first_view, whole_view, lone, newcomer, past_of, bygone, united};
 ghost use Rattle.pm_board.specs.Looks.{BeginsWithAll, Looks};
 ghost use Rattle.pm_board.specs.Rule.{AreFirst, Closes, HasRun, IsRested};
+ghost use Rattle.pm_board.specs.Table.{cached_at};
 
 use crate::closed::ClosedBoard;
+use crate::spacing::cached_at;
 use atomic_table::{Join, Play, Seat, Split, Table, TableRule};
 use ds_words::access::BufferEntry;
 use pm_base::history::{Deed, Entry};
@@ -171,7 +173,7 @@ where
     >,
     /// Its layout.
     pub key: P::Key,
-    pub ghost sized: { (table.shared.table_id.words ≡ 8 * P.structure.words key) × (table.shared.key.own ≡ key) × (table.shared.table_id.slots ≡ 0) },
+    pub ghost sized: { (table.shared.table_id.words ≡ cached_at (P.structure.apart key) (P.structure.words key)) × (table.shared.key.own ≡ key) × (table.shared.table_id.slots ≡ 0) },
     pub ghost some: { (0 < P.structure.words key) × (P.structure.words key < 2 ^ 28) },
 }
 
@@ -188,10 +190,15 @@ fn first_words<P: Structured>(alloc: Global, key: &P::Key) -> Result<Vec<u64>, A
     ensures { IfOk result (λ v. AreFirst P.structure key.now (P.structure.words key.now) v.items) }
 {
     let count = P::words(key);
-    let mut words: Vec<u64> = Vec::with_capacity(alloc, count * 8)?;
+    let apart = P::apart(key);
+    let mut words: Vec<u64> = Vec::with_capacity(alloc, cached_at(apart, count))?;
     for word in 0..count {
         let first = P::first_word(key, word);
-        words.extend_from_slice(&[first, first, 0, 0, 0, 0, 0, 0])?;
+        if word < apart {
+            words.extend_from_slice(&[first, first, 0, 0, 0, 0, 0, 0])?;
+        } else {
+            words.extend_from_slice(&[first, first])?;
+        }
     }
     Ok(words)
 }
@@ -261,7 +268,7 @@ impl<P: Structured> Board<P> {
         requires { word < P.structure.words self.now.key }
     {
         let _words = P::words(&self.key);
-        let _found = self.table.shared.peek(8 * word);
+        let _found = self.table.shared.peek(cached_at(P::apart(&self.key), word));
     }
 
     /// A seat of no process, which remembers what another one knows. It can go to another thread, whose seat takes it in by

@@ -5,9 +5,11 @@ ghost use Rattle.std.specs.Mem.Slots.{slots_items, slots_len, IsFull};
 ghost use Rattle.pm_base.specs.declared.history.Entry.{Entry};
 ghost use Rattle.pm_board.specs.Looks.{BeginsWithAll};
 ghost use Rattle.pm_board.specs.Rule.{AtRest, Witness, HasSideLeft, IsRested, Survives};
+ghost use Rattle.pm_board.specs.Table.{cached_at, persisted_at};
 ghost use Rattle.pm_board.specs.Views.{RunsFrom, past_of, whole_view};
 
 use crate::board::{Board, Fixed, Opens, TableSeat};
+use crate::spacing::cached_at;
 use atomic_table::{Closed, Table};
 use pm_base::machine::Structured;
 use std::alloc::{AllocError, Global};
@@ -20,7 +22,7 @@ pub struct ClosedBoard<P: Structured> {
     pub key: P::Key,
     pub(crate) before: Option<TableSeat<P::Doing, P::Response>>,
     pub ghost full: { IsFull table.words × (slots_len table.slots ≡ 0) },
-    pub ghost sized: { slots_len table.words ≡ 8 * P.structure.words key },
+    pub ghost sized: { slots_len table.words ≡ cached_at (P.structure.apart key) (P.structure.words key) },
     pub ghost some: { (0 < P.structure.words key) × (P.structure.words key < 2 ^ 28) },
 }
 
@@ -36,7 +38,7 @@ impl<P: Structured> ClosedBoard<P> {
 
     // One side of a word.
     fn side(&self, number: usize) -> u64
-        requires { number < 8 * P.structure.words self.now.key }
+        requires { number < cached_at (P.structure.apart self.now.key) (P.structure.words self.now.key) }
         ensures { result ≡ slice_index (slots_items self.now.table.words) number }
     {
         self.table.word(number)
@@ -46,7 +48,7 @@ impl<P: Structured> ClosedBoard<P> {
     fn copied(&self, alloc: Global) -> Result<Vec<u64>, AllocError>
         ensures { IfOk result (λ v. v.items ≡ slots_items self.now.table.words) }
     {
-        let count = P::words(&self.key) * 8;
+        let count = cached_at(P::apart(&self.key), P::words(&self.key));
         let mut words = Vec::with_capacity(alloc, count)?;
         for number in 0..count {
             words.push(self.side(number))?;
@@ -57,17 +59,17 @@ impl<P: Structured> ClosedBoard<P> {
     /// The cached side of a word.
     pub fn cached(&self, word: usize) -> u64
         requires { word < P.structure.words self.now.key }
-        ensures { result ≡ slice_index (slots_items self.now.table.words) (8 * word) }
+        ensures { result ≡ slice_index (slots_items self.now.table.words) (cached_at (P.structure.apart self.now.key) word) }
     {
-        self.side(8 * word)
+        self.side(cached_at(P::apart(&self.key), word))
     }
 
     /// The persisted side of a word.
     pub fn persisted(&self, word: usize) -> u64
         requires { word < P.structure.words self.now.key }
-        ensures { result ≡ slice_index (slots_items self.now.table.words) (8 * word + 1) }
+        ensures { result ≡ slice_index (slots_items self.now.table.words) (persisted_at (P.structure.apart self.now.key) word) }
     {
-        self.side(8 * word + 1)
+        self.side(cached_at(P::apart(&self.key), word) + 1)
     }
 
     /// A crash, before which the chosen words were evicted: of each word the cached side is left where it is chosen, else
@@ -77,19 +79,17 @@ impl<P: Structured> ClosedBoard<P> {
         requires { length choice.now ≡ P.structure.words self.old.key }
         ensures key { self.new.key ≡ self.old.key }
         ensures before { past_of self.new.before ≡ past_of self.old.before }
-        ensures words { (n : ℕ) → n < P.structure.words self.old.key → HasSideLeft (slice_index_or choice.now n false) (slots_items self.old.table.words) (slots_items self.new.table.words) n }
+        ensures words { (n : ℕ) → n < P.structure.words self.old.key → HasSideLeft (P.structure.apart self.old.key) (slice_index_or choice.now n false) (slots_items self.old.table.words) (slots_items self.new.table.words) n }
         ensures rests { IsRested P.structure self.old.key (slots_items self.old.table.words) (past_of self.old.before) → IsRested P.structure self.new.key (slots_items self.new.table.words) (past_of self.new.before) }
         ensures survives { (b : Witness P.structure self.old.key) → AtRest P.structure self.old.key (slots_items self.old.table.words) b → Survives P.structure self.old.key (slots_items self.old.table.words) (slots_items self.new.table.words) b }
     {
+        let apart = P::apart(&self.key);
         for number in 0..P::words(&self.key) {
-            let side = if choice[number] {
-                number * 8
-            } else {
-                number * 8 + 1
-            };
+            let cached = cached_at(apart, number);
+            let side = if choice[number] { cached } else { cached + 1 };
             let value = self.side(side);
-            self.set_word(number * 8, value);
-            self.set_word(number * 8 + 1, value);
+            self.set_word(cached, value);
+            self.set_word(cached + 1, value);
         }
     }
 

@@ -31,6 +31,7 @@ pub fn drive<P: Structured, M: Machine<P>, F: Fuse>(
     let key = &board.key;
     P::law(key);
     M::law(key);
+    let apart = P::apart(key);
     let mut buffer: Buffer = ArrayVec::new();
     let mut begun = false;
     loop {
@@ -46,6 +47,7 @@ pub fn drive<P: Structured, M: Machine<P>, F: Fuse>(
             &board.table.shared,
             seat,
             key,
+            apart,
             call,
             begun,
             &buffer,

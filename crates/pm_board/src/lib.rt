@@ -7,4 +7,5 @@ pub mod closed;
 pub mod drive;
 pub mod fuse;
 pub mod laws;
+mod spacing;
 mod steps;

@@ -10,6 +10,7 @@ ghost use Rattle.pm_board.specs.Table.{oldest_of, rest_of, word_of, change, repo
 use crate::board::{Fixed, Landing, Lands, Law, TableSeat, View};
 use arrayvec::ArrayVec;
 use atomic_table::Shared;
+use crate::spacing::cached_at;
 use ds_words::access::{Access, BufferEntry, Class};
 use ds_words::words::BUFFER_ENTRIES;
 use pm_base::machine::Structured;
@@ -30,42 +31,45 @@ fn oldest(buffer: &Buffer) -> Option<BufferEntry<usize>>
 }
 
 /// Makes the access on the table, with the oldest entry of the buffer where it writes that back, and answers what its
-/// step reports. The key, the call and whether it has begun show the proof whose step it is.
+/// step reports. So many of the first words lie apart. The key, the call and whether it has begun show the proof whose step it is.
 #[inline(always)]
 pub(crate) fn access<P: Structured, J: Landing<P::Doing, P::Response>, M>(
     shared: &Shared<u8, View<P::Doing, P::Response>, Fixed<P::Key, P::Doing, P::Response>, Law<P>>,
     seat: &mut TableSeat<P::Doing, P::Response>,
     key: &P::Key,
+    apart: usize,
     call: &M,
     begun: bool,
     buffer: &Buffer,
     want: Access<usize>,
 ) -> u64
     requires table { seat.old.table_id ≡ shared.now.table_id }
-    requires within { (word_of want (oldest_of buffer.now.items) < shared.now.table_id.words) × (shared.now.table_id.words < 2 ^ 32) }
-    requires step { Allows (Ruled P.structure shared.now.key.own (start_of shared.now.key)) shared.now.table_id.slots seat.old.id seat.old.me (word_of want (oldest_of buffer.now.items)) (change want (oldest_of buffer.now.items)) (λ n m'. (m'.1 ≡ seat.old.me.1) × J.lands (reported want (oldest_of buffer.now.items) n) m'.0) }
+    requires within { (word_of apart want (oldest_of buffer.now.items) < shared.now.table_id.words) × (shared.now.table_id.words < 2 ^ 32) }
+    requires step { Allows (Ruled P.structure shared.now.key.own (start_of shared.now.key)) shared.now.table_id.slots seat.old.id seat.old.me (word_of apart want (oldest_of buffer.now.items)) (change want (oldest_of buffer.now.items)) (λ n m'. (m'.1 ≡ seat.old.me.1) × J.lands (reported want (oldest_of buffer.now.items) n) m'.0) }
     ensures seat { (seat.new.table_id ≡ seat.old.table_id) × (seat.new.id ≡ seat.old.id) }
     ensures landed { (seat.new.me.1 ≡ seat.old.me.1) × J.lands result seat.new.me.0 }
 {
     let (_key, _call, _begun) = (key, call, begun);
     match want {
         Access::Nothing => shared.load::<Lands<J>>(seat, 0),
-        Access::Load(word) => shared.load::<Lands<J>>(seat, 8 * word),
+        Access::Load(word) => shared.load::<Lands<J>>(seat, cached_at(apart, word)),
         Access::Store(word, value) => {
-            shared.store::<Lands<J>>(seat, 8 * word, value);
+            shared.store::<Lands<J>>(seat, cached_at(apart, word), value);
             value
         }
-        Access::Or(word, bits) => shared.fetch_or::<Lands<J>>(seat, 8 * word, bits),
+        Access::Or(word, bits) => shared.fetch_or::<Lands<J>>(seat, cached_at(apart, word), bits),
         Access::SwapIf {
             place: word,
             expected,
             value,
-        } => { shared.compare_exchange::<Lands<J>>(seat, 8 * word, expected, value) }
-        Access::Flush(word) => shared.load::<Lands<J>>(seat, 8 * word),
+        } => {
+            shared.compare_exchange::<Lands<J>>(seat, cached_at(apart, word), expected, value)
+        }
+        Access::Flush(word) => shared.load::<Lands<J>>(seat, cached_at(apart, word)),
         Access::Back => match oldest(buffer) {
             None => shared.load::<Lands<J>>(seat, 0),
             Some(entry) => {
-                let word = 8 * entry.place + 1;
+                let word = cached_at(apart, entry.place) + 1;
                 match entry.class {
                     Class::Stamped => shared.fetch_max::<Lands<J>>(seat, word, entry.value),
                     Class::Bit => shared.fetch_or::<Lands<J>>(seat, word, entry.value),

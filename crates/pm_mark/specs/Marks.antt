@@ -109,6 +109,7 @@ mark = record {
   Hidden = Unit {0};
   words = λ n. 1;
   class_in = λ n r. Stamped;
+  apart = λ n. 1;
   first_word = λ n r. 0;
   processes = λ n. n;
   first = Idle;

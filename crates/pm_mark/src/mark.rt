@@ -86,6 +86,11 @@ impl Structured for Mark {
         1
     }
 
+    fn apart(key: &usize) -> usize {
+        let _key = key;
+        1
+    }
+
     fn first_word(key: &usize, word: usize) -> u64 {
         let (_key, _word) = (key, word);
         0

@@ -212,6 +212,7 @@ registers = record {
   Hidden = ℕ → List ℕ;
   words = λ n. 2 * n;
   class_in = λ n r. Stamped;
+  apart = λ n. 2 * n;
   first_word = λ n r. 0;
   processes = λ n. n;
   first = Idle 0;

@@ -26,6 +26,10 @@ impl Structured for Registers {
         2 * *key
     }
 
+    fn apart(key: &usize) -> usize {
+        2 * *key
+    }
+
     fn first_word(key: &usize, word: usize) -> u64 {
         let (_key, _word) = (key, word);
         0

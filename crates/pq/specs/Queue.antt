@@ -237,6 +237,7 @@ abbrev pub queue : Structure ℕ Doing Response
 queue = record {
   Hidden = History;
   words = λ n. 8 * nodes n;
+  apart = λ n. 8 * nodes n;
   class_in = λ n r. Owned;
   first_word = λ n r. 0;
   processes = λ n. n;

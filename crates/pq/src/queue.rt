@@ -29,6 +29,10 @@ impl Structured for Queue {
         8 * (places::OPERATIONS * *key + 1)
     }
 
+    fn apart(key: &usize) -> usize {
+        Queue::words(key)
+    }
+
     fn first_word(key: &usize, word: usize) -> u64 {
         let (_key, _word) = (key, word);
         0

@@ -30,7 +30,7 @@ pub record Remembers (old new : RestingQueue) : Type 0 where
 pub record Crashes (choice : List ℕ) (old new : RestingQueue) : Type 0 where
   pub key : new.board.key ≡ old.board.key
   pub before : remembered new ≡ remembered old
-  pub words : (n : ℕ) → n < 8 * nodes old.board.key → HasSideLeft (is_chosen choice n) (words_in old) (words_in new) n
+  pub words : (n : ℕ) → n < 8 * nodes old.board.key → HasSideLeft (queue.apart old.board.key) (is_chosen choice n) (words_in old) (words_in new) n
 
 -- why a crash is not made: the choice is too short, or an allocation failed
 abbrev pub CanNotCrash : List ℕ → RestingQueue → Fault → Type 0

@@ -99,6 +99,7 @@ flawed_queue = record {
   Hidden = Unit {0};
   words = λ f. 8 * nodes 2;
   class_in = λ f r. Owned;
+  apart = λ f. 8 * nodes 2;
   first_word = λ f r. 0;
   processes = λ f. 2;
   first = Idle 0;

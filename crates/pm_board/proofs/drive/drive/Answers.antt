@@ -4,6 +4,7 @@ use Rattle.ds_words.specs.declared.access.BufferEntry.{BufferEntry}
 use Rattle.ds_words.specs.declared.access.Access.{Access}
 use Rattle.pm_board.specs.Table.{answer, buffer_after, HasRoom}
 use Rattle.pm_board.specs.Machines.{stepped, left, IsServed, IsIn, Drives, unbegun, under_way}
+use Rattle.pm_board.proofs.Sides.{few as at_most}
 use Rattle.pm_board.proofs.Driving.{within, room, asked_none, asked_also, asked_stop}
 use Rattle.pm_board.proofs.Machines.{poised_steps, poised, steps_on, broken, settled}
 use Rattle.pm_board.proofs.drive.drive.Goals as goal
@@ -39,15 +40,15 @@ pub access-found-requires-clause-within : goal.access-found-requires-clause-with
 access-found-requires-clause-within g c =
     let words = c.args.board.now.sized.0 in
     let few = c.args.board.now.some.1 in (
-      rw c.want-wanted.ensures (within (g.P.Structured.structure.words c.args.board.now.key) _ (g.M.Machine.calls.access c.args.board.now.key c.loop-end.call) c.loop-end.buffer.items c.args.board.now.some.0
+      rw (c.want-wanted.ensures, c.apart-apart.ensures) (within (g.P.Structured.structure.apart c.args.board.now.key) (g.P.Structured.structure.words c.args.board.now.key) _ (g.M.Machine.calls.access c.args.board.now.key c.loop-end.call) c.loop-end.buffer.items c.args.board.now.some.0
           (c.loop-end.invariant.serves c.loop-end.invariant.fits c.in-None.ensures) words),
-      omega (arith, words, few),
+      (let most = at_most (g.P.Structured.structure.apart c.args.board.now.key) (g.P.Structured.structure.words c.args.board.now.key) in omega (arith, words, few, most)),
     )
 
 pub access-found-requires-clause-step : goal.access-found-requires-clause-step
 access-found-requires-clause-step g c =
     let p = poised g.P.Structured.structure g.M.Machine.calls c.args.board.now.key c.law.ensures c.law-2.ensures c.args.call.now c.args.seat.now.me c.loop-end.begun c.loop-end.seat.me c.loop-end.call c.loop-end.buffer.items c.loop-end.invariant.taken c.loop-end.invariant.drives in
-    rw (c.want-wanted.ensures, c.args.board.now.sized.1)
+    rw (c.want-wanted.ensures, c.args.board.now.sized.1, c.apart-apart.ensures)
     (poised_steps g.P.Structured.structure g.M.Machine.calls c.args.board.now.key c.law.ensures c.law-2.ensures _ _ _ c.loop-end.begun c.loop-end.seat.me c.loop-end.call c.loop-end.buffer.items c.loop-end.invariant.fits c.in-None.ensures p)
 
 pub keep-requires : goal.keep-requires

@@ -1,9 +1,10 @@
-use Rattle.std.proofs.Common.{◌<◌, ◌∙◌, ◌*◌, ℕ, [], sym, subst, ap, get_or}
+use Rattle.std.proofs.Common.{◌<◌, ◌∙◌, ℕ, [], sym, subst, ap, get_or}
 use Rattle.std.specs.Mem.Slots.{slots_items}
 use Rattle.ds_layout.proofs.Sheet.{side_at_place}
 use Rattle.ds_layout.specs.Places.{words_of}
 use Rattle.ds_layout.specs.declared.layout.Layout.{Layout}
-use Rattle.pm_board.specs.Table.{two_sided}
+use Rattle.pm_board.specs.Table.{two_sided, cached_at}
+use Rattle.ds_structure.specs.Sheet.{apart_of}
 use Rattle.ds_shared.proofs.sheet.ClosedSheetSheetReader.load.Goals as goal
 
 pub cached-requires : goal.cached-requires
@@ -11,6 +12,8 @@ cached-requires c = subst (λ (l : Layout). c.number.result < words_of l) (sym c
 
 pub returns : goal.returns
 returns c =
+    let ws = slots_items c.args.self.now.words.table.words in
     c.cached.ensures
-    ∙ ap (λ (n : ℕ). get_or (slots_items c.args.self.now.words.table.words) (8 * n) 0) c.number.ensures.value
-    ∙ sym (side_at_place c.args.self.now.layout (two_sided (slots_items c.args.self.now.words.table.words) (λ q. [])).cached c.args.place c.requires)
+    ∙ ap (λ (l : Layout). get_or ws (cached_at (apart_of l) c.number.result) 0) c.args.self.now.same
+    ∙ ap (λ (n : ℕ). get_or ws (cached_at (apart_of c.args.self.now.layout) n) 0) c.number.ensures.value
+    ∙ sym (side_at_place c.args.self.now.layout (two_sided (apart_of c.args.self.now.layout) ws (λ q. [])).cached c.args.place c.requires)

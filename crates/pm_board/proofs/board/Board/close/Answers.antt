@@ -6,11 +6,12 @@ use Rattle.pm_board.specs.Rule.{AreTrue, Closes}
 use Rattle.pm_board.specs.Starts.{start_of}
 use Rattle.pm_board.proofs.Dealt.{remembers, ended}
 use Rattle.pm_board.proofs.Having.{closes_runs}
+use Rattle.pm_board.proofs.Sides.{positive}
 use Rattle.pm_board.proofs.board.Board.close.Goals as goal
 
 pub split_seat-before-requires : goal.split_seat-before-requires
 split_seat-before-requires g c =
-    let some : 0 < c.args.self.table.shared.table_id.words = (let a = c.args.self.sized.0 in let n = c.args.self.some.0 in omega arith) in
+    let some : 0 < c.args.self.table.shared.table_id.words = (let a = c.args.self.sized.0 in let n = positive (g.P.Structured.structure.apart c.args.self.key) _ c.args.self.some.0 in omega arith) in
     (c.requires.0, some, remembers g.P.Structured.structure c.args.self.table.shared.key.own (start_of c.args.self.table.shared.key) _ _)
 
 stands : goal.returns-clause-stand

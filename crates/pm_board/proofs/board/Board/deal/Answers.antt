@@ -2,12 +2,13 @@ use Rattle.std.proofs.Common.{[], refl, arith, ◌∙◌, ap}
 use Rattle.std.specs.Prelude.{Some}
 use Rattle.pm_board.specs.Views.{deeds_at, first_now, newcomer}
 use Rattle.pm_board.proofs.Dealt.{cut, may_split}
+use Rattle.pm_board.proofs.Sides.{positive}
 use Rattle.pm_board.proofs.board.Board.deal.Goals as goal
 
 pub split_seat-requires : goal.split_seat-requires
 split_seat-requires g c = (
   c.requires.table,
-  (let a = c.args.self.now.sized.0 in let n = c.args.self.now.some.0 in omega arith),
+  (let a = c.args.self.now.sized.0 in let n = positive (g.P.Structured.structure.apart c.args.self.now.key) _ c.args.self.now.some.0 in omega arith),
   rw c.args.self.now.sized.1 (may_split g.P.Structured.structure c.args.self.now.key (first_now g.P.Structured.structure c.args.stopped) (Some c.requires.rest.seen) _ _ c.args.process _ _ c.requires.low c.requires.rest.rest),
 )
 

@@ -5,11 +5,12 @@ use Rattle.pm_board.specs.Looks.{Looks}
 use Rattle.pm_board.specs.Rule.{Ruled}
 use Rattle.pm_board.specs.Starts.{start_of}
 use Rattle.pm_board.proofs.Looking.{looks}
+use Rattle.pm_board.proofs.Sides.{positive}
 use Rattle.pm_board.proofs.board.Board.look.Goals as goal
 
 pub load-found-requires : goal.load-found-requires
 load-found-requires g c =
-    let some : 0 < c.args.self.now.table.shared.table_id.words = (let a = c.args.self.now.sized.0 in let n = c.args.self.now.some.0 in omega arith) in
+    let some : 0 < c.args.self.now.table.shared.table_id.words = (let a = c.args.self.now.sized.0 in let n = positive (g.P.Structured.structure.apart c.args.self.now.key) _ c.args.self.now.some.0 in omega arith) in
     let key = c.args.self.now.table.shared.key in
     let me = c.args.place.now.me in (
       c.requires.0,

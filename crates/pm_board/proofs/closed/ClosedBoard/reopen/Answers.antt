@@ -9,6 +9,7 @@ use Rattle.pm_board.specs.Starts.{start_of}
 use Rattle.pm_board.specs.Views.{first_view, past_of, whole_view}
 use Rattle.pm_board.proofs.Dealt.{opens, runs_all}
 use Rattle.pm_board.proofs.Looking.{looks, newcomers_look}
+use Rattle.pm_board.proofs.Sides.{positive}
 use Rattle.pm_board.proofs.closed.ClosedBoard.reopen.Goals as goal
 
 pub of_words-requires : goal.of_words-requires
@@ -31,7 +32,7 @@ load-found-requires g c =
     let me = c.in-Ok-of_words.place.me in
     let length_is = sym (slots_counts c.args.self.table.words).0 ∙ c.args.self.sized in
     let long = ap (λ (ws : List ℕ). length ws) (c.as_slice.ensures.value ∙ c.in-Ok.ensures) ∙ length_is in
-    let some : 0 < table.table_id.words = (let n = c.args.self.some.0 in let a = o.0 in omega (arith, n, a, long)) in (
+    let some : 0 < table.table_id.words = (let n = positive (s.apart c.args.self.key) _ c.args.self.some.0 in let a = o.0 in omega (arith, n, a, long)) in (
       o.2,
       some,
       subst (λ (m : Me ℕ (View g.row.P-Doing.Denot g.row.P-Response.Denot)). Allows (Ruled s table.key.own {X = ℕ} (start_of table.key)) table.table_id.slots c.in-Ok-of_words.place.id m 0 (λ n. n) (λ n m'. (m'.1 ≡ m.1) × Looks m.0 m.0.past m'.0))
