@@ -168,11 +168,7 @@ impl Structured for Sheet {
     }
 
     fn first_word(key: &SheetKey, word: usize) -> u64 {
-        if word == key.bounds.version {
-            1
-        } else {
-            0
-        }
+        if word == key.bounds.version { 1 } else { 0 }
     }
 
     #[inline(always)]

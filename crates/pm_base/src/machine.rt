@@ -22,9 +22,9 @@ pub trait Structured {
         requires { structure.words key.now < 2 ^ 28 }
         ensures { result ≡ structure.words key.now };
 
-    /// How many of the first words share no line of a cache with another one: those that several processes store to. A word
-    /// behind them lies beside the next one, which costs a quarter of the memory: what one process alone stores to, but for
-    /// write-backs and help, suits that.
+    /// How many of the first words share no line of a cache with another one: those that several processes store to. Each
+    /// word after them lies beside the next one, which takes a quarter of the memory: that suits words to which one process
+    /// alone stores, but for write-backs and help.
     fn apart(key: &Self::Key) -> usize
         requires { structure.words key.now < 2 ^ 28 }
         ensures { result ≡ structure.apart key.now };

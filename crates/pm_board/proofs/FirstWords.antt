@@ -69,11 +69,11 @@ module _ {K S T : Type 0} (s : Structure K S T) (key : K) where
       ];
     }
 
-  -- behind those that lie apart
+  -- after those that lie apart
   pub one_beside : (n f : ℕ) (ws : List ℕ) → AreFirst s key n ws → f ≡ s.first_word key n → apart ≤ n → AreFirst s key (n + 1) (ws ++ block f)
   one_beside n f ws h is high = one_more n f ws (block f) h is refl refl (no_filler f) (let l = h.long in let x = lies_beside apart n high in let y = lies_beside apart (n + 1) (omega arith) in omega arith)
 
-  -- among them: so also before the first word behind them
+  -- among them: so also where the next word is the first after them
   pub one_apart : (n f : ℕ) (ws : List ℕ) → AreFirst s key n ws → f ≡ s.first_word key n → n < apart → AreFirst s key (n + 1) (ws ++ wide_block f)
   one_apart n f ws h is low = one_more n f ws (wide_block f) h is refl refl (filler f) (let l = h.long in let x = lies_apart apart n low in elim (cases_lt (n + 1) apart) [
     | inl lower ↦ (let y = lies_apart apart (n + 1) lower in omega arith)

@@ -145,7 +145,7 @@ module _ {K S T : Type 0} (s : Structure K S T) (key : K) (c : ℕ → Bool) (ws
   beyond (x ∷ w) zero l = absurd (omega arith)
   beyond (x ∷ w) (suc i) l = beyond w i (omega arith)
 
-  -- behind the last word
+  -- after the last word
   after : (n : ℕ) → s.words key ≤ n → cached_at apart (s.words key) ≤ cached_at apart n
   after n far = elim (cases_eq n (s.words key)) [
     | inl same ↦ (let e = ap (cached_at apart) same in omega arith)

@@ -27,13 +27,13 @@ positive apart n some = let b = before apart 0 n some in omega arith
 
 -- no word takes more than eight of the table's words
 pub few : (apart n : ℕ) → cached_at apart n ≤ 8 * n
-few apart n = elim (cases_lt n apart) [ | inl low ↦ (let x = lies_apart apart n low in omega arith) | inr high ↦ (let x = lies_beside apart n high in omega arith) ]
+few apart n = elim (cases_lt n apart) [ inl low ↦ (let x = lies_apart apart n low in omega arith) | inr high ↦ (let x = lies_beside apart n high in omega arith) ]
 
 -- two words have no side in common
 pub same_cached : (apart n m : ℕ) → cached_at apart n ≡ cached_at apart m → n ≡ m
 same_cached apart n m same = elim (cases_lt n m) [
   | inl less ↦ absurd (let b = before apart n m less in omega arith)
-  | inr other ↦ elim (cases_lt m n) [ | inl less ↦ absurd (let b = before apart m n less in omega arith) | inr more ↦ omega arith ]
+  | inr other ↦ elim (cases_lt m n) [ inl less ↦ absurd (let b = before apart m n less in omega arith) | inr more ↦ omega arith ]
 ]
 
 pub no_sides : (apart n m : ℕ) → cached_at apart n ≡ persisted_at apart m → ⊥
@@ -66,5 +66,5 @@ side apart i (suc n) = with_last (side apart i n) (cases_eq i (cached_at apart n
     with_last (of_word r low is) (inr ne) (inr other) = of_word r (omega arith) is
     with_last (of_none none) (inr ne) (inr other) = of_none (λ r low is. elim (cases_lt r n) [
       | inl less ↦ none r less is
-      | inr last ↦ (let e : r ≡ n = omega arith in elim (subst (IsSideOf apart i) e is) [ | inl a ↦ ne a | inr a ↦ other a ])
+      | inr last ↦ (let e : r ≡ n = omega arith in elim (subst (IsSideOf apart i) e is) [ inl a ↦ ne a | inr a ↦ other a ])
     ])

@@ -1,6 +1,6 @@
 -- The words of a structure on a table. The two sides of a word lie beside each other, the cached one first. Each of the
--- structure's first words lies 64 bytes behind the one before, so that no two share a line of a cache; what lies between
--- serves nothing. Behind them one word follows on the other.
+-- structure's first words lies 64 bytes after the one before, so that no two share a line of a cache; what lies between
+-- serves nothing. After them one word follows on the other.
 use Rattle.std.specs.Prelude.{ℕ, ◌+◌, ◌*◌, ◌<◌, ◌==◌, nat_lt, if◌then◌else◌, bit_or, List, [], ◌∷◌, ◌++◌, length, slice_index, Option, Some, None}
 use prog.Atomic.{either}
 use Rattle.ds_words.specs.declared.access.Class.{Class}
@@ -11,8 +11,8 @@ use Rattle.ds_words.specs.declared.access.Access.TheVariants.{Nothing, Load, Sto
 use Rattle.ds_words.specs.declared.words.TheConstants.{BUFFER_ENTRIES}
 use Rattle.ds_words.specs.Memory.{Memory, newer}
 
--- the number of the table's word that is the cached side of word n, where so many of the first words lie apart; so many
--- words of the table n words take
+-- the number of the table's word that is the cached side of word n, where this number of first words lies apart; it is
+-- also how many words of the table the first n words take
 unfoldable pub cached_at : ℕ → ℕ → ℕ
 cached_at apart n = if nat_lt n apart then 8 * n else 6 * apart + 2 * n
 

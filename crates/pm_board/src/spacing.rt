@@ -3,7 +3,7 @@
 ghost use Rattle.std.specs.Prelude.{◌≡◌, ◌<◌, ◌^◌};
 ghost use Rattle.pm_board.specs.Table.{cached_at};
 
-/// The number of the table's word that is the cached side of this word, where so many of the first words lie apart. The
+/// The number of the table's word that is the cached side of this word, where this number of first words lies apart. The
 /// next one is its persisted side.
 #[inline(always)]
 pub(crate) fn cached_at(apart: usize, word: usize) -> usize

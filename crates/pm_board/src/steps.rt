@@ -8,9 +8,9 @@ ghost use Rattle.pm_board.specs.Starts.{start_of};
 ghost use Rattle.pm_board.specs.Table.{oldest_of, rest_of, word_of, change, reported, answer, buffer_after, HasRoom};
 
 use crate::board::{Fixed, Landing, Lands, Law, TableSeat, View};
+use crate::spacing::cached_at;
 use arrayvec::ArrayVec;
 use atomic_table::Shared;
-use crate::spacing::cached_at;
 use ds_words::access::{Access, BufferEntry, Class};
 use ds_words::words::BUFFER_ENTRIES;
 use pm_base::machine::Structured;
@@ -31,7 +31,8 @@ fn oldest(buffer: &Buffer) -> Option<BufferEntry<usize>>
 }
 
 /// Makes the access on the table, with the oldest entry of the buffer where it writes that back, and answers what its
-/// step reports. So many of the first words lie apart. The key, the call and whether it has begun show the proof whose step it is.
+/// step reports. This number of first words lies apart. The key, the call and whether it has begun show the proof whose
+/// step it is.
 #[inline(always)]
 pub(crate) fn access<P: Structured, J: Landing<P::Doing, P::Response>, M>(
     shared: &Shared<u8, View<P::Doing, P::Response>, Fixed<P::Key, P::Doing, P::Response>, Law<P>>,
@@ -62,9 +63,7 @@ pub(crate) fn access<P: Structured, J: Landing<P::Doing, P::Response>, M>(
             place: word,
             expected,
             value,
-        } => {
-            shared.compare_exchange::<Lands<J>>(seat, cached_at(apart, word), expected, value)
-        }
+        } => { shared.compare_exchange::<Lands<J>>(seat, cached_at(apart, word), expected, value) }
         Access::Flush(word) => shared.load::<Lands<J>>(seat, cached_at(apart, word)),
         Access::Back => match oldest(buffer) {
             None => shared.load::<Lands<J>>(seat, 0),

@@ -55,7 +55,7 @@ side-value-requires g c =
       | else-choice-number w ↦ inr (w.if-choice-number.false, w.side-is ∙ ap (λ (n : ℕ). n + 1) at)
     ] in
     subst (λ key. c.if-choice-number.side < cached_at (g.P.Structured.structure.apart key) (g.P.Structured.structure.words key)) (sym c.loop-number.invariant.0)
-    (elim chosen [ | inl is ↦ (let e = is.1 in omega (arith, there, e)) | inr is ↦ (let e = is.1 in omega (arith, there, e)) ])
+    (elim chosen [ inl is ↦ (let e = is.1 in omega (arith, there, e)) | inr is ↦ (let e = is.1 in omega (arith, there, e)) ])
 
 pub set_word-requires : goal.set_word-requires
 set_word-requires g c =
