@@ -27,7 +27,7 @@ impl Structured for Registers {
     }
 
     fn apart(key: &usize) -> usize {
-        2 * *key
+        Registers::words(key)
     }
 
     fn first_word(key: &usize, word: usize) -> u64 {
