@@ -6,6 +6,7 @@ use Rattle.ds_words.specs.declared.access.Class.TheVariants.{Owned}
 use Rattle.ds_words.specs.Memory.{Memory}
 use Rattle.ds_eval.specs.declared.value.Value.{Value}
 use Rattle.ds_formula.specs.declared.cells.Shape.{Shape}
+use Rattle.ds_layout.specs.declared.layout.Layout.{Layout}
 use Rattle.ds_layout.specs.declared.place.Place.TheVariants as place
 use Rattle.ds_layout.specs.Places.{words_of, class_of, number_of, place_of}
 use Rattle.ds_layout.specs.SheetMemory.{memory_at, access_at}

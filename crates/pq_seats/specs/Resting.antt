@@ -6,6 +6,7 @@ use Rattle.pm_board.specs.Rule.{HasSideLeft}
 use Rattle.pm_board.specs.Views.{past_of}
 use Rattle.pm_board.specs.declared.board.Seated.{Seated}
 use Rattle.pq.specs.Places.{nodes}
+use Rattle.pq.specs.Queue.{queue}
 use Rattle.pq.specs.declared.calls.Doing.{Doing}
 use Rattle.pq.specs.declared.calls.Response.{Response}
 use Rattle.pq_seats.specs.Choices.{is_chosen}
