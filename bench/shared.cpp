@@ -190,8 +190,13 @@ class Sheet {
     std::unique_ptr<std::atomic<uint64_t>[]> words;
 
     // Both sides of a word lie beside each other. The words before the records lie 64 bytes apart, no two in a line of a cache;
-    // those of records, to which one process stores, follow one on the other.
-    static constexpr size_t at(size_t place) { return place < HEADERS ? 8 * place : 6 * HEADERS + 2 * place; }
+    // those of records, to which one process stores, follow one on the other. With -DALL_APART those lie apart, too.
+#ifdef ALL_APART
+    static constexpr size_t APART = WORDS;
+#else
+    static constexpr size_t APART = HEADERS;
+#endif
+    static constexpr size_t at(size_t place) { return place < APART ? 8 * place : 6 * APART + 2 * place; }
 
     uint64_t load(size_t place) { return words[at(place)].load(); }
     void store(size_t place, uint64_t value) { words[at(place)].store(value); }

@@ -1,5 +1,5 @@
 #!/usr/bin/env python3
-"""Runs the programs that bench/shared.sh names in turn, and prints what their calls took: python3 bench/shared.py DS_PACE PLAIN RUNS
+"""Runs the programs that bench/shared.sh names in turn, and prints what their calls took: python3 bench/shared.py DS_PACE PLAIN APART RUNS
 
 Each thread makes 256 calls on each of some sheets. A rate is that of all calls of a kind by the time from the first one to the last,
 and of the runs the greatest.
@@ -15,7 +15,7 @@ KINDS = (
     ("report", "reports beside these"),
 )
 THREADS = (1, 2, 4, 8)
-SHEETS = {"plain": 8, "shared": 8, "locked": 4}
+SHEETS = {"plain": 8, "apart": 8, "shared": 8, "locked": 4}
 
 
 def tallies(words):
@@ -30,7 +30,7 @@ def measured(programs, kind, threads, runs):
     calls = "reports" if kind == "report" else "edits"
     for _ in range(runs):
         for name, words in programs.items():
-            texts = [] if name == "plain" else ["number"]
+            texts = [] if name in ("plain", "apart") else ["number"]
             found = tallies([*words, kind, *texts, str(threads), str(SHEETS[name])])
             count, nanoseconds, _ = found[calls]
             best[name] = max(best[name], count / nanoseconds * 1e9)
@@ -38,20 +38,20 @@ def measured(programs, kind, threads, runs):
 
 
 def main():
-    pace, plain, runs = sys.argv[1], sys.argv[2], int(sys.argv[3])
-    programs = {"plain": [plain], "shared": [pace, "shared"], "locked": [pace, "locked"]}
+    pace, plain, apart, runs = *sys.argv[1:4], int(sys.argv[4])
+    programs = {"plain": [plain], "apart": [apart], "shared": [pace, "shared"], "locked": [pace, "locked"]}
     print(f"{runs} runs each, load {os.getloadavg()[0]:.1f} at the beginning, {os.cpu_count()} processors")
     print()
-    print("| Calls | Threads | shared, thousand a second | plain C++ | locked | shared to plain | shared to locked | shared to one thread |")
-    print("|---|---|---|---|---|---|---|---|")
+    print("| Calls | Threads | shared, thousand a second | plain C++ | with each word apart | locked | shared to plain | to that | to locked | to one thread |")
+    print("|---|---|---|---|---|---|---|---|---|---|")
     for kind, name in KINDS:
         alone = None
         for threads in THREADS:
             best = measured(programs, kind, threads, runs)
             shared = best["shared"]
             alone = alone or shared
-            numbers = [f"{best[program] / 1000:.0f}" for program in ("shared", "plain", "locked")]
-            ratios = [f"{shared / best['plain']:.2f}", f"{shared / best['locked']:.1f}", f"{shared / alone:.2f}"]
+            numbers = [f"{best[program] / 1000:.0f}" for program in ("shared", "plain", "apart", "locked")]
+            ratios = [f"{shared / best['plain']:.2f}", f"{shared / best['apart']:.2f}", f"{shared / best['locked']:.1f}", f"{shared / alone:.2f}"]
             print("| " + " | ".join([name, str(threads), *numbers, *ratios]) + " |", flush=True)
 
 
