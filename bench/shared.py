@@ -1,8 +1,8 @@
 #!/usr/bin/env python3
 """Runs the programs that bench/shared.sh names in turn, and prints what their calls took: python3 bench/shared.py DS_PACE PLAIN APART RUNS
 
-Each thread makes 256 calls on each of some sheets. A rate is that of all calls of a kind by the time from the first one to the last,
-and of the runs the greatest.
+Each thread makes 256 calls on each of some sheets, enough of them that waking a thread takes little of the time. A rate is
+that of all calls of a kind by the time from the first one to the last, and of the runs the greatest.
 """
 import os
 import subprocess
@@ -15,7 +15,7 @@ KINDS = (
     ("report", "reports beside these"),
 )
 THREADS = (1, 2, 4, 8)
-SHEETS = {"plain": 8, "apart": 8, "shared": 8, "locked": 4}
+SHEETS = {"plain": 32, "apart": 32, "shared": 32, "locked": 8}
 
 
 def tallies(words):
