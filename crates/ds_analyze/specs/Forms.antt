@@ -11,6 +11,7 @@ use Rattle.ds_explore.specs.declared.exploration.Outcome.{Outcome}
 use Rattle.ds_explore_summary.specs.Lines.{lines_text}
 use Rattle.ds_explore_summary.specs.Summaries.{summary_text}
 use Rattle.ds_trace_picture.specs.Drawing.{PICTURE_MOST, Draws}
+use Rattle.ds_trace_picture.specs.declared.script.PictureEnd.{PictureEnd}
 use Rattle.ds_trace_picture.specs.declared.script.PictureEnd.TheVariants as drawn
 use Rattle.ds_analyze.specs.declared.form.Unwritten.{Unwritten}
 use Rattle.ds_analyze.specs.declared.form.Unwritten.TheVariants as unwritten
@@ -39,12 +40,28 @@ IsForm exploration forms.Json out = out ≡ lines_text exploration
 IsForm exploration (forms.Outcome number) out = IsOutcomeText exploration number out
 IsForm exploration (forms.Picture number) out = IsOutcomePicture exploration number out
 
--- where that is said to be why: no outcome has the number, and this is how many there are
-abbrev pub IsUnwritten : Exploration → Unwritten → Type 0
-IsUnwritten exploration (unwritten.NoOutcome number count) = (numbered exploration number ≡ None) × (count ≡ length exploration.outcomes.items)
-IsUnwritten exploration unwritten.NotUtf8 = Unit {0}
-IsUnwritten exploration (unwritten.NoPicture end) = Unit {0}
-IsUnwritten exploration unwritten.NoMemory = Unit {0}
+-- the form is of the outcome with this number: its text, or its picture
+abbrev pub AsksFor : ExploreForm → ℕ → Type 0
+AsksFor (forms.Outcome asked) number = asked ≡ number
+AsksFor (forms.Picture asked) number = asked ≡ number
+AsksFor form number = ⊥
+
+-- the script has no picture, for this reason
+abbrev pub LacksPicture : List ℕ → PictureEnd → Type 0
+LacksPicture script end = (end ≢ drawn.Drawn) × (end ≢ drawn.WriteFailed → (out : List ℕ) × Draws PICTURE_MOST script end out)
+
+-- the form is a picture, and the script of its outcome has none, for this reason
+abbrev pub LacksPictureOf : Exploration → ExploreForm → PictureEnd → Type 0
+LacksPictureOf exploration (forms.Picture number) end = (outcome : Outcome) × (numbered exploration number ≡ Some outcome) × LacksPicture outcome.script.items end
+LacksPictureOf exploration form end = ⊥
+
+-- where that is said to be why the form is not written: no outcome has its number, and this is how many there are; or it is
+-- JSON, and a text is not UTF-8; or there is no picture
+abbrev pub IsUnwritten : Exploration → ExploreForm → Unwritten → Type 0
+IsUnwritten exploration form (unwritten.NoOutcome number count) = AsksFor form number × (numbered exploration number ≡ None) × (count ≡ length exploration.outcomes.items)
+IsUnwritten exploration form unwritten.NotUtf8 = form ≡ forms.Json
+IsUnwritten exploration form (unwritten.NoPicture end) = LacksPictureOf exploration form end
+IsUnwritten exploration form unwritten.NoMemory = Unit {0}
 
 -- this form of the exploration was written and passed on, and it is said how the exploration ends; or the writer failed
 abbrev pub WritesForm : Exploration → ExploreForm → Option (List ℕ) → Option (List ℕ) → Bool → ExploreEnd → Type 0

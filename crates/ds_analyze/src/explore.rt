@@ -1,5 +1,7 @@
 //! `dsheet explore`.
 
+ghost use Rattle.std.specs.Prelude.{◌≡◌, ◌*◌, ◌-◌, ◌^◌, min};
+
 use crate::form::{Unwritten, write_form};
 use crate::input::read_script;
 use crate::status::{explore_status, picture_status};
@@ -87,8 +89,13 @@ fn unwritten<R: Eprint>(rt: &R, why: Unwritten) -> u8 {
     }
 }
 
-// What the orders may have.
-fn options_of(exploring: Exploring<'_>) -> Options {
+// What the orders may have, and how many states are gone through at most.
+fn options_of(exploring: Exploring<'_>) -> Options
+    ensures crashes { result.crashes ≡ exploring.entry.crashes }
+    ensures stops { result.stops ≡ exploring.entry.stops }
+    ensures evictions { result.evictions ≡ exploring.entry.evictions }
+    ensures most { result.most ≡ min (exploring.entry.thousands * 1000) (2 ^ 64 - 1) }
+{
     Options {
         crashes: exploring.crashes,
         stops: exploring.stops,

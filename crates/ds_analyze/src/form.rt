@@ -1,11 +1,14 @@
 //! What of an exploration is written.
 
-ghost use Rattle.std.specs.Prelude.{◌≡◌, ◌≢◌, ◌-◌, IfErr, IfOk, List, None, OnOk, Some, true, ℕ, length, slice_get};
+ghost use Rattle.std.specs.Prelude.{◌≡◌, ◌≢◌, ◌-◌, IfErr, IfOk, List, None, Ok, Some, true, ℕ, length, slice_get};
 ghost use Rattle.std.specs.Io.KnownBytes.{Appends};
 ghost use Rattle.ds_script_io.specs.Streams.{is_flushed, writer_of};
 ghost use Rattle.ds_trace_picture.specs.Drawing.{Draws, PICTURE_MOST};
 ghost use Rattle.ds_trace_picture.specs.declared.script.PictureEnd.TheVariants as drawn;
-ghost use Rattle.ds_analyze.specs.Forms.{IsForm, IsOutcomePicture, IsOutcomeText, IsUnwritten, WritesForm, numbered};
+ghost use Rattle.ds_analyze.specs.Forms.{AsksFor, IsForm, IsOutcomePicture, IsOutcomeText, IsUnwritten, LacksPicture, WritesForm, numbered};
+ghost use Rattle.ds_analyze.specs.declared.form.Unwritten.TheVariants as unwritten;
+ghost use Rattle.ds_cli.specs.declared.exploring.ExploreForm.{ExploreForm};
+ghost use Rattle.ds_cli.specs.declared.exploring.ExploreForm.TheVariants as forms;
 
 use ds_cli::exploring::ExploreForm;
 use ds_explore::exploration::{Exploration, Outcome};
@@ -30,25 +33,10 @@ pub enum Unwritten {
     NoMemory,
 }
 
-impl From<AllocError> for Unwritten {
-    fn from(_error: AllocError) -> Unwritten {
-        Unwritten::NoMemory
-    }
-}
-
-impl From<LinesFault> for Unwritten {
-    fn from(fault: LinesFault) -> Unwritten {
-        match fault {
-            LinesFault::NotUtf8 => Unwritten::NotUtf8,
-            LinesFault::NoMemory => Unwritten::NoMemory,
-        }
-    }
-}
-
 // The outcome with this number, from 1.
 fn outcome(exploration: &Exploration, number: usize) -> Result<&Outcome, Unwritten>
     ensures is { IfOk result (λ outcome. numbered exploration.now number ≡ Some outcome.now) }
-    ensures none { IfErr result (IsUnwritten exploration.now) }
+    ensures none { (form : ExploreForm) → AsksFor form number → IfErr result (IsUnwritten exploration.now form) }
 {
     match exploration.outcomes.get(number.saturating_sub(1)) {
         Some(outcome) => Ok(outcome),
@@ -66,7 +54,7 @@ fn outcome_text(
     number: usize,
 ) -> Result<Vec<u8>, Unwritten>
     ensures is { IfOk result (λ text. IsOutcomeText exploration.now number text.items) }
-    ensures none { IfErr result (IsUnwritten exploration.now) }
+    ensures none { IfErr result (IsUnwritten exploration.now (forms.Outcome number)) }
 {
     let outcome = outcome(exploration, number)?;
     match outcome.text(alloc, number as u128) {
@@ -76,13 +64,14 @@ fn outcome_text(
 }
 
 // A picture of a script.
-fn picture(alloc: Global, script: &[u8]) -> Result<Vec<u8>, Unwritten>
-    ensures { IfOk result (λ text. Draws PICTURE_MOST script.now drawn.Drawn text.items) }
+fn picture(alloc: Global, script: &[u8]) -> Result<Vec<u8>, PictureEnd>
+    ensures drawn { IfOk result (λ text. Draws PICTURE_MOST script.now drawn.Drawn text.items) }
+    ensures lacks { IfErr result (LacksPicture script.now) }
 {
     let mut writer = Writing::new(Vec::new(alloc));
     match draw_script(alloc, script, Detail::Steps, &mut writer) {
         PictureEnd::Drawn => Ok(writer.into_inner()),
-        end => Err(Unwritten::NoPicture(end)),
+        end => Err(end),
     }
 }
 
@@ -92,10 +81,37 @@ fn outcome_picture(
     exploration: &Exploration,
     number: usize,
 ) -> Result<Vec<u8>, Unwritten>
-    ensures { IfOk result (λ text. IsOutcomePicture exploration.now number text.items) }
+    ensures is { IfOk result (λ text. IsOutcomePicture exploration.now number text.items) }
+    ensures none { IfErr result (IsUnwritten exploration.now (forms.Picture number)) }
 {
     let outcome = outcome(exploration, number)?;
-    picture(alloc, &outcome.script)
+    match picture(alloc, &outcome.script) {
+        Ok(text) => Ok(text),
+        Err(end) => Err(Unwritten::NoPicture(end)),
+    }
+}
+
+// A text for which memory may have lacked.
+fn or_no_memory(text: Result<Vec<u8>, AllocError>) -> Result<Vec<u8>, Unwritten>
+    ensures text { IfOk result (λ t. text ≡ Ok t) }
+    ensures memory { IfErr result (λ why. why ≡ unwritten.NoMemory) }
+{
+    match text {
+        Ok(text) => Ok(text),
+        Err(_) => Err(Unwritten::NoMemory),
+    }
+}
+
+// Its lines of JSON.
+fn json_text(alloc: Global, exploration: &Exploration) -> Result<Vec<u8>, Unwritten>
+    ensures is { IfOk result (λ text. IsForm exploration.now forms.Json text.items) }
+    ensures none { IfErr result (IsUnwritten exploration.now forms.Json) }
+{
+    match lines(alloc, exploration) {
+        Ok(text) => Ok(text),
+        Err(LinesFault::NotUtf8) => Err(Unwritten::NotUtf8),
+        Err(LinesFault::NoMemory) => Err(Unwritten::NoMemory),
+    }
 }
 
 // What of an exploration is written, in the form that is asked for.
@@ -104,12 +120,13 @@ fn form_text(
     exploration: &Exploration,
     form: ExploreForm,
 ) -> Result<Vec<u8>, Unwritten>
-    ensures { IfOk result (λ text. IsForm exploration.now form text.items) }
+    ensures is { IfOk result (λ text. IsForm exploration.now form text.items) }
+    ensures none { IfErr result (IsUnwritten exploration.now form) }
 {
     match form {
-        ExploreForm::All => Ok(exploration.text(alloc)?),
-        ExploreForm::Summary => Ok(summary(alloc, exploration)?),
-        ExploreForm::Json => Ok(lines(alloc, exploration)?),
+        ExploreForm::All => or_no_memory(exploration.text(alloc)),
+        ExploreForm::Summary => or_no_memory(summary(alloc, exploration)),
+        ExploreForm::Json => json_text(alloc, exploration),
         ExploreForm::Outcome(number) => outcome_text(alloc, exploration, number),
         ExploreForm::Picture(number) => outcome_picture(alloc, exploration, number),
     }
@@ -132,7 +149,7 @@ pub fn write_form<W: Write>(
     writer: &mut Writing<W>,
 ) -> Result<ExploreEnd, Unwritten>
     ensures writes { IfOk result (WritesForm exploration.now form (W.contents (writer_of writer.old)) (W.contents (writer_of writer.new)) (is_flushed writer.new)) }
-    ensures none { IfErr result (λ why. writer.new ≡ writer.old) }
+    ensures none { IfErr result (λ why. (writer.new ≡ writer.old) × IsUnwritten exploration.now form why) }
 {
     let text = form_text(alloc, exploration, form)?;
     if write_whole(writer, &text) {

@@ -65,6 +65,12 @@ http_at (at.Lines lines) = None
 http_at (at.Http http) = Some http
 http_at (at.Both lines http) = Some http
 
+-- the first of the addresses: that for lines, if it listens for them, else that for HTTP
+abbrev pub first_at : Addresses → SocketAddr
+first_at (at.Lines lines) = lines
+first_at (at.Http http) = http
+first_at (at.Both lines http) = lines
+
 -- it listens as both options say
 pub record ListensAt (matches : List Row) (addresses : Addresses) : Type 0 where
   pub lines : ListensBy matches (codes "listen") (lines_at addresses)

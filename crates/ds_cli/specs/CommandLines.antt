@@ -18,7 +18,7 @@ use Rattle.ds_cli.specs.Importings.{IsImporting}
 use Rattle.ds_cli.specs.Loggings.{IsLogging}
 use Rattle.ds_cli.specs.Reportings.{IsReporting}
 use Rattle.ds_cli.specs.Runnings.{IsRunning}
-use Rattle.ds_cli.specs.Servings.{IsOutOfLimits, IsServing}
+use Rattle.ds_cli.specs.Servings.{IsLimitOf, IsServing}
 use Rattle.ds_cli.specs.Tracings.{IsTracing}
 
 -- `clap`'s command is this one, with no global argument
@@ -201,16 +201,12 @@ Asks name rows (Backup path copy) = (name ≡ codes "backup") × Names rows (cod
 abbrev pub IsAskedBy : List Text → Action → Type 0
 IsAskedBy words action = (name : Text) × (rows : List Row) × (subcommand_of dsheet words ≡ Some (name, rows)) × Asks name rows action
 
--- the subcommand of this name has options with limits
-abbrev pub HasLimits : Text → Type 0
-HasLimits name = ((name ≡ codes "serve") ⊎ (name ≡ codes "explore")) ⊎ ((name ≡ codes "connect") ⊎ ((name ≡ codes "run") ⊎ ((name ≡ codes "export") ⊎ (name ≡ codes "log"))))
-
 -- the subcommands that want the file of a store
 abbrev pub WantsFile : Text → Type 0
 WantsFile name = ((name ≡ codes "check") ⊎ ((name ≡ codes "export") ⊎ (name ≡ codes "log"))) ⊎ ((name ≡ codes "import") ⊎ ((name ≡ codes "compact") ⊎ (name ≡ codes "backup")))
 
 -- a subcommand of this name with these matches asks for nothing, for this fault: it is none of these, an argument is
--- missing, or an option is out of its limits
+-- missing, or an option of this subcommand is out of its limits
 abbrev pub AsksNothing : Text → List Row → OptionsFault → Type 0
 AsksNothing name rows (CommandLine error) = ⊥
 AsksNothing name rows NoCommand = (name ≢ codes "run") × (name ≢ codes "report") × (name ≢ codes "serve") × (name ≢ codes "explore") × (name ≢ codes "trace")
@@ -218,14 +214,14 @@ AsksNothing name rows NoCommand = (name ≢ codes "run") × (name ≢ codes "rep
     × (name ≢ codes "export") × (name ≢ codes "import") × (name ≢ codes "compact") × (name ≢ codes "backup")
 AsksNothing name rows NoFile = (WantsFile name × (first_of (codes "file") rows ≡ None))
     ⊎ (((name ≡ codes "compact") × (first_of (codes "new") rows ≡ None)) ⊎ ((name ≡ codes "backup") × (first_of (codes "copy") rows ≡ None)))
-AsksNothing name rows (OutOfLimits limit) = HasLimits name × IsOutOfLimits rows limit
+AsksNothing name rows (OutOfLimits limit) = IsLimitOf name rows limit
 
 -- the same of a subcommand that none but those on a store can be
 abbrev pub AsksOfStore : Text → List Row → OptionsFault → Type 0
 AsksOfStore name rows (CommandLine error) = ⊥
 AsksOfStore name rows NoCommand = (name ≢ codes "check") × (name ≢ codes "log") × (name ≢ codes "export") × (name ≢ codes "import") × (name ≢ codes "compact") × (name ≢ codes "backup")
 AsksOfStore name rows NoFile = AsksNothing name rows NoFile
-AsksOfStore name rows (OutOfLimits limit) = ((name ≡ codes "export") ⊎ (name ≡ codes "log")) × IsOutOfLimits rows limit
+AsksOfStore name rows (OutOfLimits limit) = AsksNothing name rows (OutOfLimits limit)
 
 -- there is no subcommand, or it asks for nothing, for this fault
 abbrev pub NamesNothing : Option (Text × List Row) → OptionsFault → Type 0
@@ -234,10 +230,10 @@ NamesNothing None NoCommand = Unit {0}
 NamesNothing None fault = ⊥
 
 -- the words of the command line ask for nothing, for this fault: memory ran out, or `clap` gives the error for a fault
--- of the words; or the subcommand that it reads from them asks for nothing
+-- of the words; or there is none for `clap`, and the subcommand that it reads from them asks for nothing
 abbrev pub IsRefusedFor : List Text → OptionsFault → Type 0
 IsRefusedFor words (CommandLine error) = HasKind (fault_of dsheet words) error
-IsRefusedFor words fault = NamesNothing (subcommand_of dsheet words) fault
+IsRefusedFor words fault = (fault_of dsheet words ≡ []) × NamesNothing (subcommand_of dsheet words) fault
 
 -- the error says that memory ran out
 abbrev pub IsWanting : OptionsFault → Type 0

@@ -63,6 +63,10 @@ pub record IsServing (matches : List Row) (s : Serving) : Type 0 where
 abbrev pub HasNoNumber : List Row → Text → Type 0
 HasNoNumber rows name = (n : ℕ) → n < 65536 → IsNumberOf rows name n → ⊥
 
+-- the option of this name is given, and has no number of 16 bits as its value
+abbrev pub HasBadNumber : List Row → Text → Type 0
+HasBadNumber rows name = HasValue rows name × HasNoNumber rows name
+
 -- the option of this name names no level of the log
 abbrev pub HasNoLevel : List Row → Text → Type 0
 HasNoLevel rows name = (level : LevelFilter) → IsLevelOf rows name level → ⊥
@@ -79,15 +83,18 @@ HasNoShape matches = (columns rows : ℕ) → IsNumberOf matches (codes "columns
 abbrev pub HasNoProcesses : List Row → Type 0
 HasNoProcesses matches = (processes : ℕ) → IsNumberOf matches (codes "processes") processes → or_two processes ≤ PROCESSES_MOST → ⊥
 
--- the options have no number of workers below that of the processes of a new sheet
-abbrev pub HasNoWorkers : List Row → Type 0
-HasNoWorkers matches = (processes workers : ℕ) → IsNumberOf matches (codes "processes") processes → or_two processes ≤ PROCESSES_MOST → IsNumberOf matches (codes "workers") workers → workers < or_two processes → ⊥
+-- the options have a number of processes of at most 8, and none of workers below that of the processes of a new sheet
+pub record HasNoWorkers (matches : List Row) : Type 0 where
+  pub processes : ℕ
+  pub has : IsNumberOf matches (codes "processes") processes
+  pub most : or_two processes ≤ PROCESSES_MOST
+  pub none : (workers : ℕ) → IsNumberOf matches (codes "workers") workers → workers < or_two processes → ⊥
 
 -- the option of this name has no number from 1 to 65,535
 abbrev pub HasNone : List Row → Text → Type 0
 HasNone matches name = (n : ℕ) → IsNumberOf matches name n → 1 ≤ n → n < 65536 → ⊥
 
--- the options that an error names have no values within the limits
+-- the options that an error names have no values within the limits; one that may be left out is given
 abbrev pub IsOutOfLimits : List Row → OutOfLimits → Type 0
 IsOutOfLimits matches limits.Nowhere = (first_of (codes "listen") matches ≡ None) × (first_of (codes "http") matches ≡ None)
 IsOutOfLimits matches limits.Listen = HasBadAddress matches (codes "listen")
@@ -97,16 +104,16 @@ IsOutOfLimits matches limits.OpenHttp = IsOpen matches (codes "http")
 IsOutOfLimits matches limits.Shape = HasNoShape matches
 IsOutOfLimits matches limits.Processes = HasNoProcesses matches
 IsOutOfLimits matches limits.Workers = HasNoWorkers matches
-IsOutOfLimits matches limits.Sessions = HasNone matches (codes "sessions")
+IsOutOfLimits matches limits.Sessions = HasValue matches (codes "sessions") × HasNone matches (codes "sessions")
 IsOutOfLimits matches limits.AtOnce = HasNone matches (codes "at-once")
 IsOutOfLimits matches limits.Idle = HasNoNumber matches (codes "idle")
 IsOutOfLimits matches limits.Log = HasNoLevel matches (codes "log")
 IsOutOfLimits matches limits.Server = HasNoAddress matches (codes "server")
-IsOutOfLimits matches limits.Process = HasNoProcess matches (codes "process")
+IsOutOfLimits matches limits.Process = HasValue matches (codes "process") × HasNoProcess matches (codes "process")
 IsOutOfLimits matches limits.Timeout = HasNoNumber matches (codes "timeout")
 IsOutOfLimits matches limits.Key = HasNoPrefix matches
-IsOutOfLimits matches limits.From = HasNone matches (codes "from")
-IsOutOfLimits matches limits.To = HasNoNumber matches (codes "to")
+IsOutOfLimits matches limits.From = HasValue matches (codes "from") × HasNone matches (codes "from")
+IsOutOfLimits matches limits.To = HasBadNumber matches (codes "to")
 IsOutOfLimits matches limits.Most = HasNone matches (codes "most")
 IsOutOfLimits matches limits.Show = HasNoNumber matches (codes "show")
 IsOutOfLimits matches limits.Trace = HasNoNumber matches (codes "trace")
@@ -122,7 +129,34 @@ IsOutOfLimits matches limits.JsonStops = (one_of (codes "json") matches ≡ Some
 IsOutOfLimits matches limits.NoAt = IsNumberOf matches (codes "at") 0 × (one_of (codes "values") matches ≡ Some (codes "true"))
 IsOutOfLimits matches limits.Brief = (one_of (codes "brief") matches ≡ Some (codes "true")) × (one_of (codes "stops") matches ≡ Some (codes "true") → ⊥)
 
--- how the command is used whose option an error names
+-- the subcommand whose option an error names
+abbrev pub command_of : OutOfLimits → Text
+command_of limits.From = codes "run"
+command_of limits.To = codes "run"
+command_of limits.Backwards = codes "run"
+command_of limits.FromAlone = codes "run"
+command_of limits.ToAlone = codes "run"
+command_of limits.Brief = codes "run"
+command_of limits.JsonStops = codes "run"
+command_of limits.Most = codes "explore"
+command_of limits.Show = codes "explore"
+command_of limits.Trace = codes "explore"
+command_of limits.Forms = codes "explore"
+command_of limits.Server = codes "connect"
+command_of limits.Process = codes "connect"
+command_of limits.Timeout = codes "connect"
+command_of limits.Key = codes "connect"
+command_of limits.Until = codes "export"
+command_of limits.CsvJson = codes "export"
+command_of limits.At = codes "log"
+command_of limits.NoAt = codes "log"
+command_of other = codes "serve"
+
+-- the error names an option of this subcommand, and its value is out of the limits
+abbrev pub IsLimitOf : Text → List Row → OutOfLimits → Type 0
+IsLimitOf name matches limit = (name ≡ command_of limit) × IsOutOfLimits matches limit
+
+-- how the subcommand is used whose option an error names
 abbrev pub usage_of : OutOfLimits → Text
 usage_of limits.From = codes "dsheet run [OPTIONS] [FILE]"
 usage_of limits.To = codes "dsheet run [OPTIONS] [FILE]"

@@ -3,8 +3,8 @@
 ghost use Rattle.std.specs.Prelude.{◌≡◌, IfErr, IfOk, IfSome, None, codes, false, option_map, true};
 ghost use Rattle.clap.specs.Matches.{found_of};
 ghost use Rattle.clap.specs.Walk.{rows_of};
-ghost use Rattle.ds_cli.specs.Addresses.{HasBadAddress, IsAddressOf, IsGivenAddress, IsOpen, IsUnheard, ListensAt, ListensBy, MayListen};
-ghost use Rattle.ds_cli.specs.Servings.{IsOutOfLimits, IsTextOf};
+ghost use Rattle.ds_cli.specs.Addresses.{HasBadAddress, IsAddressOf, IsGivenAddress, IsOpen, IsUnheard, ListensAt, ListensBy, MayListen, first_at};
+ghost use Rattle.ds_cli.specs.Servings.{IsLimitOf, IsTextOf};
 
 use crate::exploring::is_set;
 use crate::serving::OutOfLimits;
@@ -23,8 +23,10 @@ pub enum Addresses {
 }
 
 impl Addresses {
-    /// The first of them.
-    pub fn first(self) -> SocketAddr {
+    /// The first of them: that for lines, if it listens for them.
+    pub fn first(self) -> SocketAddr
+        ensures { result ≡ first_at self }
+    {
         match self {
             Addresses::Lines(lines) | Addresses::Both { lines, http: _ } => lines,
             Addresses::Http(http) => http,
@@ -102,7 +104,7 @@ fn read_lines(
 ) -> Result<Option<SocketAddr>, OutOfLimits>
     requires { IsTextOf (rows_of (found_of matches.now)) (codes "token-file") (option_map (λ t. t.now) token_file) }
     ensures listens { IfOk result (ListensBy (rows_of (found_of matches.now)) (codes "listen")) }
-    ensures limit { IfErr result (IsOutOfLimits (rows_of (found_of matches.now))) }
+    ensures limit { IfErr result (IsLimitOf (codes "serve") (rows_of (found_of matches.now))) }
 {
     match read_address(matches, "listen", token_file) {
         Ok(lines) => Ok(lines),
@@ -118,7 +120,7 @@ fn read_http(
 ) -> Result<Option<SocketAddr>, OutOfLimits>
     requires { IsTextOf (rows_of (found_of matches.now)) (codes "token-file") (option_map (λ t. t.now) token_file) }
     ensures listens { IfOk result (ListensBy (rows_of (found_of matches.now)) (codes "http")) }
-    ensures limit { IfErr result (IsOutOfLimits (rows_of (found_of matches.now))) }
+    ensures limit { IfErr result (IsLimitOf (codes "serve") (rows_of (found_of matches.now))) }
 {
     match read_address(matches, "http", token_file) {
         Ok(http) => Ok(http),
@@ -135,7 +137,7 @@ pub(crate) fn read_addresses(
 ) -> Result<Addresses, OutOfLimits>
     requires { IsTextOf (rows_of (found_of matches.now)) (codes "token-file") (option_map (λ t. t.now) token_file) }
     ensures listens { IfOk result (ListensAt (rows_of (found_of matches.now))) }
-    ensures limit { IfErr result (IsOutOfLimits (rows_of (found_of matches.now))) }
+    ensures limit { IfErr result (IsLimitOf (codes "serve") (rows_of (found_of matches.now))) }
 {
     let lines = read_lines(matches, token_file)?;
     let http = read_http(matches, token_file)?;

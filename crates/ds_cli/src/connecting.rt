@@ -2,7 +2,7 @@
 
 ghost use Rattle.std.specs.Prelude.{◌≡◌, ◌≤◌, IfErr, IfOk, None, Some, codes, option_map};
 ghost use Rattle.clap.specs.Words.{first_of, found_of, one_of, rows_of};
-ghost use Rattle.ds_cli.specs.Servings.{IsNumberOr, IsOutOfLimits};
+ghost use Rattle.ds_cli.specs.Servings.{IsNumberOr, IsLimitOf};
 ghost use Rattle.ds_cli.specs.Connectings.{IsConnecting, IsProcessOf, IsStopping};
 ghost use Rattle.ds_cli.specs.Prefixes.{IsPrefixOf, is_prefix};
 
@@ -42,7 +42,7 @@ pub struct Stopping {
 // The process that they ask for, if any.
 fn read_process(found: &ArgMatches<'_>) -> Result<Option<usize>, OutOfLimits>
     ensures process { IfOk result (IsProcessOf (rows_of (found_of found.now))) }
-    ensures limit { IfErr result (IsOutOfLimits (rows_of (found_of found.now))) }
+    ensures limit { IfErr result (IsLimitOf (codes "connect") (rows_of (found_of found.now))) }
 {
     if text(found, "process").is_none() {
         return Ok(None);
@@ -66,7 +66,7 @@ fn is_prefix(text: &str) -> bool
 // The prefix of keys that they ask for, if any.
 fn read_prefix<'a>(found: &ArgMatches<'a>) -> Result<Option<&'a str>, OutOfLimits>
     ensures prefix { IfOk result (λ prefix. IsPrefixOf (rows_of (found_of found.now)) (option_map (λ t. t.now) prefix)) }
-    ensures limit { IfErr result (IsOutOfLimits (rows_of (found_of found.now))) }
+    ensures limit { IfErr result (IsLimitOf (codes "connect") (rows_of (found_of found.now))) }
 {
     match text(found, "key") {
         None => Ok(None),
@@ -78,7 +78,7 @@ fn read_prefix<'a>(found: &ArgMatches<'a>) -> Result<Option<&'a str>, OutOfLimit
 /// The client that the arguments of `dsheet connect` ask for. An error names the first that is out of its limits.
 pub fn read_connecting<'a>(found: &ArgMatches<'a>) -> Result<Connecting<'a>, OutOfLimits>
     ensures connecting { IfOk result (IsConnecting (rows_of (found_of found.now))) }
-    ensures limit { IfErr result (IsOutOfLimits (rows_of (found_of found.now))) }
+    ensures limit { IfErr result (IsLimitOf (codes "connect") (rows_of (found_of found.now))) }
 {
     let Some(server) = address(found, "server") else {
         return Err(OutOfLimits::Server);
@@ -100,7 +100,7 @@ pub fn read_connecting<'a>(found: &ArgMatches<'a>) -> Result<Connecting<'a>, Out
 // The first step that they ask for.
 fn read_from(found: &ArgMatches<'_>) -> Result<usize, OutOfLimits>
     ensures some { IfOk result (λ n. IsNumberOr (rows_of (found_of found.now)) (codes "from") 1 n × (1 ≤ n)) }
-    ensures limit { IfErr result (IsOutOfLimits (rows_of (found_of found.now))) }
+    ensures limit { IfErr result (IsLimitOf (codes "run") (rows_of (found_of found.now))) }
 {
     match number_or(found, "from", 1) {
         Some(from) if 1 <= from => Ok(from),
@@ -112,7 +112,7 @@ fn read_from(found: &ArgMatches<'_>) -> Result<usize, OutOfLimits>
 fn read_to(found: &ArgMatches<'_>, from: usize) -> Result<usize, OutOfLimits>
     requires { IsNumberOr (rows_of (found_of found.now)) (codes "from") 1 from }
     ensures some { IfOk result (λ n. IsNumberOr (rows_of (found_of found.now)) (codes "to") 0 n × (1 ≤ n → from ≤ n)) }
-    ensures limit { IfErr result (IsOutOfLimits (rows_of (found_of found.now))) }
+    ensures limit { IfErr result (IsLimitOf (codes "run") (rows_of (found_of found.now))) }
 {
     match number_or(found, "to", 0) {
         Some(to) if to == 0 || from <= to => Ok(to),
@@ -126,7 +126,7 @@ fn read_to(found: &ArgMatches<'_>, from: usize) -> Result<usize, OutOfLimits>
 pub(crate) fn read_stopping(found: &ArgMatches<'_>) -> Result<Stopping, OutOfLimits>
     requires { one_of (codes "stops") (rows_of (found_of found.now)) ≡ Some (codes "true") }
     ensures stopping { IfOk result (IsStopping (rows_of (found_of found.now))) }
-    ensures limit { IfErr result (IsOutOfLimits (rows_of (found_of found.now))) }
+    ensures limit { IfErr result (IsLimitOf (codes "run") (rows_of (found_of found.now))) }
 {
     if is_set(found, "json") {
         return Err(OutOfLimits::JsonStops);
@@ -142,7 +142,7 @@ pub(crate) fn names_no_step(found: &ArgMatches<'_>) -> Result<(), OutOfLimits>
     requires { one_of (codes "stops") (rows_of (found_of found.now)) ≡ Some (codes "true") → ⊥ }
     ensures none { IfOk result (λ _. (first_of (codes "from") (rows_of (found_of found.now)) ≡ None) × (first_of (codes "to") (rows_of (found_of found.now)) ≡ None)
         × (one_of (codes "brief") (rows_of (found_of found.now)) ≡ Some (codes "true") → ⊥)) }
-    ensures limit { IfErr result (IsOutOfLimits (rows_of (found_of found.now))) }
+    ensures limit { IfErr result (IsLimitOf (codes "run") (rows_of (found_of found.now))) }
 {
     if text(found, "from").is_some() {
         return Err(OutOfLimits::FromAlone);

@@ -4,7 +4,7 @@ ghost use Rattle.std.specs.Prelude.{◌≡◌, ◌↔◌, ◌≤◌, IfErr, IfOk
 ghost use Rattle.clap.specs.Words.{found_of, one_of, rows_of};
 ghost use Rattle.ds_cli.specs.ExploreForms.{AreForms, IsExploreForm, asked_forms, form_by};
 ghost use Rattle.ds_cli.specs.Explorings.{IsExploring};
-ghost use Rattle.ds_cli.specs.Servings.{IsNumberOf, IsOutOfLimits};
+ghost use Rattle.ds_cli.specs.Servings.{IsNumberOf, IsLimitOf};
 
 use crate::inputs::input_of;
 use crate::serving::{OutOfLimits, number};
@@ -83,7 +83,7 @@ impl Forms {
 // What the options say of what is to be written.
 fn what_is_asked(found: &ArgMatches<'_>) -> Result<Forms, OutOfLimits>
     ensures forms { IfOk result (AreForms (rows_of (found_of found.now))) }
-    ensures limit { IfErr result (IsOutOfLimits (rows_of (found_of found.now))) }
+    ensures limit { IfErr result (IsLimitOf (codes "explore") (rows_of (found_of found.now))) }
 {
     let Some(show) = number(found, "show") else {
         return Err(OutOfLimits::Show);
@@ -102,7 +102,7 @@ fn what_is_asked(found: &ArgMatches<'_>) -> Result<Forms, OutOfLimits>
 // What is to be written. An error is also that two forms are asked for.
 fn read_form(found: &ArgMatches<'_>) -> Result<ExploreForm, OutOfLimits>
     ensures form { IfOk result (IsExploreForm (rows_of (found_of found.now))) }
-    ensures limit { IfErr result (IsOutOfLimits (rows_of (found_of found.now))) }
+    ensures limit { IfErr result (IsLimitOf (codes "explore") (rows_of (found_of found.now))) }
 {
     let forms = what_is_asked(found)?;
     if 1 < forms.count() {
@@ -121,7 +121,7 @@ pub(crate) fn is_set(found: &ArgMatches<'_>, name: &str) -> bool
 // How many thousand states they ask for at most.
 fn read_most(found: &ArgMatches<'_>) -> Result<usize, OutOfLimits>
     ensures some { IfOk result (λ n. IsNumberOf (rows_of (found_of found.now)) (codes "most") n × (1 ≤ n)) }
-    ensures limit { IfErr result (IsOutOfLimits (rows_of (found_of found.now))) }
+    ensures limit { IfErr result (IsLimitOf (codes "explore") (rows_of (found_of found.now))) }
 {
     match number(found, "most") {
         Some(most) if 1 <= most => Ok(most),
@@ -133,7 +133,7 @@ fn read_most(found: &ArgMatches<'_>) -> Result<usize, OutOfLimits>
 /// asked for.
 pub fn read_exploring<'a>(found: &ArgMatches<'a>) -> Result<Exploring<'a>, OutOfLimits>
     ensures exploring { IfOk result (IsExploring (rows_of (found_of found.now))) }
-    ensures limit { IfErr result (IsOutOfLimits (rows_of (found_of found.now))) }
+    ensures limit { IfErr result (IsLimitOf (codes "explore") (rows_of (found_of found.now))) }
 {
     Ok(Exploring {
         file: input_of(found),

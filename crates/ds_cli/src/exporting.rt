@@ -3,7 +3,7 @@
 ghost use Rattle.std.specs.Prelude.{◌≡◌, IfErr, IfOk, codes};
 ghost use Rattle.clap.specs.Words.{found_of, rows_of};
 ghost use Rattle.ds_cli.specs.Exportings.{IsForm, IsSet};
-ghost use Rattle.ds_cli.specs.Servings.{IsOutOfLimits};
+ghost use Rattle.ds_cli.specs.Servings.{IsLimitOf};
 
 use crate::exploring::is_set;
 use crate::serving::OutOfLimits;
@@ -38,7 +38,7 @@ pub struct Exporting<'a> {
 pub(crate) fn form_of(found: &ArgMatches<'_>) -> Result<ExportForm, OutOfLimits>
     ensures form { IfOk result (IsForm (rows_of (found_of found.now))) }
     ensures one { IfOk result (λ _. IsSet (rows_of (found_of found.now)) (codes "csv") → IsSet (rows_of (found_of found.now)) (codes "json") → ⊥) }
-    ensures limit { IfErr result (IsOutOfLimits (rows_of (found_of found.now))) }
+    ensures limit { IfErr result (IsLimitOf (codes "export") (rows_of (found_of found.now))) }
 {
     let csv = is_set(found, "csv");
     let json = is_set(found, "json");

@@ -1,9 +1,9 @@
 //! What `dsheet log` is asked for.
 
-ghost use Rattle.std.specs.Prelude.{◌≡◌, IfErr, IfOk};
+ghost use Rattle.std.specs.Prelude.{◌≡◌, IfErr, IfOk, codes};
 ghost use Rattle.clap.specs.Words.{found_of, rows_of};
 ghost use Rattle.ds_cli.specs.Loggings.{IsShown};
-ghost use Rattle.ds_cli.specs.Servings.{IsOutOfLimits};
+ghost use Rattle.ds_cli.specs.Servings.{IsLimitOf};
 
 use crate::exploring::is_set;
 use crate::serving::{OutOfLimits, number};
@@ -35,7 +35,7 @@ pub struct Logging<'a> {
 /// of edits is none.
 pub(crate) fn shown_of(found: &ArgMatches<'_>) -> Result<Shown, OutOfLimits>
     ensures shown { IfOk result (IsShown (rows_of (found_of found.now))) }
-    ensures limit { IfErr result (IsOutOfLimits (rows_of (found_of found.now))) }
+    ensures limit { IfErr result (IsLimitOf (codes "log") (rows_of (found_of found.now))) }
 {
     let Some(at) = number(found, "at") else {
         return Err(OutOfLimits::At);

@@ -5,7 +5,7 @@ ghost use Rattle.std.specs.Prelude.{◌≡◌, ◌<◌, ◌≤◌, ℕ, IfErr, I
 ghost use Rattle.clap.specs.Matches.{found_of};
 ghost use Rattle.clap.specs.Walk.{rows_of};
 ghost use Rattle.ds_cli.specs.Addresses.{HasNoAddress, IsAddressOf};
-ghost use Rattle.ds_cli.specs.Servings.{HasNoLevel, HasNoNumber, HasNoShape, IsLevelOf, IsNumberOf, IsNumberOr, IsOutOfLimits, IsServing, IsTextOf, IsWritten, ServesSessions, or_two, usage_of};
+ghost use Rattle.ds_cli.specs.Servings.{HasBadNumber, HasNoLevel, HasNoNumber, HasNoShape, IsLevelOf, IsNumberOf, IsNumberOr, IsLimitOf, IsServing, IsTextOf, IsWritten, ServesSessions, or_two, usage_of};
 
 use crate::addresses::{Addresses, read_addresses};
 use crate::exploring::is_set;
@@ -207,7 +207,7 @@ pub(crate) fn number(matches: &ArgMatches<'_>, name: &str) -> Option<usize>
 /// The number of an option, or this one where it is not given; none where its value is none.
 pub(crate) fn number_or(matches: &ArgMatches<'_>, name: &str, default: usize) -> Option<usize>
     ensures some { IfSome result (IsNumberOr (rows_of (found_of matches.now)) name.now default) }
-    ensures none { result ≡ None → HasNoNumber (rows_of (found_of matches.now)) name.now }
+    ensures none { result ≡ None → HasBadNumber (rows_of (found_of matches.now)) name.now }
 {
     match matches.get_str(name) {
         Some(text) => digits(text),
@@ -265,7 +265,7 @@ fn read_shape(matches: &ArgMatches<'_>) -> Option<(Shape, usize, usize)>
 // How many processes the options ask for.
 fn read_processes(matches: &ArgMatches<'_>) -> Result<usize, OutOfLimits>
     ensures some { IfOk result (λ p. IsNumberOf (rows_of (found_of matches.now)) (codes "processes") p × (or_two p ≤ PROCESSES_MOST)) }
-    ensures limit { IfErr result (IsOutOfLimits (rows_of (found_of matches.now))) }
+    ensures limit { IfErr result (IsLimitOf (codes "serve") (rows_of (found_of matches.now))) }
 {
     match number(matches, "processes") {
         Some(processes) if or_two(processes) <= PROCESS_LIMIT => Ok(processes),
@@ -277,7 +277,7 @@ fn read_processes(matches: &ArgMatches<'_>) -> Result<usize, OutOfLimits>
 fn read_workers(matches: &ArgMatches<'_>, processes: usize) -> Result<usize, OutOfLimits>
     requires { IsNumberOf (rows_of (found_of matches.now)) (codes "processes") processes × (or_two processes ≤ PROCESSES_MOST) }
     ensures some { IfOk result (λ w. IsNumberOf (rows_of (found_of matches.now)) (codes "workers") w × (w < or_two processes)) }
-    ensures limit { IfErr result (IsOutOfLimits (rows_of (found_of matches.now))) }
+    ensures limit { IfErr result (IsLimitOf (codes "serve") (rows_of (found_of matches.now))) }
 {
     match number(matches, "workers") {
         Some(workers) if workers < or_two(processes) => Ok(workers),
@@ -288,7 +288,7 @@ fn read_workers(matches: &ArgMatches<'_>, processes: usize) -> Result<usize, Out
 // How many sessions they ask for at once.
 fn read_at_once(matches: &ArgMatches<'_>) -> Result<usize, OutOfLimits>
     ensures some { IfOk result (λ n. IsNumberOf (rows_of (found_of matches.now)) (codes "at-once") n × (1 ≤ n)) }
-    ensures limit { IfErr result (IsOutOfLimits (rows_of (found_of matches.now))) }
+    ensures limit { IfErr result (IsLimitOf (codes "serve") (rows_of (found_of matches.now))) }
 {
     match number(matches, "at-once") {
         Some(at_once) if 1 <= at_once => Ok(at_once),
@@ -299,7 +299,7 @@ fn read_at_once(matches: &ArgMatches<'_>) -> Result<usize, OutOfLimits>
 // How many sessions the options ask for; none where there is no end to them.
 fn read_sessions(matches: &ArgMatches<'_>) -> Result<Option<usize>, OutOfLimits>
     ensures sessions { IfOk result (ServesSessions (rows_of (found_of matches.now))) }
-    ensures limit { IfErr result (IsOutOfLimits (rows_of (found_of matches.now))) }
+    ensures limit { IfErr result (IsLimitOf (codes "serve") (rows_of (found_of matches.now))) }
 {
     if is_set(matches, "forever") {
         return match text(matches, "sessions") {
@@ -323,7 +323,7 @@ pub(crate) fn text<'a>(matches: &ArgMatches<'a>, name: &str) -> Option<&'a str>
 /// The server that the options of `dsheet serve` ask for. An error names the first option that is out of its limits.
 pub fn read_serving<'a>(matches: &ArgMatches<'a>) -> Result<Serving<'a>, OutOfLimits>
     ensures serving { IfOk result (IsServing (rows_of (found_of matches.now))) }
-    ensures limit { IfErr result (IsOutOfLimits (rows_of (found_of matches.now))) }
+    ensures limit { IfErr result (IsLimitOf (codes "serve") (rows_of (found_of matches.now))) }
 {
     let token_file = text(matches, "token-file");
     let addresses = read_addresses(matches, token_file)?;

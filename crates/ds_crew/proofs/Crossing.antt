@@ -11,6 +11,7 @@ use Rattle.ds_crew.specs.contracts.pass.Pass as Pass
 use Rattle.std.proofs.sync.ledger.Share.TheSendSync.{the_send as share_send}
 use denote.Struct.Declared.{row}
 use denote.Struct.Record.{declared}
+use Rattle.ds_crew.specs.contracts.pass.Trail as Trail
 use Rattle.http_server.proofs.log.Log.TheSendSync.{the_send as log_send}
 use Rattle.ds_core.specs.contracts.event.Event as Event
 use Rattle.ds_core.specs.contracts.event.EditRequest as EditRequest
@@ -62,6 +63,9 @@ Event-send = search (sendable, crosses, EditRequest-send, Evaluated-send) depth 
 Reply-send : IsSend Reply.the_row
 Reply-send = search (sendable, crosses) depth 60 fits 100000
 
+Trail-send : IsSend Trail.the_row
+Trail-send = search (sendable, crosses, log_send, Event-send, Reply-send) depth 40
+
 module _ (L M : RattleType) (l : Ghosts L.Denot) (m : Ghosts M.Denot) where
   pub kept_send : IsSend (Kept.the_row L M l m)
   kept_send = search (sendable, crosses, world_send, book_send) depth 40
@@ -70,4 +74,4 @@ module _ (L M : RattleType) (l : Ghosts L.Denot) (m : Ghosts M.Denot) where
   sheet_sync = search (sendable, crosses, kept_send) depth 40
 
   pub pass_send : IsSend (Pass.the_row L M l m)
-  pass_send = search (sendable, crosses, share_send, log_send, Event-send, Reply-send) depth 40
+  pass_send = search (sendable, crosses, share_send, log_send, Event-send, Reply-send, Trail-send) depth 40

@@ -20,7 +20,7 @@ each_more w ps p each is i d below =
 
 -- a pass of the next process, with these parts, is the process's first one
 pub pass_is : (w : WorldValue) (n m a b : ℕ) (last : List Value) → m ≡ n → last ≡ report_of w.reports n → a ≡ first_count w.done n → b ≡ first_count w.settled n
-    → record { process = m; last = last; dones = a; settleds = b; calls = [] } ≡ first_pass w n
+    → record { process = m; last = last; dones = a; settleds = b; calls = []; trail = [] } ≡ first_pass w n
 pass_is w n m a b last same is done settled = cc
 
 -- behind the first process nothing is left

@@ -12,7 +12,7 @@ use Rattle.ds_core.specs.declared.reply.Reply.TheVariants.{Answered}
 use Rattle.ds_core.specs.declared.reply.Reply.TheVariants as replies
 use Rattle.ds_crew.specs.Receipts.{PlainReceipt}
 use Rattle.ds_crew.specs.Kept.{HasSettled, settled_reply}
-use Rattle.ds_crew.specs.Passes.{PlainPass, asked}
+use Rattle.ds_crew.specs.Passes.{PlainPass, asked, with_trail}
 use Rattle.ds_crew.specs.declared.ended.Edited.{Edited}
 use Rattle.ds_crew.specs.declared.ended.Edited.TheVariants as edited
 use Rattle.ds_crew.specs.declared.ended.Recovered.{Recovered}
@@ -25,17 +25,18 @@ abbrev pub done_by : Edited → ℕ
 done_by (edited.Done receipt) = 1
 done_by end = 0
 
--- the pass has counted one report more as settled, and keeps its values, of which there is this number; all else stays
+-- the pass has counted one report more as settled, and keeps its values, of which there is this number; but for its trail
+-- all else stays
 pub record IsSettled (cells : ℕ) (old new : PlainPass) : Type 0 where
-  pub is : new ≡ record old { last = new.last; settleds = old.settleds + 1 }
+  pub is : new ≡ record old { last = new.last; settleds = old.settleds + 1; trail = new.trail }
   pub full : length new.last ≡ cells
   pub settled : HasSettled old.process new.last
 
 -- the pass after a step of its process's report: a Settled is counted in its share, and the pass then keeps this number of
--- values; else all stays
+-- values; else all stays; of its trail this says nothing
 abbrev pub AfterStep : ℕ → PlainPass → Reply → PlainPass → Type 0
 AfterStep cells old (Answered (Show reports.Settled)) new = IsSettled cells old new
-AfterStep cells old reply new = new ≡ old
+AfterStep cells old reply new = new ≡ with_trail old new.trail
 
 -- the last reply of an edit that ended so
 abbrev pub edit_reply : Edited → Reply
@@ -63,11 +64,11 @@ abbrev pub edit_begin : PlainPass → Cell → List ℕ → Event
 edit_begin pass cell text = BeginEdit (record { process = pass.process; cell = cell; text = text })
 
 -- the pass after an edit of this cell to this text: it has the edit as its last call, a Done is counted in its share,
--- and all else stays
+-- and all else stays, but for its trail
 abbrev pub after_edit : Cell → List ℕ → PlainPass → Edited → PlainPass
 after_edit cell text pass end = record (asked pass (edit_begin pass cell text) (edit_reply end)) { dones = pass.dones + done_by end }
 
--- the pass after a recovery: it has the recovery as its last call, and all else stays
+-- the pass after a recovery: it has the recovery as its last call, and all else stays, but for its trail
 abbrev pub after_recovery : PlainPass → Recovered → PlainPass
 after_recovery pass end = asked pass (BeginRecover pass.process) (recovery_reply end)
 
@@ -106,7 +107,7 @@ HasReceiptOf (BeginEdit request) end = HasReceipt request.process request.cell r
 HasReceiptOf begin end = ⊥
 
 -- the pass after a show of a sheet with this number of cells: it has the show as its last call; a Settled is counted, and
--- the pass then keeps a value for each cell; else all else stays
+-- the pass then keeps a value for each cell; else all else stays; of its trail this says nothing
 abbrev pub AfterShow : ℕ → PlainPass → Reported → PlainPass → Type 0
 AfterShow cells old reported.Settled new = IsSettled cells (asked old (BeginShow old.process) settled_reply) new
-AfterShow cells old end new = new ≡ asked old (BeginShow old.process) (show_reply end)
+AfterShow cells old end new = new ≡ with_trail (asked old (BeginShow old.process) (show_reply end)) new.trail

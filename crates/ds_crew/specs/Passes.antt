@@ -5,17 +5,24 @@ use Rattle.ds_state.specs.Reports.{PlainReports}
 use Rattle.ds_state.specs.Value.{WorldValue}
 use Rattle.ds_core.specs.declared.event.Event.{Event}
 use Rattle.ds_core.specs.declared.reply.Reply.{Reply}
+use Rattle.ds_formula.specs.declared.cells.Shape.{Shape}
 use Rattle.ds_crew.specs.Kept.{HasUsed, report_of}
+use Rattle.ds_crew.specs.Trails.{Trail, HasGoneRounds}
 
--- a process, the values of its last settled show, its shares of the counts of Done and of Settled answers, and the
--- edits, reports and recoveries that the pass was used for, in order: of each the event that began it, and its last
--- reply
+-- a process, the values of its last settled show, its shares of the counts of Done and of Settled answers, the edits,
+-- reports and recoveries that the pass was used for, in order: of each the event that began it, and its last reply;
+-- and all that was asked of the sheet by the pass
 pub record PlainPass : Type 0 where
   pub process : ℕ
   pub last : List Value
   pub dones : ℕ
   pub settleds : ℕ
   pub calls : List (Event × Reply)
+  pub trail : Trail
+
+-- the pass with this trail
+abbrev pub with_trail : PlainPass → Trail → PlainPass
+with_trail pass trail = record pass { trail = trail }
 
 -- the pass, once it was used for one call more, which this event began, and which had this as its last reply
 abbrev pub asked : PlainPass → Event → Reply → PlainPass
@@ -46,12 +53,24 @@ first_pass w process = record {
   dones = first_count w.done process;
   settleds = first_count w.settled process;
   calls = [];
+  trail = [];
 }
 
 -- these are the values of each process's last settled show
 pub record AreLasts (w : WorldValue) (lasts : List (List Value)) : Type 0 where
   pub count : length lasts ≡ w.sheet.layout.processes
   pub each : (process : ℕ) → process < length lasts → slice_index_or lasts process [] ≡ report_of w.reports process
+
+-- the pass was lent to a worker of a sheet of this shape for that many rounds: its trail goes on by these, and all else
+-- stays
+pub record HasServed (shape : Shape) (rounds : ℕ) (old new : PlainPass) : Type 0 where
+  pub is : new ≡ with_trail old new.trail
+  pub gone : HasGoneRounds shape old.process rounds old.trail new.trail
+
+-- each pass of a list was lent so; the lists are equally long
+pub record HaveServed (shape : Shape) (rounds : ℕ) (old new : List PlainPass) : Type 0 where
+  pub count : length new ≡ length old
+  pub each : (place : ℕ) (d : PlainPass) → place < length old → HasServed shape rounds (slice_index_or old place d) (slice_index_or new place d)
 
 -- the passes of a world at their making: one for each process
 pub record AreFirstPasses (w : WorldValue) (passes : List PlainPass) : Type 0 where

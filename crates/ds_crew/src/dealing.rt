@@ -80,6 +80,7 @@ pub(crate) fn gather<L: Ledger, M: Ledger>(passes: Vec<Pass<L, M>>) -> Option<(S
         mut dones,
         mut settleds,
         calls: _,
+        trail: _,
     } = passes.pop()?;
     while let Some(pass) = passes.pop() {
         let Pass {
@@ -88,6 +89,7 @@ pub(crate) fn gather<L: Ledger, M: Ledger>(passes: Vec<Pass<L, M>>) -> Option<(S
             dones: more,
             settleds: others,
             calls: _,
+            trail: _,
         } = pass;
         dones.merge(more);
         settleds.merge(others);

@@ -9,8 +9,11 @@ ghost use Rattle.ds_core.specs.Counts.{done_of, settled_of, IsReplyTo};
 ghost use Rattle.ds_core.specs.Ends.{edits, reports};
 ghost use Rattle.ds_crew.specs.LockedCalls.{CountsNothing, IsKindOf, IsNoStep, step_reply};
 ghost use Rattle.ds_crew.specs.Kept.{Happened, HasMade, HasMarked, HasSettled, HasStepped, StepsIn, settled_reply, last_after, report_of};
+ghost use Rattle.ds_crew.specs.Trails.{and_event};
+ghost use Rattle.ds_core.specs.declared.event.Event.TheVariants.{Step};
 ghost use Rattle.ds_crew.specs.declared.steps.Call.TheVariants.{Edit, Show};
 
+use crate::pass::Trail;
 use crate::steps::{Call, step};
 use ds_calls::marked::{cells, next_marked};
 use ds_core::ends::CallEnd;
@@ -28,12 +31,12 @@ use std::alloc::Global;
 use std::sync::ledger::{Book, Ledger, Share};
 
 /// What lies under the lock: a world, and a book for each of its counts. The world is sound, and what
-/// it counts is what the books do, whenever the lock is free.
+/// it counts is what the books do, whenever the lock is free. Each event goes on a trail.
 #[derive(Drop)]
 pub(crate) struct Kept<L: Ledger, M: Ledger> {
-    pub(crate) world: World,
-    pub(crate) dones: Book<L>,
-    pub(crate) settleds: Book<M>,
+    world: World,
+    dones: Book<L>,
+    settleds: Book<M>,
     ghost done: { world.done ≡ dones.total },
     ghost settled: { world.settled ≡ settleds.total },
 }
@@ -68,14 +71,17 @@ fn replace(values: &mut Vec<Value>, by: &[Value])
 
 impl<L: Ledger, M: Ledger> Kept<L, M> {
     // One event that is no step: it counts nothing.
-    pub(crate) fn happen(&mut self, alloc: Global, event: &Event) -> Reply
+    pub(crate) fn happen(&mut self, alloc: Global, event: &Event, trail: &mut Trail) -> Reply
         requires { IsNoStep event.now }
         ensures fits { Fits self.old.world event.now result self.new.world }
         ensures happened { Happened event.now result }
         ensures reply { IsReplyTo event.now result }
+        ensures trail { trail.new ≡ and_event trail.old event.now result }
     {
         self.world.is_always_good();
-        take(alloc, &mut self.world, event)
+        let reply = take(alloc, &mut self.world, event);
+        trail.note(event, &reply);
+        reply
     }
 
     // A step of work or of a recovery, and what it did to the call; none where the process is in no such call. It
@@ -85,13 +91,17 @@ impl<L: Ledger, M: Ledger> Kept<L, M> {
         alloc: Global,
         process: usize,
         call: Call,
+        trail: &mut Trail,
     ) -> Option<Turn<E>>
         requires counts { CountsNothing call }
         requires kind { IsKindOf call E.kind }
         ensures steps { StepsIn call process self.old.world (step_reply E.kind result) self.new.world }
         ensures happened { HasStepped call process (step_reply E.kind result) }
+        ensures trail { trail.new ≡ and_event trail.old (Step process) (step_reply E.kind result) }
     {
-        step(alloc, &mut self.world, process, call)
+        let turn = step(alloc, &mut self.world, process, call);
+        trail.note_step(process, turn);
+        turn
     }
 
     // A step of an edit, and what it did to it; none where the process is in none. A Done is counted in the share.
@@ -100,12 +110,14 @@ impl<L: Ledger, M: Ledger> Kept<L, M> {
         alloc: Global,
         process: usize,
         share: &mut Share<L>,
+        trail: &mut Trail,
     ) -> Option<Turn<EditEnd>>
         requires { 0 < share.old.parts }
         ensures steps { StepsIn Edit process self.old.world (step_reply edits result) self.new.world }
         ensures happened { HasStepped Edit process (step_reply edits result) }
         ensures amount { share.new.amount ≡ share.old.amount + done_of (step_reply edits result) }
         ensures parts { share.new.parts ≡ share.old.parts }
+        ensures trail { trail.new ≡ and_event trail.old (Step process) (step_reply edits result) }
     {
         let Kept {
             world,
@@ -113,6 +125,7 @@ impl<L: Ledger, M: Ledger> Kept<L, M> {
             settleds: _,
         } = self;
         let turn = step(alloc, world, process, Call::Edit);
+        trail.note_step(process, turn);
         if let Some(Turn::Answers(EditEnd::Done(_))) = turn {
             dones.add(share, 1);
         }
@@ -129,6 +142,7 @@ impl<L: Ledger, M: Ledger> Kept<L, M> {
         cells: usize,
         share: &mut Share<M>,
         last: &mut Vec<Value>,
+        trail: &mut Trail,
     ) -> Option<Turn<ShowEnd>>
         requires { 0 < share.old.parts }
         ensures steps { cells_of self.old.world.sheet.layout ≡ cells → cells ≤ vec_capacity last.old
@@ -139,6 +153,7 @@ impl<L: Ledger, M: Ledger> Kept<L, M> {
         ensures parts { share.new.parts ≡ share.old.parts }
         ensures last { last.new.items ≡ last_after (step_reply reports result) (report_of self.new.world.reports process) last.old.items }
         ensures full { step_reply reports result ≡ settled_reply → length last.new.items ≡ cells }
+        ensures trail { trail.new ≡ and_event trail.old (Step process) (step_reply reports result) }
     {
         let Kept {
             world,
@@ -146,14 +161,23 @@ impl<L: Ledger, M: Ledger> Kept<L, M> {
             settleds,
         } = self;
         if world.words.layout().cells() != cells || last.capacity() < cells {
+            trail.note(&Event::Step(process), &Reply::NotEnabled);
             return None;
         }
         let turn = step(alloc, world, process, Call::Show);
+        trail.note_step(process, turn);
         if let Some(Turn::Answers(ShowEnd::Settled)) = turn {
             settleds.add(share, 1);
             replace(last, world.reports.of(process));
         }
         turn
+    }
+
+    // The world.
+    pub(crate) fn world(&self) -> &World
+        ensures { result.now ≡ self.now.world }
+    {
+        &self.world
     }
 
     // The task that a process's work waits for, in memory of its own.
@@ -180,7 +204,7 @@ impl<L: Ledger, M: Ledger> Kept<L, M> {
         requires settleds { settleds.parts ≡ M.parts }
         ensures done { result.done ≡ dones.amount }
         ensures settled { result.settled ≡ settleds.amount }
-        ensures reports { result.reports ≡ self.world.reports }
+        ensures world { result ≡ self.world }
     {
         let Kept {
             world,

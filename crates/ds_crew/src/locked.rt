@@ -111,11 +111,11 @@ impl<L: Ledger, M: Ledger> LockedSheet<L, M> {
         ensures stray { FirstStray result.world.reports passes.items result.stray }
     {
         let kept = self.kept.into_inner();
-        let stray = stray_of(&kept.world, &passes);
-        let world = match gather(passes) {
-            Some((dones, settleds)) => kept.closed(dones, settleds),
-            None => kept.world,
+        let stray = stray_of(kept.world(), &passes);
+        let Some((dones, settleds)) = gather(passes) else {
+            unreachable!()
         };
+        let world = kept.closed(dones, settleds);
         Closed { world, stray }
     }
 }

@@ -7,6 +7,7 @@ ghost use Rattle.ds_crew.specs.LockedCalls.{call_in, step_reply, IsKindOf};
 ghost use Rattle.ds_crew.specs.Kept.{HasMade, HasShow, HasSettled, HasStepped, StepsIn, settled_reply, report_of};
 
 use ds_core::ends::CallEnd;
+use ds_core::reply::Reply;
 use ds_state::situation::Situation;
 use ds_state::turn::Turn;
 use ds_state::world::World;
@@ -43,6 +44,17 @@ fn is_in(world: &World, process: usize, call: Call) -> bool
     ensures { IsTrue result ↔ (call_in ((world_of world.now).situation process) ≡ Some call) }
 {
     process < world.situations.len() && call_in(&world.situations[process]) == Some(call)
+}
+
+// The reply to a step that did this to its call, or could not be made.
+pub(crate) fn reply_to<E: CallEnd>(turn: Option<Turn<E>>) -> Reply
+    ensures { result ≡ step_reply E.kind turn }
+{
+    match turn {
+        None => Reply::NotEnabled,
+        Some(Turn::GoesOn) => Reply::Stepped,
+        Some(Turn::Answers(end)) => Reply::Answered(end.answer()),
+    }
 }
 
 // The next step of a process's call, where that is this one, and what it did to the call; else none, and nothing

@@ -1,18 +1,19 @@
 //! Workers: threads that recalculate the sheet.
 
-ghost use Rattle.std.specs.Prelude.{◌≡◌, ◌≤◌, length};
+ghost use Rattle.std.specs.Prelude.{◌≡◌, length};
+ghost use Rattle.ds_crew.specs.Passes.{HasServed, HaveServed};
+ghost use Rattle.ds_crew.specs.Trails.{HasGoneRound, HasGoneRounds, HasTurned};
 
 use crate::ended::Worked;
 use crate::locked::LockedSheet;
-use crate::pass::Pass;
+use crate::pass::{Pass, Trail};
 use ds_core::event::Event;
 use ds_formula::cells::Cell;
 use ds_state::refusal::Refusal;
 use std::alloc::Global;
 use std::sync::Wait;
 use std::sync::ledger::Ledger;
-use std::thread;
-use std::thread::Threads;
+use std::thread::{Threads, for_each_mut};
 
 /// Is asked before and after each evaluation, while the lock is free. It may let the worker wait.
 pub trait Gate {
@@ -33,21 +34,39 @@ impl Gate for Open {
     fn after(&self, _process: usize, _cell: Cell) {}
 }
 
-// One round of a worker: work on each cell in turn. Where its process is stopped, it recovers.
+// A worker's turn at a cell: work on it. Where its process is stopped, it recovers.
+fn turn<L: Ledger, M: Ledger, G: Gate, R: Wait>(
+    rt: &R,
+    alloc: Global,
+    sheet: &LockedSheet<L, M>,
+    process: usize,
+    cell: Cell,
+    gate: &G,
+    trail: &mut Trail,
+)
+    ensures { HasTurned process cell trail.old trail.new }
+{
+    let worked = sheet.work_as(rt, alloc, process, cell, gate, trail);
+    if worked == Worked::Refused(Refusal::Stopped) {
+        let begin = Event::BeginRecover(process);
+        let _came = sheet.recover_as(rt, alloc, process, &begin, trail);
+    }
+}
+
+// One round of a worker: its turn at each cell.
 fn round<L: Ledger, M: Ledger, G: Gate, R: Wait>(
     rt: &R,
     alloc: Global,
     sheet: &LockedSheet<L, M>,
     process: usize,
     gate: &G,
-) {
+    trail: &mut Trail,
+)
+    ensures { HasGoneRound sheet.now.layout.shape process trail.old trail.new }
+{
     let shape = sheet.layout().shape;
     for index in 0..shape.count() {
-        let worked = sheet.work_as(rt, alloc, process, shape.cell(index), gate);
-        if worked == Worked::Refused(Refusal::Stopped) {
-            let begin = Event::BeginRecover(process);
-            let _came = sheet.recover_as(rt, alloc, process, &begin);
-        }
+        turn(rt, alloc, sheet, process, shape.cell(index), gate, trail);
     }
 }
 
@@ -56,56 +75,43 @@ fn rounds<L: Ledger, M: Ledger, G: Gate, R: Wait>(
     rt: &R,
     alloc: Global,
     sheet: &LockedSheet<L, M>,
-    process: usize,
     gate: &G,
     turns: u64,
-) {
+    pass: &mut Pass<L, M>,
+)
+    ensures { HasServed sheet.now.layout.shape turns pass.old pass.new }
+{
+    let Pass {
+        process,
+        last: _,
+        dones: _,
+        settleds: _,
+        calls: _,
+        trail,
+    } = pass;
     for _ in 0..turns {
-        round(rt, alloc, sheet, process, gate);
+        round(rt, alloc, sheet, *process, gate, trail);
     }
 }
 
-/// Lets a worker thread drive the process of each pass, for at most `turns` rounds over all cells of
-/// the sheet, and answers how many threads could be started. A worker whose process is stopped
-/// recovers it. Where a process migrates the sheet, its own work is refused, and so are recoveries of the others: then a
-/// worker whose process is stopped has nothing to do in its rounds. Returns when all have ended. Work counts nothing,
-/// so the passes are as they were.
+/// Lends each pass to a worker, which drives its process for `turns` rounds: in each it works on each cell of the sheet, in
+/// order, and where its process is stopped it recovers it, and drops what that says. Each worker has a thread of its own
+/// where one can be started. Where a process migrates the sheet, its own work is refused, and so are recoveries of the
+/// others: then a worker whose process is stopped has nothing to do in its rounds. Returns when all have ended. Work
+/// counts nothing, so but for their trails the passes are as they were.
 pub fn work_all<
     L: Ledger + Send + Sync,
     M: Ledger + Send + Sync,
     G: Gate + Sync,
     R: Threads + Wait + Sync,
->(
-    rt: &R,
-    alloc: Global,
-    sheet: &LockedSheet<L, M>,
-    passes: &mut [Pass<L, M>],
-    gate: &G,
-    turns: u64,
-) -> usize
-    ensures passes { passes.new ≡ passes.old }
-    ensures started { result ≤ length passes.old }
+>(rt: &R, alloc: Global, sheet: &LockedSheet<L, M>, passes: &mut [Pass<L, M>], gate: &G, turns: u64)
+    ensures { HaveServed sheet.now.layout.shape turns passes.old passes.new }
 {
-    let count = passes.len();
-    let passes: &[Pass<L, M>] = passes;
-    thread::scope(
-        thread::scope_env(),
+    let threads = passes.len().max(1);
+    for_each_mut(
         rt,
-        |scope| -> usize
-            requires { length passes.now ≡ count }
-            ensures { result ≤ count }
-        {
-            let mut started = 0usize;
-            for place in 0..count {
-                let process = passes[place].process();
-                if scope
-                    .spawn(move || rounds(rt, alloc, sheet, process, gate, turns))
-                    .is_ok()
-                {
-                    started += 1;
-                }
-            }
-            started
-        },
-    )
+        passes,
+        threads,
+        &|_place, pass| { rounds(rt, alloc, sheet, gate, turns, pass) },
+    );
 }

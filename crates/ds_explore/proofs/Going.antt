@@ -1,39 +1,60 @@
 -- What is known where all orders are said to be gone through.
-use Rattle.std.proofs.Common.{ℕ, ◌≡◌, ◌≤◌, Bool, true, false, List, length, subst, sym}
-use Rattle.std.specs.Global.{Vec}
+use Rattle.std.proofs.Common.{ℕ, ◌≡◌, ◌<◌, ◌≤◌, ◌+◌, ◌∙◌, Bool, true, false, true≢false, List, arith, get_or, length, subst, sym}
 use Rattle.std.specs.Prelude.{IsFalse, IsTrue}
+use Rattle.ds_paths.specs.declared.graph.Edge.{Edge}
+use Rattle.ds_paths.specs.Paths.{AreCounts, IsCount}
+use Rattle.ds_explore_state.specs.declared.choices.Choice.{Choice}
 use Rattle.ds_explore_state.specs.Closed.{keys_of}
+use Rattle.ds_explore_state.specs.Following.{IsKept}
 use Rattle.ds_explore_state.specs.States.{groups_of}
 use Rattle.ds_explore_state.specs.declared.states.States.{States}
-use Rattle.ds_explore_state.proofs.Ordered.{orders_written}
+use Rattle.ds_explore_state.proofs.Ordered.{order_is_path}
 use Rattle.ds_explore.specs.declared.exploration.Exploration.{Exploration}
 use Rattle.ds_explore.specs.declared.exploration.Outcome.{Outcome}
 use Rattle.ds_explore.specs.declared.options.Options.{Options}
 use Rattle.ds_explore.specs.declared.search.Start.{Start}
 use Rattle.ds_explore.specs.Explored.{AreOutcomes, end_of, exploration_text, wrong_in}
 use Rattle.ds_explore.specs.Starts.{IsStart, allowed_by}
-use Rattle.ds_explore.specs.Whole.{Explores, GoesThrough, HasAll, IsAmong, IsExploration, Writes}
+use Rattle.ds_explore.specs.Whole.{AreOrders, Explores, GoesThrough, HasGraph, IsAmong, IsExploration, Writes}
 
--- where nothing leads out of the states, and what orders come to that end in them is written, that is so of each order
-goes_through : (start : Start) (keys : List (List ℕ)) (found : States) (count : ℕ) → count ≡ length (keys_of found) → HasAll start keys found → GoesThrough start keys count
-goes_through start keys found count counted all = record {
+-- where there is a graph of the states, every order is a path in it
+pub goes_through : (start : Start) (keys : List (List ℕ)) (found : States) (edges : List (Edge Choice)) (e : Exploration) → e.states ≡ length (keys_of found) → HasGraph start keys found edges → IsKept (groups_of start.touched) start.first start.first
+    → (IsFalse e.is_endless → AreOrders edges e.states e.outcomes.items) → GoesThrough start keys e
+goes_through start keys found edges e counted graph kept numbers = record {
   states = found;
-  all = all;
-  orders = λ known moves y order. orders_written found (groups_of start.touched) (IsAmong start.judge keys) (allowed_by start.options) start.touched.places.items start.first all known moves y order;
+  edges = edges;
+  graph = graph;
+  orders = λ known moves y order. order_is_path found (groups_of start.touched) (IsAmong start.judge keys) (allowed_by start.options) start.touched.places.items start.first edges graph kept known moves y order;
   counted = counted;
+  numbers = numbers;
 }
 
--- an exploration, by what was found
-pub exploration_of : (script : List ℕ) (options : Options) (start : Start) (begins : IsStart script options start) (found : States) (keys : List (List ℕ)) (outcomes : Vec Outcome) (states : ℕ) (endless cut : Bool) → states ≡ length (keys_of found)
-    → AreOutcomes script start keys outcomes.items → (IsFalse cut → HasAll start keys found) → (IsTrue cut → start.options.most ≤ length (keys_of found)) → IsExploration script options (record { states = states; is_endless = endless; is_cut = cut; outcomes = outcomes })
-exploration_of script options start begins found keys outcomes states endless cut counted are all most = record {
+-- an exploration whose search was cut
+pub exploration_cut : (script : List ℕ) (options : Options) (start : Start) (keys : List (List ℕ)) (e : Exploration) → IsStart script options start → AreOutcomes script start keys e.outcomes.items → e.is_cut ≡ true → start.options.most ≤ e.states → IsExploration script options e
+exploration_cut script options start keys e begins are cut most = record {
   start = start;
   begins = begins;
   keys = keys;
   outcomes = are;
-  through = λ whole. goes_through start keys found states counted (all whole);
-  cut = λ yes. subst (λ (o : Options). o.most ≤ states) begins.asked (subst (λ (n : ℕ). start.options.most ≤ n) (sym counted) (most yes));
+  through = λ whole. absurd (true≢false (sym cut ∙ whole));
+  cut = λ is. subst (λ (o : Options). o.most ≤ e.states) begins.asked most;
 }
+
+-- an exploration of all orders
+pub exploration_whole : (script : List ℕ) (options : Options) (start : Start) (keys : List (List ℕ)) (e : Exploration) → IsStart script options start → AreOutcomes script start keys e.outcomes.items → e.is_cut ≡ false → GoesThrough start keys e → IsExploration script options e
+exploration_whole script options start keys e begins are whole through = record {
+  start = start;
+  begins = begins;
+  keys = keys;
+  outcomes = are;
+  through = λ is. through;
+  cut = λ cut. absurd (true≢false (sym cut ∙ whole));
+}
+
+-- of each outcome that stands after the states the number is that of its orders
+pub orders_by : (edges : List (Edge Choice)) (counts : List ℕ) (states : ℕ) (outcomes : List Outcome) → AreCounts edges counts → length counts ≡ states + length outcomes → ((n : ℕ) (d : Outcome) → n < length outcomes → get_or counts (states + n) 0 ≡ (get_or outcomes n d).orders) → AreOrders edges states outcomes
+orders_by edges counts states outcomes are long same n d low =
+    subst (λ (k : ℕ). IsCount edges (states + n) k) (same n d low) (are (states + n) (omega (arith, low, long)))
 
 -- what is written of it, by how it ends
 pub explores_of : (script : List ℕ) (options : Options) (e : Exploration) (cut wrong : Bool) (out : List ℕ) → IsExploration script options e → e.is_cut ≡ cut → wrong_in e ≡ wrong → out ≡ exploration_text e → Explores script options out (end_of cut wrong)

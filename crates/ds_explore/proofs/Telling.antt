@@ -1,9 +1,10 @@
 -- Scripts that are answered, and the outcomes that are written.
 use Rattle.std.proofs.Common.{ℕ, zero, suc, arith, map, Ok, Err, ◌+◌, ◌||◌, add-one, ◌≡◌, ◌≤◌, ◌<◌, get_or, Bool, true, false, List, [], ◌++◌, Option, Some, length, take, refl, sym, subst, ap, ◌∙◌, ◌∷◌, append_assoc, inl, inr}
 use Rattle.std.proofs.lemmas.List.{append-nil, length-take-le, map-append, take_all, take_more}
+use Rattle.std.proofs.lemmas.List.Elements.{All-cons, All-tail}
 use Rattle.std.specs.Global.{Vec}
 use Rattle.std.proofs.KnownBytes.{Consumes-all}
-use Rattle.std.specs.Prelude.{◌-◌, ◌^◌, All, IfOk, Result, min, nat_eq, slice_get}
+use Rattle.std.specs.Prelude.{◌-◌, ◌^◌, ◌↔◌, All, IfOk, IfSome, IsTrue, None, Result, drop, min, nat_eq, slice_get}
 use Rattle.std.specs.List.{ends_with}
 use Rattle.std.specs.Str.{bytes_eq}
 use Rattle.std.proofs.lemmas.Slice.Eq.{bytes_eq-Decides}
@@ -203,9 +204,10 @@ key_there keys n found key low at is = there keys n low at ∙ ap (λ (t : List 
     there (k ∷ keys) zero low at = ap (λ (v : Vec ℕ). Some v.items) (sym at)
     there (k ∷ keys) (suc n) low at = there keys n (omega (arith, low)) at
 
--- what an order comes to is among the outcomes
-pub among_of : (judge : Judge) (keys : List (List ℕ)) (x : Position) (crashed : Bool) (found : Finding) (key : List ℕ) (n : ℕ) → ComesTo judge x crashed found → slice_get keys n ≡ Some key → key ≡ key_text found → IsAmong judge keys x crashed
-among_of judge keys x crashed found key n comes there is = record { found = found; comes = comes; number = n; there = there ∙ ap (λ (t : List ℕ). Some t) is }
+-- what an order comes to is the outcome whose key was found
+pub among_of : (r : Option ℕ) (judge : Judge) (keys : List (List ℕ)) (x : Position) (crashed : Bool) (found : Finding) (key : List ℕ) → ComesTo judge x crashed found → key ≡ key_text found → IfSome r (λ n. slice_get keys n ≡ Some key) → IfSome r (IsAmong judge keys x crashed)
+among_of (Some n) judge keys x crashed found key comes is there = record { found = found; comes = comes; there = there ∙ ap (λ (t : List ℕ). Some t) is }
+among_of None judge keys x crashed found key comes is there = tt
 
 -- what is found in the world that an order leaves is what it comes to
 pub comes_ok : {E : Type 0} (r : Result Finding E) (judge : Judge) (x : Position) (crashed : Bool) (copy begun : WorldValue) (seats : List ProcessState) → copy ≡ x.world → EndsIn crashed copy begun → seats ≡ x.seats.items → IfOk r (IsFound judge begun (map seat_of seats) crashed)
@@ -216,3 +218,11 @@ comes_ok (Ok found) judge x crashed copy begun seats e ends f h = record {
   found_so = subst (λ (l : List ProcessState). IsFound judge begun (map seat_of l) crashed found) f h;
 }
 comes_ok (Err e) judge x crashed copy begun seats d ends f h = tt
+
+-- one part more stands in the text
+pub parts_more : (text : List ℕ) (parts : List (Vec ℕ)) (first : Vec ℕ) (b : Bool) → 1 ≤ length parts → first ≡ get_or parts 0 first → IsPart text first.items → IsTrue b ↔ All (IsPart text) (texts_of (drop 1 parts)) → IsTrue b ↔ All (IsPart text) (texts_of parts)
+parts_more text [] first b some is here rest = absurd (let bad : ⊥ = omega (arith, some) in bad)
+parts_more text (part ∷ parts) first b some is here rest = (
+  (λ yes. All-cons (IsPart text) part.items (texts_of parts) (subst (λ (v : Vec ℕ). IsPart text v.items) is here) (rest.0 yes)),
+  (λ all. rest.1 (All-tail (IsPart text) part.items (texts_of parts) all)),
+)

@@ -62,11 +62,11 @@ abbrev pub key_text : Finding → List ℕ
 key_text found = ((joined (texts_of found.answers.items) ++ crash_text found.crashed) ++ found.tail.items) ++ wrong_texts found.flaws.items
 
 -- what is wrong with an outcome: what the judge finds, where the script that is written is answered as the order was;
--- else also that it is not
+-- where it is not, that as well
 abbrev pub AreFlaws : Finding → List ℕ → List Flaw → Type 0
 AreFlaws found answers flaws =
     ((flaws ≡ found.flaws.items) × Answers answers (texts_of found.answers.items) found.tail.items)
-    ⊎ (flaws ≡ found.flaws.items ++ flaw.AnsweredOtherwise ∷ [])
+    ⊎ ((flaws ≡ found.flaws.items ++ flaw.AnsweredOtherwise ∷ []) × (Answers answers (texts_of found.answers.items) found.tail.items → ⊥))
 
 -- the line at the head of an outcome: its number, and how many orders lead to it
 abbrev pub heading_text : ℕ → ℕ → List ℕ

@@ -6,7 +6,7 @@ use Rattle.ds_explore_state.specs.declared.position.Move.{Move}
 use Rattle.ds_explore_state.specs.declared.position.Position.{Position}
 use Rattle.ds_explore_state.specs.Buffers.{HasEmptyBuffers}
 use Rattle.ds_explore_state.specs.Closed.{Order}
-use Rattle.ds_explore_state.specs.Following.{KnowsBuffers}
+use Rattle.ds_explore_state.specs.Following.{HasAllDirt, KnowsBuffers}
 use Rattle.ds_explore_state.specs.Orders.{IsBusy, seats_of}
 use Rattle.ds_explore_state.specs.States.{all_places, groups_of}
 use Rattle.ds_explore.specs.Judging.{IsJudgeOf}
@@ -18,13 +18,15 @@ abbrev pub allowed_by : Options → Allowed
 allowed_by options = record { stops = options.stops; evictions = options.evictions; crashes = options.crashes }
 
 -- orders begin where the script ends, with what these options ask for; what buffers hold there is known where it is nothing.
--- The judge knows of that world what it judges by, and the words that may be evicted are all that are followed
+-- The judge knows of that world what it judges by; the words that may be evicted are all that are followed, and all whose
+-- sides differ there are among them
 pub record IsStart (script : List ℕ) (options : Options) (start : Start) : Type 0 where
   pub asked : start.options ≡ options
   pub ends : EndsHere true script (2 ^ 64 - 1) start.first.world
   pub known : HasEmptyBuffers start.first.world → KnowsBuffers start.first
   pub judges : IsJudgeOf start.first.world start.judge
   pub evicts : start.touched.places.items ≡ all_places (groups_of start.touched)
+  pub dirt : HasAllDirt start.first.world start.touched.places.items
 
 -- an order may end at the position: with a crash, where crashes may come; without one, where no call is under way
 abbrev pub MayEnd : Options → Position → Bool → Type 0

@@ -1,17 +1,22 @@
 -- The states that an exploration went through, and what is written of the orders that end in them.
-use Rattle.std.specs.Prelude.{ℕ, ◌≡◌, ◌<◌, ◌≤◌, ◌-◌, ◌^◌, Bool, true, false, IsFalse, IsTrue, List, [], Some, length, slice_get}
+use Rattle.std.specs.Prelude.{ℕ, ◌≡◌, ◌<◌, ◌≤◌, ◌+◌, ◌-◌, ◌^◌, Bool, true, false, IsFalse, IsTrue, List, [], Some, length, slice_get, slice_index_or}
 use Rattle.ds_formula.specs.Limits.{INPUT_MOST}
 use Rattle.ds_script_stops.specs.StopBlocks.{BreaksBefore}
 use Rattle.ds_script_stops.specs.declared.reach.Short.{Short}
 use Rattle.ds_script_stops.specs.declared.reach.Short.TheVariants as shorts
 use Rattle.ds_explore_state.specs.declared.states.States.{States}
 use Rattle.ds_explore_state.specs.States.{groups_of}
-use Rattle.ds_explore_state.specs.Closed.{AreAll, Order, OrdersAreWritten, keys_of}
+use Rattle.ds_paths.specs.declared.graph.Edge.{Edge}
+use Rattle.ds_paths.specs.Paths.{IsCount}
+use Rattle.ds_explore_state.specs.declared.choices.Choice.{Choice}
+use Rattle.ds_explore_state.specs.Closed.{Order, keys_of}
+use Rattle.ds_explore_state.specs.Drawn.{IsGraph, IsPath}
 use Rattle.ds_explore_state.specs.Following.{KnowsBuffers}
 use Rattle.ds_explore_state.specs.declared.position.Move.{Move}
 use Rattle.ds_explore_state.specs.declared.position.Position.{Position}
 use Rattle.ds_explore.specs.declared.judge.Judge.{Judge}
 use Rattle.ds_explore.specs.declared.exploration.Exploration.{Exploration}
+use Rattle.ds_explore.specs.declared.exploration.Outcome.{Outcome}
 use Rattle.ds_explore.specs.declared.exploration.Unexplored.{Unexplored}
 use Rattle.ds_explore.specs.declared.exploration.Unexplored.TheVariants as unexplored
 use Rattle.ds_explore.specs.declared.explore.ExploreEnd.{ExploreEnd}
@@ -23,32 +28,38 @@ use Rattle.ds_explore.specs.Judging.{ComesTo}
 use Rattle.ds_explore.specs.Starts.{IsStart, allowed_by}
 use Rattle.ds_explore.specs.Explored.{AreOutcomes, exploration_text, key_text, wrong_in}
 
--- what an order comes to that ends at a position, with a crash there or without one, is one of the outcomes with these keys
-pub record IsAmong (judge : Judge) (keys : List (List ℕ)) (x : Position) (crashed : Bool) : Type 0 where
+-- what an order comes to that ends at a position, with a crash there or without one, is the outcome with this number, of those
+-- with these keys
+pub record IsAmong (judge : Judge) (keys : List (List ℕ)) (x : Position) (crashed : Bool) (number : ℕ) : Type 0 where
   pub found : Finding
   pub comes : ComesTo judge x crashed found
-  pub number : ℕ
   pub there : slice_get keys number ≡ Some (key_text found)
 
--- the states are all from the first one on: nothing that may happen leads out of them, with evictions of the words that
--- are followed; and what orders come to that end in them is among the outcomes with these keys
-abbrev pub HasAll : Start → List (List ℕ) → States → Type 0
-HasAll start keys states = AreAll states (groups_of start.touched) (IsAmong start.judge keys) (allowed_by start.options) start.touched.places.items start.first
+-- the graph of the states: its edges are just what may come next in an order, with evictions of the words that are followed;
+-- it leads to the outcomes with these keys
+abbrev pub HasGraph : Start → List (List ℕ) → States → List (Edge Choice) → Type 0
+HasGraph start keys states edges = IsGraph states (groups_of start.touched) (IsAmong start.judge keys) (allowed_by start.options) start.touched.places.items start.first edges
 
--- every order of what may happen stays with these states, and wherever it ends, what it comes to is among the outcomes with
--- these keys: of a position that is alike, or of one of which a crash leaves the same. It is so where it is known what the
+-- every order of what may happen is a path in the graph, and wherever it ends, with its end it is one to the vertex of what it
+-- comes to: of a position that is alike, or of one of which a crash leaves the same. It is so where it is known what the
 -- buffers hold at first: where that is nothing, say
-abbrev pub EveryOrderIsWritten : Start → List (List ℕ) → States → Type 0
-EveryOrderIsWritten start keys states = KnowsBuffers start.first → (moves : List Move) (y : Position) → Order (allowed_by start.options) start.touched.places.items start.first moves y
-    → OrdersAreWritten states (groups_of start.touched) (IsAmong start.judge keys) (allowed_by start.options) start.touched.places.items start.first y
+abbrev pub EveryOrderIsPath : Start → List (List ℕ) → States → List (Edge Choice) → Type 0
+EveryOrderIsPath start keys states edges = KnowsBuffers start.first → (moves : List Move) (y : Position) → Order (allowed_by start.options) start.touched.places.items start.first moves y
+    → IsPath states (groups_of start.touched) (IsAmong start.judge keys) (allowed_by start.options) start.touched.places.items start.first edges moves y
 
--- all orders from this start were gone through: the states that were found, as many as this, are all, and the outcomes with
--- these keys are all
-pub record GoesThrough (start : Start) (keys : List (List ℕ)) (count : ℕ) : Type 0 where
+-- the vertices of outcomes follow those of as many states: the orders of each outcome are the paths to its vertex
+abbrev pub AreOrders : List (Edge Choice) → ℕ → List Outcome → Type 0
+AreOrders edges states outcomes = (n : ℕ) (d : Outcome) → n < length outcomes → IsCount edges (states + n) (slice_index_or outcomes n d).orders
+
+-- all orders from this start were gone through: the states that were found are all, and the outcomes with these keys are all;
+-- where no order comes to a state again, the orders of each outcome are counted
+pub record GoesThrough (start : Start) (keys : List (List ℕ)) (exploration : Exploration) : Type 0 where
   pub states : States
-  pub all : HasAll start keys states
-  pub orders : EveryOrderIsWritten start keys states
-  pub counted : count ≡ length (keys_of states)
+  pub edges : List (Edge Choice)
+  pub graph : HasGraph start keys states edges
+  pub orders : EveryOrderIsPath start keys states edges
+  pub counted : exploration.states ≡ length (keys_of states)
+  pub numbers : IsFalse exploration.is_endless → AreOrders edges exploration.states exploration.outcomes.items
 
 -- ---- explorations
 
@@ -59,7 +70,7 @@ pub record IsExploration (script : List ℕ) (options : Options) (exploration : 
   pub begins : IsStart script options start
   pub keys : List (List ℕ)
   pub outcomes : AreOutcomes script start keys exploration.outcomes.items
-  pub through : IsFalse exploration.is_cut → GoesThrough start keys exploration.states
+  pub through : IsFalse exploration.is_cut → GoesThrough start keys exploration
   pub cut : IsTrue exploration.is_cut → options.most ≤ exploration.states
 
 -- why there is no exploration, where the script does not end

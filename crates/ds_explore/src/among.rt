@@ -1,6 +1,6 @@
-//! What an order comes to, and whether that is among the outcomes that are written.
+//! What an order comes to, and which of the outcomes that are written that is.
 
-ghost use Rattle.std.specs.Prelude.{◌≡◌, ℕ, IfOk, IsTrue, Some, map, slice_get};
+ghost use Rattle.std.specs.Prelude.{◌≡◌, IfOk, IfSome, IsTrue, Some, map, slice_get};
 ghost use Rattle.ds_explore_state.specs.States.{seat_of};
 ghost use Rattle.ds_explore.specs.Judging.{ComesTo, IsFound, texts_of};
 ghost use Rattle.ds_explore.specs.Whole.{IsAmong};
@@ -67,29 +67,29 @@ fn is_key(found: &Vec<u8>, key: &[u8]) -> bool
     found.as_slice() == key
 }
 
-// Whether this is one of the keys.
-fn has_key(keys: &[Vec<u8>], key: &[u8]) -> bool
-    ensures { IsTrue result → (number : ℕ) × (slice_get (texts_of keys.now) number ≡ Some key.now) }
+// The number of a key; none where it is none of these.
+fn number_in(keys: &[Vec<u8>], key: &[u8]) -> Option<usize>
+    ensures { IfSome result (λ number. slice_get (texts_of keys.now) number ≡ Some key.now) }
 {
     for number in 0..keys.len() {
         if is_key(&keys[number], key) {
-            return true;
+            return Some(number);
         }
     }
-    false
+    None
 }
 
 impl Endings for Outcomes<'_> {
-    ghost written = { λ outcomes x crashed. IsAmong outcomes.judge.now (texts_of outcomes.keys.now) x crashed };
+    ghost numbered = { λ outcomes x crashed number. IsAmong outcomes.judge.now (texts_of outcomes.keys.now) x crashed number };
 
-    fn is_written(
+    fn number(
         &self,
         alloc: Global,
         position: &Position,
         crashed: bool,
-    ) -> Result<bool, AllocError> {
+    ) -> Result<Option<usize>, AllocError> {
         let found = self.judge.comes_to(alloc, position, crashed)?;
         let key = found.key(alloc)?;
-        Ok(has_key(self.keys, &key))
+        Ok(number_in(self.keys, &key))
     }
 }

@@ -1,20 +1,24 @@
 //! What orders come to, as a whole.
 
-ghost use Rattle.std.specs.Prelude.{◌≡◌, ◌≤◌, All, IfErr, IfOk, IsFalse, IsTrue, ℕ, length};
-ghost use Rattle.ds_explore_state.specs.Closed.{keys_of};
+ghost use Rattle.std.specs.Prelude.{◌≡◌, ◌<◌, ◌≤◌, ◌+◌, All, true, false, IfErr, IfOk, IsTrue, OnOk, ℕ, length, slice_index_or};
 ghost use Rattle.ds_explore.specs.Explored.{AreFlaws, AreOutcomes, IsOutcome};
 ghost use Rattle.ds_explore.specs.Judging.{texts_of};
 ghost use Rattle.ds_explore.specs.Starts.{IsStart};
-ghost use Rattle.ds_explore.specs.Whole.{HasAll, IsExploration, LacksExploration, lacks_by};
+ghost use Rattle.ds_paths.specs.Paths.{AreApart};
+ghost use Rattle.ds_explore.specs.Whole.{AreOrders, GoesThrough, IsExploration, LacksExploration, lacks_by};
+ghost use Rattle.ds_explore.specs.declared.exploration.Outcome.{Outcome};
 
 use crate::answers::{answers_to, continued};
 use crate::flaw::Flaw;
-use crate::graph::{Way, path};
+use crate::graph::{Node, Way, path};
 use crate::options::{Options, Watcher};
 use crate::orders::{Orders, count_orders};
 use crate::outcomes::Finding;
 use crate::script::lines_of;
 use crate::search::{Search, Start, go_through};
+use ds_explore_state::choices::Choice;
+use ds_paths::count::are_counts;
+use ds_paths::graph::Edge;
 use ds_script_io::ending::ScriptFault;
 use ds_script_io::line::INPUT_LIMIT;
 use ds_script_stops::reach::Short;
@@ -59,7 +63,7 @@ pub enum Unexplored {
     TooLong,
     /// The script of an outcome would be longer than that.
     FoundTooLong,
-    /// An allocation failed, two outcomes are the same, or the states or the outcomes that were found are not all.
+    /// An allocation failed, two outcomes are the same, or the states, the outcomes or the orders that were found are not all.
     NoMemory,
 }
 
@@ -67,7 +71,7 @@ pub enum Unexplored {
 enum Lack {
     // The script of an outcome would be too long.
     TooLong,
-    // An allocation failed, two outcomes are the same, or the states or the outcomes that were found are not all.
+    // An allocation failed, two outcomes are the same, or the states, the outcomes or the orders that were found are not all.
     NoMemory,
 }
 
@@ -227,29 +231,112 @@ fn all_outcomes(
     Ok(AllKeyed { keys, outcomes })
 }
 
-// Whether the search was cut. An error means that an allocation failed, that it was cut before as many states were found as
-// may be gone through, or that it was not cut, and the states that it found are not all, or the outcomes with these keys are
-// not.
-fn is_cut(
-    alloc: Global,
-    start: &Start,
-    search: &Search,
-    keys: &[Vec<u8>],
-) -> Result<bool, AllocError>
-    ensures all { IfOk result (λ b. IsFalse b → HasAll start.now (texts_of keys.now) search.now.found) }
-    ensures cut { IfOk result (λ b. IsTrue b → start.now.options.most ≤ length (keys_of search.now.found)) }
+// How many orders come to each state, by the ways to it.
+fn state_counts(alloc: Global, ways: &[Way]) -> Result<Vec<u128>, AllocError>
+    ensures { IfOk result (λ counts. length counts.items ≡ length ways.now) }
 {
-    if search.is_cut {
-        if search.states() < start.options.most {
-            return Err(AllocError);
-        }
-        return Ok(true);
+    let mut counts = Vec::new(alloc);
+    for number in 0..ways.len() {
+        counts.push(ways[number].orders)?;
     }
-    let all = search.has_all(alloc, start, keys)?;
-    if !all {
+    Ok(counts)
+}
+
+// How many orders come to each outcome is added.
+fn add_outcomes(counts: &mut Vec<u128>, outcomes: &[Outcome]) -> Result<(), AllocError>
+    ensures long { OnOk result (length counts.new.items ≡ length counts.old.items + length outcomes.now) }
+    ensures orders { OnOk result ((n : ℕ) (d : Outcome) → n < length outcomes.now → slice_index_or counts.new.items (length counts.old.items + n) 0 ≡ (slice_index_or outcomes.now n d).orders) }
+{
+    for number in 0..outcomes.len() {
+        counts.push(outcomes[number].orders)?;
+    }
+    Ok(())
+}
+
+// A state that is left later has a lower rank, and an outcome one above all states. These are a guess: what is counted by
+// them is compared.
+fn ranks(
+    alloc: Global,
+    states: usize,
+    outcomes: usize,
+    nodes: &[Node],
+) -> Result<Vec<u32>, AllocError> {
+    let mut ranks = vec![in alloc; u32::MAX; states.saturating_add(outcomes)]?;
+    let mut rank = 0u32;
+    for node in nodes.iter().rev() {
+        if let Some(at) = ranks.get_mut(node.state as usize) {
+            *at = rank;
+        }
+        rank = rank.saturating_add(1);
+    }
+    Ok(ranks)
+}
+
+// Whether the orders of each outcome are the paths to its vertex.
+fn are_orders(
+    alloc: Global,
+    edges: &[Edge<Choice>],
+    found: &Found,
+    states: usize,
+    outcomes: &[Outcome],
+) -> Result<bool, AllocError>
+    requires { AreApart edges.now }
+    ensures { IfOk result (λ b. IsTrue b → AreOrders edges.now states outcomes.now) }
+{
+    if found.ways.len() != states {
+        return Ok(false);
+    }
+    let ranks = ranks(alloc, states, outcomes.len(), &found.search.nodes)?;
+    let mut counts = state_counts(alloc, &found.ways)?;
+    add_outcomes(&mut counts, outcomes)?;
+    are_counts(alloc, edges, &ranks, &counts)
+}
+
+// What was found, where the search was cut. An error means that it was before as many states were found as may be gone
+// through.
+fn cut(start: &Start, found: &Found, outcomes: Vec<Outcome>) -> Result<Exploration, AllocError>
+    ensures cut { IfOk result (λ exploration. (exploration.is_cut ≡ true) × (start.now.options.most ≤ exploration.states)) }
+    ensures outcomes { IfOk result (λ exploration. exploration.outcomes ≡ outcomes) }
+{
+    let states = found.search.states();
+    if states < start.options.most {
         return Err(AllocError);
     }
-    Ok(false)
+    Ok(Exploration {
+        states,
+        is_endless: found.search.is_endless,
+        is_cut: true,
+        outcomes,
+    })
+}
+
+// What was found, where the search was not cut, of outcomes with these keys. An error means that an allocation failed, or that
+// the states that were found are not all, or the outcomes or the orders are not.
+fn gone_through(
+    alloc: Global,
+    start: &Start,
+    found: &Found,
+    keys: &[Vec<u8>],
+    outcomes: Vec<Outcome>,
+) -> Result<Exploration, AllocError>
+    ensures through { IfOk result (λ exploration. (exploration.is_cut ≡ false) × GoesThrough start.now (texts_of keys.now) exploration) }
+    ensures outcomes { IfOk result (λ exploration. exploration.outcomes ≡ outcomes) }
+{
+    let Some(edges) = found.search.graph(alloc, start, keys)? else {
+        return Err(AllocError);
+    };
+    let states = found.search.states();
+    let is_endless = found.search.is_endless;
+    let counted = are_orders(alloc, &edges, found, states, &outcomes)?;
+    if !is_endless && !counted {
+        return Err(AllocError);
+    }
+    Ok(Exploration {
+        states,
+        is_endless,
+        is_cut: false,
+        outcomes,
+    })
 }
 
 // What was found, as a whole.
@@ -257,13 +344,11 @@ fn whole(alloc: Global, script: &[u8], start: &Start, found: &Found) -> Result<E
     ensures { (options : Options) → IsStart script.now options start.now → IfOk result (IsExploration script.now options) }
 {
     let all = all_outcomes(alloc, script, start, found)?;
-    let is_cut = is_cut(alloc, start, &found.search, &all.keys)?;
-    Ok(Exploration {
-        states: found.search.states(),
-        is_endless: found.search.is_endless,
-        is_cut,
-        outcomes: all.outcomes,
-    })
+    let AllKeyed { keys, outcomes } = all;
+    if found.search.is_cut {
+        return Ok(cut(start, found, outcomes)?);
+    }
+    Ok(gone_through(alloc, start, found, &keys, outcomes)?)
 }
 
 // Why there is no exploration of a script that does not end.
@@ -296,8 +381,9 @@ fn explored_from<T: Watcher>(
 /// States that were met before are not gone through again: a state is its words, the situations and buffers of its
 /// processes, and what their calls were answered. The watcher is shown how many states there are, at each event that is
 /// tried. Where the exploration is not cut, it was checked that nothing that may happen leads out of the states that were
-/// found, and that what each order comes to is among the outcomes; where it is, the outcomes that were found until then
-/// are there, with as many orders as were found: the first one also where that is none.
+/// found, that what each order comes to is among the outcomes, and, where no order comes to a state again, that each
+/// outcome has as many orders as come to it; where it is cut, the outcomes that were found until then are there, with as
+/// many orders as were found: the first one also where that is none.
 pub fn explored<T: Watcher>(
     alloc: Global,
     script: &[u8],

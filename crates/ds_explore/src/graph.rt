@@ -1,10 +1,10 @@
-//! The states that were found, and how they lead to each other.
+//! The states that were gone through, and how they lead to each other.
 
 use std::alloc::{AllocError, Global};
 
 /// What may happen in a state, by its number, and the number of the state that it leads to.
 #[derive(Clone, Copy, Debug, PartialEq, Eq)]
-pub(crate) struct Edge {
+pub(crate) struct Lead {
     /// The number of what happens.
     pub(crate) by: u32,
     /// The number of the state after it.
@@ -17,7 +17,7 @@ pub(crate) struct Node {
     /// The number of the state.
     pub(crate) state: u32,
     /// What may happen in it.
-    pub(crate) edges: Vec<Edge>,
+    pub(crate) edges: Vec<Lead>,
     /// The outcome of an order that ends in it, where no call is under way.
     pub(crate) end: Option<usize>,
     /// The outcome of an order that ends with a crash in it.
@@ -32,7 +32,7 @@ pub(crate) struct Way {
     /// How many events the shortest of them has.
     pub(crate) length: u64,
     /// The last event of that one, with the number of the state before it; none of the first state.
-    pub(crate) last: Option<Edge>,
+    pub(crate) last: Option<Lead>,
 }
 
 // No order comes to a state.
@@ -56,7 +56,7 @@ impl Way {
         let length = before.length.saturating_add(1);
         if length < self.length {
             self.length = length;
-            self.last = Some(Edge { by, to: from });
+            self.last = Some(Lead { by, to: from });
         }
     }
 }

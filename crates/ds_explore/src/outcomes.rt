@@ -1,6 +1,6 @@
 //! What orders come to.
 
-ghost use Rattle.std.specs.Prelude.{◌≡◌, ◌++◌, All, IfOk, IsTrue};
+ghost use Rattle.std.specs.Prelude.{◌≡◌, ◌++◌, ◌↔◌, All, IfOk, IsTrue};
 ghost use Rattle.ds_explore.specs.Explored.{crash_text, joined, key_text};
 ghost use Rattle.ds_explore.specs.Judging.{Answers, IsPart, texts_of};
 
@@ -23,7 +23,7 @@ pub(crate) struct Finding {
 
 // Whether the text has this part.
 fn contains(text: &[u8], part: &[u8]) -> bool
-    ensures { IsTrue result → IsPart text.now part.now }
+    ensures { IsTrue result ↔ IsPart text.now part.now }
 {
     for at in 0..text.len() {
         if text[at..].starts_with(part) {
@@ -35,14 +35,12 @@ fn contains(text: &[u8], part: &[u8]) -> bool
 
 // Whether the text has each of these parts.
 fn contains_all(text: &[u8], parts: &[Vec<u8>]) -> bool
-    ensures { IsTrue result → All (IsPart text.now) (texts_of parts.now) }
+    ensures { IsTrue result ↔ All (IsPart text.now) (texts_of parts.now) }
 {
-    for part in parts {
-        if !contains(text, part) {
-            return false;
-        }
+    match parts {
+        [] => true,
+        [first, rest @ ..] => contains(text, first) && contains_all(text, rest),
     }
-    true
 }
 
 // Texts, one after the other.
@@ -67,7 +65,7 @@ impl Finding {
     /// Whether a script that has these answers came to this: its calls are answered so, and after the order this is
     /// reported, and nothing else.
     pub(crate) fn is_in(&self, answers: &[u8]) -> bool
-        ensures { IsTrue result → Answers answers.now (texts_of self.now.answers.items) self.now.tail.items }
+        ensures { IsTrue result ↔ Answers answers.now (texts_of self.now.answers.items) self.now.tail.items }
     {
         contains_all(answers, &self.answers) && answers.ends_with(&self.tail)
     }

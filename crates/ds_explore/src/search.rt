@@ -1,27 +1,29 @@
 //! Goes through all orders.
 
-ghost use Rattle.std.specs.Prelude.{◌≡◌, ◌-◌, ◌^◌, true, IfErr, IfOk, IsTrue, length};
+ghost use Rattle.std.specs.Prelude.{◌≡◌, ◌-◌, ◌^◌, true, IfErr, IfOk, IfSome, IsTrue, length};
 ghost use Rattle.ds_script_stops.specs.Reaching.{MeetsFault};
 ghost use Rattle.ds_explore.specs.Judging.{IsJudgeOf, texts_of};
 ghost use Rattle.ds_explore_state.specs.Closed.{keys_of};
 ghost use Rattle.ds_explore_state.specs.States.{all_places, groups_of};
-ghost use Rattle.ds_explore_state.specs.Following.{KnowsBuffers};
+ghost use Rattle.ds_explore_state.specs.Following.{HasAllDirt, IsKept, KnowsBuffers};
 ghost use Rattle.ds_explore_state.specs.Orders.{seats_of};
 ghost use Rattle.ds_explore_state.specs.Buffers.{HasEmptyBuffers};
 ghost use Rattle.ds_explore.specs.Starts.{IsStart};
-ghost use Rattle.ds_explore.specs.Whole.{HasAll};
+ghost use Rattle.ds_explore.specs.Whole.{HasGraph};
 
 use crate::among::Outcomes;
-use crate::graph::{Edge, Node};
+use crate::graph::{Lead, Node};
 use crate::judge::Judge;
 use crate::options::{Options, Watcher};
 use crate::outcomes::{Finding, Findings};
-use ds_explore_state::closure::{Found, is_closed};
+use ds_explore_state::choices::{Choice, moves_of};
+use ds_explore_state::closure::{Found, draw_graph};
 use ds_explore_state::orders::{Allowed, is_busy, is_dirty};
 use ds_explore_state::position::{Move, Position, is_in_call, start};
 use ds_explore_state::states::States;
 use ds_explore_state::touched::Touched;
 use ds_formula::cells::Shape;
+use ds_paths::graph::Edge;
 use ds_script_stops::reach::Short;
 use ds_state::world::World;
 use std::alloc::{AllocError, Global};
@@ -47,7 +49,7 @@ struct Frame {
     state: u32,
     // What has not yet happened in it, last first.
     ahead: Vec<u32>,
-    edges: Vec<Edge>,
+    edges: Vec<Lead>,
     end: Option<usize>,
     crash: Option<usize>,
     // What a crash leaves, where it has not come yet.
@@ -117,29 +119,15 @@ enum Next {
     Ends,
 }
 
-// What may happen, by its number: the steps of each process, their stops, and evictions.
-fn moves(alloc: Global, processes: usize, touched: &Touched) -> Result<Vec<Move>, AllocError> {
-    let mut moves = Vec::new(alloc);
-    for process in 0..processes {
-        moves.push(Move::Step(process))?;
-    }
-    for process in 0..processes {
-        moves.push(Move::Stop(process))?;
-    }
-    for place in &touched.places {
-        moves.push(Move::Evict(*place))?;
-    }
-    Ok(moves)
-}
-
 // The words that orders may touch, what may happen in them, and who judges them.
 fn prepared(alloc: Global, world: &World) -> Result<(Touched, Vec<Move>, Judge), AllocError>
     ensures evicts { IfOk result (λ made. made.0.places.items ≡ all_places (groups_of made.0)) }
+    ensures dirt { IfOk result (λ made. HasAllDirt world.now made.0.places.items) }
     ensures judges { IfOk result (λ made. IsJudgeOf world.now made.2) }
 {
     let judge = Judge::new(alloc, world)?;
     let touched = Touched::of(alloc, world)?;
-    let moves = moves(alloc, world.words.layout().processes, &touched)?;
+    let moves = moves_of(alloc, world.words.layout().processes, &touched.places)?;
     Ok((touched, moves, judge))
 }
 
@@ -150,6 +138,7 @@ impl Start {
         ensures first { IfOk result (λ start. start.first ≡ first) }
         ensures judges { IfOk result (λ start. IsJudgeOf first.world start.judge) }
         ensures evicts { IfOk result (λ start. start.touched.places.items ≡ all_places (groups_of start.touched)) }
+        ensures dirt { IfOk result (λ start. HasAllDirt first.world start.touched.places.items) }
     {
         let (touched, moves, judge) = prepared(alloc, &first.world)?;
         Ok(Start {
@@ -168,6 +157,7 @@ impl Start {
         ensures known { IfOk result (λ start. HasEmptyBuffers world → KnowsBuffers start.first) }
         ensures judges { IfOk result (λ start. IsJudgeOf start.first.world start.judge) }
         ensures evicts { IfOk result (λ start. start.touched.places.items ≡ all_places (groups_of start.touched)) }
+        ensures dirt { IfOk result (λ start. HasAllDirt start.first.world start.touched.places.items) }
     {
         let first = Position::new(alloc, world)?;
         Start::of(alloc, first, options)
@@ -292,7 +282,7 @@ impl Search {
     // The event with this number has led from the last state to that one.
     fn lead(&mut self, by: u32, to: u32) -> Result<(), AllocError> {
         if let Some(frame) = self.frames.last_mut() {
-            frame.edges.push(Edge { by, to })?;
+            frame.edges.push(Lead { by, to })?;
         }
         Ok(())
     }
@@ -522,16 +512,17 @@ impl Search {
         self.found.len()
     }
 
-    /// Whether the states that were found are all, and the outcomes with these keys, too: whether nothing that may happen
-    /// leads out of the states, and what orders come to that end in them is among the outcomes. An error means that an
-    /// allocation failed.
-    pub(crate) fn has_all(
+    /// The graph of the states that were found, where these are all, and the outcomes with these keys, too: where nothing that
+    /// may happen leads out of the states, and what orders come to that end in them is among the outcomes. Else none. An error
+    /// means that an allocation failed.
+    pub(crate) fn graph(
         &self,
         alloc: Global,
         start: &Start,
         keys: &[Vec<u8>],
-    ) -> Result<bool, AllocError>
-        ensures { IfOk result (λ b. IsTrue b → HasAll start.now (texts_of keys.now) self.now.found) }
+    ) -> Result<Option<Vec<Edge<Choice>>>, AllocError>
+        ensures kept { IfOk result (λ some. IfSome some (λ edges. IsKept (groups_of start.now.touched) start.now.first start.now.first)) }
+        ensures graph { IfOk result (λ some. IfSome some (λ edges. HasGraph start.now (texts_of keys.now) self.now.found edges.items)) }
     {
         let found = Found {
             states: &self.found,
@@ -543,7 +534,7 @@ impl Search {
             judge: &start.judge,
             keys,
         };
-        is_closed(alloc, found, &outcomes)
+        draw_graph(alloc, found, &outcomes)
     }
 }
 

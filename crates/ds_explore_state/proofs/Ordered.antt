@@ -1,18 +1,23 @@
--- Every order stays in the states that were found.
+-- Every order is a path in the graph of the states that were found.
 use Rattle.std.proofs.Common.{ℕ, zero, suc, ◌≡◌, ◌<◌, ◌≤◌, ◌∙◌, refl, sym, ap, subst, inl, inr, List, [], ◌∷◌, ◌++◌, length, map, arith, Bool, true, false}
-use Rattle.std.specs.Prelude.{◌≢◌, Option, Some, None, option_map, slice_get, slice_index_or}
+use Rattle.std.specs.Prelude.{◌≢◌, IsTrue, Option, Some, None, option_map, slice_get, slice_index_or}
 use Rattle.std.specs.List.{AllByRecursion}
 use Rattle.std.proofs.lemmas.Bool.{cases_lt}
-use Rattle.std.proofs.lemmas.List.{length-map}
+use Rattle.std.proofs.lemmas.List.{length-map, map_push}
+use Rattle.std.proofs.lemmas.List.Elements.{All-contains}
 use Rattle.ds_words.specs.declared.words.Word.{Word}
 use Rattle.ds_words.specs.declared.access.BufferEntry.{BufferEntry}
 use Rattle.ds_words.specs.Memory.{SameMemory}
+use Rattle.ds_paths.specs.declared.graph.Edge.{Edge}
+use Rattle.ds_paths.specs.Paths.{Path, no_edge, one_edge_more}
 use Rattle.ds_layout.specs.declared.place.Place.{Place}
 use Rattle.ds_layout.specs.declared.layout.Layout.{Layout}
 use Rattle.ds_layout.specs.SheetMemory.{memory}
 use Rattle.ds_state.specs.Value.{WorldValue, world_of, first_rest}
 use Rattle.ds_state.specs.declared.situation.Situation.{Situation}
 use Rattle.ds_state.specs.declared.situation.Situation.TheVariants.{Idle}
+use Rattle.ds_explore_state.specs.declared.choices.Choice.{Choice}
+use Rattle.ds_explore_state.specs.declared.choices.Choice.TheVariants.{Happens, Rests, Crashes}
 use Rattle.ds_explore_state.specs.declared.orders.Allowed.{Allowed}
 use Rattle.ds_explore_state.specs.declared.position.Move.{Move}
 use Rattle.ds_explore_state.specs.declared.position.Move.TheVariants.{Step}
@@ -21,9 +26,10 @@ use Rattle.ds_explore_state.specs.declared.position.ProcessState.{ProcessState}
 use Rattle.ds_explore_state.specs.declared.states.States.{States}
 use Rattle.ds_explore_state.specs.States.{IsKey, PlainPart, PlainSeat, SameState, crashed_state_of, lost_in, lost_process_in, lost_seat, parts_below, seat_of, state_of, word_in}
 use Rattle.ds_explore_state.specs.Alike.{AreAlike, ArePositionsAlike, LeaveAlike}
-use Rattle.ds_explore_state.specs.Orders.{Happens, IsBusy, MayHappen, no_seat, seats_of}
-use Rattle.ds_explore_state.specs.Following.{IsFollowed, IsOff, KnowsBuffers}
-use Rattle.ds_explore_state.specs.Closed.{AreAll, HasNumber, IsExpanded, Order, OrdersAreWritten, StandsFor, keys_of, no_move, one_move_more}
+use Rattle.ds_explore_state.specs.Orders.{IsBusy, MayHappen, no_seat, seats_of}
+use Rattle.ds_explore_state.specs.Following.{IsFollowed, IsKept, IsOff, KnowsBuffers}
+use Rattle.ds_explore_state.specs.Closed.{HasNumber, IsLossWritten, IsRestWritten, Order, keys_of, no_move, one_move_more}
+use Rattle.ds_explore_state.specs.Drawn.{EndsAt, HasLabel, IsChoice, IsChoiceEdge, IsDrawn, IsGraph, IsPath}
 use Rattle.ds_explore_state.proofs.Parts.{apart, parts_count, parts_same, same_by_key}
 use Rattle.ds_explore_state.proofs.Memories.{by_numbers}
 use Rattle.ds_explore_state.proofs.Alike.{get_there, happens_alike, may_alike, place_there}
@@ -165,49 +171,89 @@ leave_alike_by_state groups first x y f g e =
 
 -- ---- orders
 
-module _ (states : States) (groups : List (List Place)) (written : Position → Bool → Type 0) (allowed : Allowed) (places : List Place) (first : Position) (all : AreAll states groups written allowed places first) (known : KnowsBuffers first) where
+module _ (states : States) (groups : List (List Place)) (numbered : Position → Bool → ℕ → Type 0) (allowed : Allowed) (places : List Place) (first : Position) (edges : List (Edge Choice)) (graph : IsGraph states groups numbered allowed places first edges) (begins : IsKept groups first first) (known : KnowsBuffers first) where
   one_number : (x y : Position) (number : ℕ) → HasNumber states groups x number → HasNumber states groups y number → IsFollowed groups first x → IsFollowed groups first y → ArePositionsAlike x y
   one_number x y number h k f g =
       let same : Some k.key ≡ Some h.key = sym k.there ∙ h.there in
       let key : k.key ≡ h.key = cc in
       alike_by_state groups first x y f g (same_by_key states.numbers h.key groups x y h.is (subst (λ (l : List ℕ). IsKey states.numbers l (state_of groups y)) key k.is))
 
-  -- a position that was found is alike to one that stands for its state
-  stands : (y : Position) (number : ℕ) → HasNumber states groups y number → IsFollowed groups first y → StandsFor states groups written allowed places first y
-  stands y number has f =
-      let low : number < length (keys_of states) = place_there (keys_of states) number has.key has.there in
-      let x : IsExpanded states groups written allowed places first number = all.closed number low in
-      record { number = number; low = low; expanded = x; alike = one_number x.position y number x.has has (x.kept known) f }
+  -- an order comes to the position by a path to a vertex whose state's position is alike
+  record Comes (moves : List Move) (y : Position) : Type 0 where
+    vertex : ℕ
+    low : vertex < length (keys_of states)
+    path : Path edges (map Happens moves) vertex
+    drawn : IsDrawn states groups numbered allowed places first edges vertex
+    alike : ArePositionsAlike drawn.position y
 
-  pub order_stays : (moves : List Move) (y : Position) → Order allowed places first moves y → StandsFor states groups written allowed places first y
-  order_stays _ _ no_move = stands first all.there.0 all.there.1 (all.kept known)
-  order_stays _ _ (one_move_more moves move x y order may happens) =
-      let s = order_stays moves x order in
-      let z : Position = s.expanded.position in
+  -- an edge that leaves the vertex is what may come next at its position
+  edge_is : (vertex : ℕ) (d : IsDrawn states groups numbered allowed places first edges vertex) (choice : Choice) (h : HasLabel d.leaving choice) → IsChoice states groups numbered allowed places first d.position choice h.0.to
+  edge_is vertex d choice h = subst (λ (c : Choice). IsChoice states groups numbered allowed places first d.position c h.0.to) h.2 (All-contains (IsChoiceEdge states groups numbered allowed places first d.position vertex) d.leaving h.0 d.choices.each h.1).1
+
+  -- a path goes on by it
+  goes_on : (labels : List Choice) (vertex : ℕ) (d : IsDrawn states groups numbered allowed places first edges vertex) (choice : Choice) (h : HasLabel d.leaving choice) → Path edges labels vertex → Path edges (labels ++ choice ∷ []) h.0.to
+  goes_on labels vertex d choice h path =
+      let from : h.0.from ≡ vertex = (All-contains (IsChoiceEdge states groups numbered allowed places first d.position vertex) d.leaving h.0 d.choices.each h.1).0 in
+      subst (λ (c : Choice). Path edges (labels ++ c ∷ []) h.0.to) h.2 (one_edge_more labels h.0 (subst (λ (v : ℕ). Path edges labels v) (sym from) path) ((d.those h.0 from).1 h.1))
+
+  -- the position was found, and is alike to that of its vertex
+  comes_to : (moves : List Move) (y : Position) (vertex : ℕ) → HasNumber states groups y vertex → IsFollowed groups first y → Path edges (map Happens moves) vertex → Comes moves y
+  comes_to moves y vertex has f path =
+      let low : vertex < length (keys_of states) = place_there (keys_of states) vertex has.key has.there in
+      let d : IsDrawn states groups numbered allowed places first edges vertex = graph.drawn vertex low in
+      record { vertex = vertex; low = low; path = path; drawn = d; alike = one_number d.position y vertex d.has has (d.kept known) f }
+
+  order_comes : (moves : List Move) (y : Position) → Order allowed places first moves y → Comes moves y
+  order_comes _ _ no_move = comes_to [] first 0 graph.begins (begins known) no_edge
+  order_comes _ _ (one_move_more moves move x y order may happens) =
+      let s = order_comes moves x order in
+      let z : Position = s.drawn.position in
       let can : MayHappen allowed places z move = may_alike allowed places x z move (alike_back z x s.alike) may in
-      let led = s.expanded.stays move can in
-      let alike : ArePositionsAlike led.0 y = happens_alike allowed places move z x led.0 y s.alike can led.1 happens in
-      let t = stands led.0 led.2.0 led.2.1 (led.3 first (s.expanded.kept known)) in
-      record { number = t.number; low = t.low; expanded = t.expanded; alike = alike_on t.expanded.position led.0 y t.alike alike }
+      let h = s.drawn.choices.moves move can in
+      let led = (edge_is s.vertex s.drawn (Happens move) h).1 in
+      let after : Position = led.position in
+      let alike : ArePositionsAlike after y = happens_alike allowed places move z x after y s.alike can led.happens happens in
+      let path : Path edges (map Happens (moves ++ move ∷ [])) h.0.to = subst (λ (l : List Choice). Path edges l h.0.to) (sym (map_push Happens moves move)) (goes_on (map Happens moves) s.vertex s.drawn (Happens move) h s.path) in
+      let t = comes_to (moves ++ move ∷ []) after h.0.to led.has (led.follows first (s.drawn.kept known)) path in
+      record { vertex = t.vertex; low = t.low; path = t.path; drawn = t.drawn; alike = alike_on t.drawn.position after y t.alike alike }
 
-  -- wherever an order ends, what it comes to is written
-  pub order_written : (moves : List Move) (y : Position) → Order allowed places first moves y → OrdersAreWritten states groups written allowed places first y
-  order_written moves y order =
-      let s = order_stays moves y order in
-      let z : Position = s.expanded.position in record {
-        stands = s;
-        rests = λ none. (
-            let rest : (p : ℕ) → IsBusy z p → ⊥ = λ p busy. none p (may_alike allowed places z y (Step p) s.alike busy) in
-            record { position = z; alike = s.alike; is = s.expanded.ends.rests rest });
-        crashes = λ may. (
-            let c = s.expanded.ends.crashes may in
-            record {
-              position = c.position;
-              alike = leave_alike_on c.position z y (leave_alike_by_state groups first c.position z (c.kept known) (s.expanded.kept known) c.same) (leave_alike z y s.alike);
-              is = c.is;
-            });
+  -- where an order ends without a crash
+  rests_at : (moves : List Move) (y : Position) (s : Comes moves y) → ((p : ℕ) → IsBusy y p → ⊥) → EndsAt states groups numbered allowed places first edges moves Rests (λ outcome. IsRestWritten (λ x crashed. numbered x crashed outcome) y)
+  rests_at moves y s none =
+      let z : Position = s.drawn.position in
+      let h = s.drawn.choices.rests (λ p busy. none p (may_alike allowed places z y (Step p) s.alike busy)) in
+      let e = (edge_is s.vertex s.drawn Rests h).1 in
+      record {
+        outcome = e.0;
+        path = subst (λ (v : ℕ). Path edges (map Happens moves ++ Rests ∷ []) v) e.1 (goes_on (map Happens moves) s.vertex s.drawn Rests h s.path);
+        comes = record { position = z; alike = s.alike; is = e.2 };
       }
 
-pub orders_written : (states : States) (groups : List (List Place)) (written : Position → Bool → Type 0) (allowed : Allowed) (places : List Place) (first : Position) → AreAll states groups written allowed places first → KnowsBuffers first
-    → (moves : List Move) (y : Position) → Order allowed places first moves y → OrdersAreWritten states groups written allowed places first y
-orders_written states groups written allowed places first all known moves y order = order_written states groups written allowed places first all known moves y order
+  -- where it ends with a crash
+  crashes_at : (moves : List Move) (y : Position) (s : Comes moves y) → IsTrue allowed.crashes → EndsAt states groups numbered allowed places first edges moves Crashes (λ outcome. IsLossWritten (λ x crashed. numbered x crashed outcome) y)
+  crashes_at moves y s may =
+      let z : Position = s.drawn.position in
+      let h = s.drawn.choices.crashes may in
+      let e = (edge_is s.vertex s.drawn Crashes h).1 in
+      let c = e.2 in
+      record {
+        outcome = e.0;
+        path = subst (λ (v : ℕ). Path edges (map Happens moves ++ Crashes ∷ []) v) e.1 (goes_on (map Happens moves) s.vertex s.drawn Crashes h s.path);
+        comes = record {
+          position = c.position;
+          alike = leave_alike_on c.position z y (leave_alike_by_state groups first c.position z (c.kept known) (s.drawn.kept known) c.same) (leave_alike z y s.alike);
+          is = c.is;
+        };
+      }
+
+  pub order_is_path : (moves : List Move) (y : Position) → Order allowed places first moves y → IsPath states groups numbered allowed places first edges moves y
+  order_is_path moves y order =
+      let s = order_comes moves y order in record {
+        vertex = s.vertex;
+        low = s.low;
+        path = s.path;
+        drawn = s.drawn;
+        alike = s.alike;
+        rests = rests_at moves y s;
+        crashes = crashes_at moves y s;
+      }

@@ -1,5 +1,5 @@
 -- Positions that differ from a first one in what is followed alone.
-use Rattle.std.specs.Prelude.{ℕ, ◌≡◌, ◌≢◌, List, Option, Some, None, length, slice_index_or}
+use Rattle.std.specs.Prelude.{ℕ, ◌≡◌, ◌≢◌, List, Option, Some, None, length, slice_get, slice_index_or}
 use Rattle.std.specs.List.{AllByRecursion}
 use Rattle.ds_layout.specs.declared.place.Place.{Place}
 use Rattle.ds_layout.specs.SheetMemory.{memory}
@@ -45,3 +45,7 @@ abbrev pub CanHappen : Position → Move → Type 0
 CanHappen x (Step p) = IsBusy x p
 CanHappen x (Stop p) = IsBusy x p
 CanHappen x (Evict place) = HasDirt x.world place
+
+-- each word whose sides differ is at one of these places
+abbrev pub HasAllDirt : WorldValue → List Place → Type 0
+HasAllDirt w places = (place : Place) → HasDirt w place → (i : ℕ) × (slice_get places i ≡ Some place)

@@ -4,3 +4,4 @@ pub mod Alike
 pub mod Following
 pub mod Closed
 pub mod Buffers
+pub mod Drawn

@@ -1,20 +1,22 @@
-//! Whether anything that may happen leads out of the states that were found, and what orders come to is written.
+//! The graph of the states that were found, where nothing leads out of them and what orders come to is written.
 
-ghost use Rattle.std.specs.Prelude.{◌≡◌, ◌<◌, ℕ, All, List, true, false, IfOk, IfSome, IsTrue, OnOk, length, replicate, slice_index_or};
+ghost use Rattle.std.specs.Prelude.{◌≡◌, ◌<◌, [], ℕ, All, List, true, false, IfOk, IfSome, IsTrue, OnOk, length, replicate, slice_index_or};
 ghost use Rattle.ds_layout.specs.declared.place.Place.{Place};
-ghost use Rattle.ds_explore_state.specs.Closed.{AreAll, AreKept, IsKeyWritten, LeadsInto, MarksHold, StaysIn, keys_in};
+ghost use Rattle.ds_explore_state.specs.Closed.{AreKept, HasNumber, LeadsTo};
+ghost use Rattle.ds_explore_state.specs.Drawn.{Adds, AreChoices, AreDrawn, AreMoves, AreNext, CanCome, IsGraph, IsNextEdge, IsOf, KnowsCrashes};
 ghost use Rattle.ds_explore_state.specs.Following.{IsFollowed, IsKept};
-ghost use Rattle.ds_explore_state.specs.Orders.{Happens, HasDirt, IsBusy, MayHappen};
+ghost use Rattle.ds_explore_state.specs.Orders.{Happens};
 ghost use Rattle.ds_explore_state.specs.States.{groups_of};
-ghost use Rattle.ds_explore_state.specs.declared.position.Move.TheVariants.{Evict, Step, Stop};
+ghost use Rattle.ds_explore_state.specs.declared.choices.Choice.TheVariants as choices;
 ghost use Rattle.ds_explore_state.specs.declared.position.Position.{Position};
 
-use crate::endings::{Endings, ends_are_written};
-use crate::keys::Keys;
-use crate::orders::{Allowed, can_happen, is_busy, is_dirty};
+use crate::choices::{Choice, are_apart, can_come, moves_of};
+use crate::endings::{CrashOutcomes, Endings, add_crash, add_rest};
+use crate::orders::{Allowed, can_happen};
 use crate::position::{Move, Position};
 use crate::states::States;
 use crate::touched::Touched;
+use ds_paths::graph::Edge;
 use std::alloc::{AllocError, Global};
 
 /// The states that were found, the words that are followed, and what may come between steps or after them.
@@ -30,20 +32,13 @@ pub struct Found<'a> {
     pub first: &'a Position,
 }
 
-// What may happen at a position, and the number of the state that it leads to.
-#[derive(Clone, Copy)]
-struct Successor {
-    by: Move,
-    to: u32,
-}
-
 // A position whose successors are gone through.
 #[derive(Drop)]
 struct Visit {
     // The position, as long as something has not happened in it.
     position: Option<Position>,
-    // What has not yet happened in it.
-    ahead: Vec<Successor>,
+    // What has not yet happened in it, and how an order may end there.
+    ahead: Vec<Edge<Choice>>,
 }
 
 // Whether this can happen at the position, and has happened, with words of the groups written alone.
@@ -64,14 +59,14 @@ fn lead(
 }
 
 // The number of the state that this leads to.
-fn leads_into(
+fn leads_to(
     alloc: Global,
     states: &States,
     touched: &Touched,
     position: &Position,
     next: Move,
 ) -> Result<Option<u32>, AllocError>
-    ensures { IfOk result (λ some. IfSome some (λ number. LeadsInto states.now (groups_of touched.now) position.now next)) }
+    ensures { IfOk result (λ some. IfSome some (LeadsTo states.now (groups_of touched.now) position.now next)) }
 {
     let mut after = position.copy(alloc)?;
     let led = lead(alloc, touched, &mut after, next)?;
@@ -81,227 +76,138 @@ fn leads_into(
     states.number_of(alloc, &after, touched)
 }
 
-// Whether this leads to a state that was found. It is one of the successors then.
-fn follow(
+// Adds the edge to the state that this leads to, if it may happen at the position, whose state has this number. False where
+// that state was not found.
+fn add_next(
     alloc: Global,
-    states: &States,
-    touched: &Touched,
+    found: Found<'_>,
     position: &Position,
+    number: u32,
     by: Move,
-    successors: &mut Vec<Successor>,
+    edges: &mut Vec<Edge<Choice>>,
 ) -> Result<bool, AllocError>
-    ensures { IfOk result (λ b. IsTrue b → LeadsInto states.now (groups_of touched.now) position.now by) }
+    requires { IsOf found.touched.now.places.items by }
+    ensures { IfOk result (λ b. IsTrue b → Adds (IsNextEdge found.entry.states.now (groups_of found.entry.touched.now) found.entry.allowed found.entry.touched.now.places.items position.now number) (CanCome found.entry.allowed position.now by) (choices.Happens by) edges.old.items edges.new.items) }
 {
-    match leads_into(alloc, states, touched, position, by)? {
-        Some(to) => {
-            successors.push(Successor { by, to })?;
-            Ok(true)
-        }
-        None => Ok(false),
-    }
-}
-
-// Whether a step of the process leads to a state that was found, if it is in a call.
-fn step_leads(
-    alloc: Global,
-    states: &States,
-    touched: &Touched,
-    position: &Position,
-    process: usize,
-    successors: &mut Vec<Successor>,
-) -> Result<bool, AllocError>
-    ensures { IfOk result (λ b. IsTrue b → IsBusy position.now process → LeadsInto states.now (groups_of touched.now) position.now (Step process)) }
-{
-    if !is_busy(position, process) {
+    if !can_come(found.allowed, position, by) {
         return Ok(true);
     }
-    let by = Move::Step(process);
-    follow(alloc, states, touched, position, by, successors)
-}
-
-// Whether a stop of the process leads to a state that was found, if it is in a call.
-fn stop_leads(
-    alloc: Global,
-    states: &States,
-    touched: &Touched,
-    position: &Position,
-    process: usize,
-    successors: &mut Vec<Successor>,
-) -> Result<bool, AllocError>
-    ensures { IfOk result (λ b. IsTrue b → IsBusy position.now process → LeadsInto states.now (groups_of touched.now) position.now (Stop process)) }
-{
-    if !is_busy(position, process) {
-        return Ok(true);
-    }
-    let by = Move::Stop(process);
-    follow(alloc, states, touched, position, by, successors)
-}
-
-// Whether an eviction of the word with this number leads to a state that was found, if its sides differ.
-fn evict_leads(
-    alloc: Global,
-    states: &States,
-    touched: &Touched,
-    position: &Position,
-    number: usize,
-    successors: &mut Vec<Successor>,
-) -> Result<bool, AllocError>
-    requires { number < length touched.now.places.items }
-    ensures { IfOk result (λ b. IsTrue b → (d : Place) → HasDirt position.now.world (slice_index_or touched.now.places.items number d) → LeadsInto states.now (groups_of touched.now) position.now (Evict (slice_index_or touched.now.places.items number d))) }
-{
-    let place = touched.places[number];
-    if !is_dirty(&position.world, place) {
-        return Ok(true);
-    }
-    let by = Move::Evict(place);
-    follow(alloc, states, touched, position, by, successors)
-}
-
-// Whether every step leads to a state that was found.
-fn steps_lead(
-    alloc: Global,
-    states: &States,
-    touched: &Touched,
-    position: &Position,
-    successors: &mut Vec<Successor>,
-) -> Result<bool, AllocError>
-    ensures { IfOk result (λ b. IsTrue b → (p : ℕ) → IsBusy position.now p → LeadsInto states.now (groups_of touched.now) position.now (Step p)) }
-{
-    for process in 0..position.seats.len() {
-        let leads = step_leads(alloc, states, touched, position, process, successors)?;
-        if !leads {
-            return Ok(false);
-        }
-    }
-    Ok(true)
-}
-
-// Whether every stop leads to a state that was found.
-fn stops_lead(
-    alloc: Global,
-    states: &States,
-    touched: &Touched,
-    position: &Position,
-    successors: &mut Vec<Successor>,
-) -> Result<bool, AllocError>
-    ensures { IfOk result (λ b. IsTrue b → (p : ℕ) → IsBusy position.now p → LeadsInto states.now (groups_of touched.now) position.now (Stop p)) }
-{
-    for process in 0..position.seats.len() {
-        let leads = stop_leads(alloc, states, touched, position, process, successors)?;
-        if !leads {
-            return Ok(false);
-        }
-    }
-    Ok(true)
-}
-
-// Whether every eviction leads to a state that was found.
-fn evictions_lead(
-    alloc: Global,
-    states: &States,
-    touched: &Touched,
-    position: &Position,
-    successors: &mut Vec<Successor>,
-) -> Result<bool, AllocError>
-    ensures { IfOk result (λ b. IsTrue b → (i : ℕ) (d : Place) → i < length touched.now.places.items → HasDirt position.now.world (slice_index_or touched.now.places.items i d)
-        → LeadsInto states.now (groups_of touched.now) position.now (Evict (slice_index_or touched.now.places.items i d))) }
-{
-    for number in 0..touched.places.len() {
-        let leads = evict_leads(alloc, states, touched, position, number, successors)?;
-        if !leads {
-            return Ok(false);
-        }
-    }
-    Ok(true)
-}
-
-// Whether all stops that may come lead to states that were found.
-fn allowed_stops_lead(
-    alloc: Global,
-    found: Found<'_>,
-    position: &Position,
-    successors: &mut Vec<Successor>,
-) -> Result<bool, AllocError>
-    ensures { IfOk result (λ b. IsTrue b → (p : ℕ) → MayHappen found.entry.allowed found.entry.touched.now.places.items position.now (Stop p) → LeadsInto found.entry.states.now (groups_of found.entry.touched.now) position.now (Stop p)) }
-{
-    if !found.allowed.stops {
-        return Ok(true);
-    }
-    stops_lead(alloc, found.states, found.touched, position, successors)
-}
-
-// Whether all evictions that may come lead to states that were found.
-fn allowed_evictions_lead(
-    alloc: Global,
-    found: Found<'_>,
-    position: &Position,
-    successors: &mut Vec<Successor>,
-) -> Result<bool, AllocError>
-    ensures { IfOk result (λ b. IsTrue b → (place : Place) → MayHappen found.entry.allowed found.entry.touched.now.places.items position.now (Evict place) → LeadsInto found.entry.states.now (groups_of found.entry.touched.now) position.now (Evict place)) }
-{
-    if !found.allowed.evictions {
-        return Ok(true);
-    }
-    if !position.is_under_way() {
-        return Ok(true);
-    }
-    evictions_lead(alloc, found.states, found.touched, position, successors)
-}
-
-// Whether all that may happen at a position leads to states that were found.
-fn stays_in(
-    alloc: Global,
-    found: Found<'_>,
-    position: &Position,
-    successors: &mut Vec<Successor>,
-) -> Result<bool, AllocError>
-    ensures { IfOk result (λ b. IsTrue b → StaysIn found.entry.states.now (groups_of found.entry.touched.now) found.entry.allowed found.entry.touched.now.places.items position.now) }
-{
-    let steps = steps_lead(alloc, found.states, found.touched, position, successors)?;
-    if !steps {
+    let Some(to) = leads_to(alloc, found.states, found.touched, position, by)? else {
         return Ok(false);
-    }
-    let stops = allowed_stops_lead(alloc, found, position, successors)?;
-    if !stops {
-        return Ok(false);
-    }
-    allowed_evictions_lead(alloc, found, position, successors)
+    };
+    edges.push(Edge {
+        from: number,
+        by: Choice::Happens(by),
+        to,
+    })?;
+    Ok(true)
 }
 
-// Marks the state of a position, where all that may happen there leads to states that were found, and it is written what
-// orders come to that end there: its successors. None where it is marked already, or that is not so.
-fn mark<E: Endings>(
+// The edges of all that may happen at the position, whose state has this number. None where something leads to a state that
+// was not found, or there are more processes than at first.
+fn next_edges(
+    alloc: Global,
+    found: Found<'_>,
+    moves: &[Move],
+    position: &Position,
+    number: u32,
+) -> Result<Option<Vec<Edge<Choice>>>, AllocError>
+    requires { AreMoves (length found.first.now.seats.items) found.touched.now.places.items moves.now }
+    ensures { IfOk result (λ some. IfSome some (λ edges. AreNext found.entry.states.now (groups_of found.entry.touched.now) found.entry.allowed found.entry.touched.now.places.items position.now number edges.items)) }
+{
+    if position.seats.len() > found.first.seats.len() {
+        return Ok(None);
+    }
+    let mut edges = Vec::new(alloc);
+    for at in 0..moves.len() {
+        let led = add_next(alloc, found, position, number, moves[at], &mut edges)?;
+        if !led {
+            return Ok(None);
+        }
+    }
+    Ok(Some(edges))
+}
+
+// The edges of all that may come next in an order at the position, whose state has this number. None where something leads
+// to a state that was not found, or to an outcome that is not written.
+fn all_choices<E: Endings>(
     alloc: Global,
     found: Found<'_>,
     endings: &E,
+    moves: &[Move],
     position: &Position,
-    crashes: &mut Keys,
-    marks: &mut Vec<bool>,
-) -> Result<Option<Vec<Successor>>, AllocError>
-    requires marks { MarksHold found.states.now (groups_of found.touched.now) (E.written endings.now) found.allowed found.touched.now.places.items found.first.now marks.old.items }
-    requires keys { All (IsKeyWritten found.states.now (groups_of found.touched.now) (E.written endings.now) found.first.now) (keys_in crashes.old) }
+    number: u32,
+    crashes: &mut CrashOutcomes,
+) -> Result<Option<Vec<Edge<Choice>>>, AllocError>
+    requires moves { AreMoves (length found.first.now.seats.items) found.touched.now.places.items moves.now }
+    requires knows { KnowsCrashes found.states.now (groups_of found.touched.now) (E.numbered endings.now) found.allowed found.touched.now.places.items found.first.now crashes.old }
     requires kept { IsKept (groups_of found.touched.now) found.first.now position.now }
-    ensures marks { OnOk result (MarksHold found.entry.states.now (groups_of found.entry.touched.now) (E.written endings.now) found.entry.allowed found.entry.touched.now.places.items found.entry.first.now marks.new.items) }
-    ensures keys { OnOk result (All (IsKeyWritten found.entry.states.now (groups_of found.entry.touched.now) (E.written endings.now) found.entry.first.now) (keys_in crashes.new)) }
+    ensures choices { IfOk result (λ some. IfSome some (λ edges. AreChoices found.entry.states.now (groups_of found.entry.touched.now) (E.numbered endings.now) found.entry.allowed found.entry.touched.now.places.items found.entry.first.now position.now number edges.items)) }
+    ensures knows { OnOk result (KnowsCrashes found.entry.states.now (groups_of found.entry.touched.now) (E.numbered endings.now) found.entry.allowed found.entry.touched.now.places.items found.entry.first.now crashes.new) }
 {
-    let Some(number) = found.states.number_of(alloc, position, found.touched)? else {
+    let Some(mut edges) = next_edges(alloc, found, moves, position, number)? else {
         return Ok(None);
     };
+    let rests = add_rest(alloc, found, endings, position, number, &mut edges)?;
+    if !rests {
+        return Ok(None);
+    }
+    let crashed = add_crash(alloc, found, endings, position, number, crashes, &mut edges)?;
+    if !crashed || !are_apart(&edges) {
+        return Ok(None);
+    }
+    Ok(Some(edges))
+}
+
+// What was drawn of the graph: the states whose edges were, and all edges.
+#[derive(Drop)]
+struct Drawing {
+    marks: Vec<bool>,
+    edges: Vec<Edge<Choice>>,
+}
+
+// Whether the state with this number is one of those that were found, and not marked.
+fn is_new(marks: &[bool], number: u32) -> bool
+    ensures there { IsTrue result → number < length marks.now }
+    ensures unmarked { IsTrue result → slice_index_or marks.now number false ≡ false }
+{
     let at = number as usize;
-    if at >= marks.len() || marks[at] {
-        return Ok(None);
+    at < marks.len() && !marks[at]
+}
+
+impl Drawing {
+    // The edges that leave the state of a position are drawn, where all that may come next there leads to states that were
+    // found, or outcomes that are written: a copy of them. None where they were drawn before, or that is not so.
+    fn draw<E: Endings>(
+        &mut self,
+        alloc: Global,
+        found: Found<'_>,
+        endings: &E,
+        moves: &[Move],
+        position: &Position,
+        crashes: &mut CrashOutcomes,
+    ) -> Result<Option<Vec<Edge<Choice>>>, AllocError>
+        requires drawn { AreDrawn found.states.now (groups_of found.touched.now) (E.numbered endings.now) found.allowed found.touched.now.places.items found.first.now self.old.edges.items self.old.marks.items }
+        requires moves { AreMoves (length found.first.now.seats.items) found.touched.now.places.items moves.now }
+        requires knows { KnowsCrashes found.states.now (groups_of found.touched.now) (E.numbered endings.now) found.allowed found.touched.now.places.items found.first.now crashes.old }
+        requires kept { IsKept (groups_of found.touched.now) found.first.now position.now }
+        ensures drawn { OnOk result (AreDrawn found.entry.states.now (groups_of found.entry.touched.now) (E.numbered endings.now) found.entry.allowed found.entry.touched.now.places.items found.entry.first.now self.new.edges.items self.new.marks.items) }
+        ensures knows { OnOk result (KnowsCrashes found.entry.states.now (groups_of found.entry.touched.now) (E.numbered endings.now) found.entry.allowed found.entry.touched.now.places.items found.entry.first.now crashes.new) }
+    {
+        let Some(number) = found.states.number_of(alloc, position, found.touched)? else {
+            return Ok(None);
+        };
+        if !is_new(&self.marks, number) {
+            return Ok(None);
+        }
+        let Some(edges) = all_choices(alloc, found, endings, moves, position, number, crashes)?
+        else {
+            return Ok(None);
+        };
+        self.edges.extend_from_slice(&edges)?;
+        self.marks[number as usize] = true;
+        Ok(Some(edges))
     }
-    let mut successors = Vec::new(alloc);
-    let stays = stays_in(alloc, found, position, &mut successors)?;
-    if !stays {
-        return Ok(None);
-    }
-    let written = ends_are_written(alloc, found, endings, position, crashes)?;
-    if !written {
-        return Ok(None);
-    }
-    marks[at] = true;
-    Ok(Some(successors))
 }
 
 // The position that is there, for what happens next in it: a copy as long as more is to happen.
@@ -322,6 +228,14 @@ fn taken(
     }
 }
 
+// What happens along an edge to a state that is not marked.
+fn unmarked_by(marks: &[bool], edge: Edge<Choice>) -> Option<Move> {
+    match edge.by {
+        Choice::Happens(by) if marks.get(edge.to as usize) == Some(&false) => Some(by),
+        _ => None,
+    }
+}
+
 impl Visit {
     // The next position whose state is not marked; none where all are.
     fn next(
@@ -334,15 +248,15 @@ impl Visit {
         ensures kept { (first : Position) → IfSome self.old.position (IsKept (groups_of touched.now) first) → IfSome self.new.position (IsKept (groups_of touched.now) first) }
     {
         for _ in 0..u64::MAX {
-            let Some(successor) = self.ahead.pop() else {
+            let Some(edge) = self.ahead.pop() else {
                 return Ok(None);
             };
-            if marks.get(successor.to as usize) == Some(&false) {
+            if let Some(by) = unmarked_by(marks, edge) {
                 let is_last = self.ahead.is_empty();
                 let Some(mut after) = taken(alloc, &mut self.position, is_last)? else {
                     return Ok(None);
                 };
-                let led = lead(alloc, touched, &mut after, successor.by)?;
+                let led = lead(alloc, touched, &mut after, by)?;
                 if led {
                     return Ok(Some(after));
                 }
@@ -385,29 +299,47 @@ fn unmarked(alloc: Global, count: usize) -> Result<Vec<bool>, AllocError>
     Ok(marks)
 }
 
-// Marks the states from which nothing leads out of those that were found, and at which it is written what orders come to,
-// from the first one on.
-fn marks<E: Endings>(alloc: Global, found: Found<'_>, endings: &E) -> Result<Vec<bool>, AllocError>
-    requires { IsKept (groups_of found.touched.now) found.first.now found.first.now }
-    ensures { IfOk result (λ marks. MarksHold found.entry.states.now (groups_of found.entry.touched.now) (E.written endings.now) found.entry.allowed found.entry.touched.now.places.items found.entry.first.now marks.items) }
+// Nothing was drawn, of this many states.
+fn blank(alloc: Global, count: usize) -> Result<Drawing, AllocError>
+    ensures marks { IfOk result (λ drawing. drawing.marks.items ≡ replicate count false) }
+    ensures edges { IfOk result (λ drawing. drawing.edges.items ≡ []) }
 {
-    let mut marks = unmarked(alloc, found.states.len())?;
-    let mut crashes = Keys::new(alloc);
+    let marks = unmarked(alloc, count)?;
+    Ok(Drawing {
+        marks,
+        edges: Vec::new(alloc),
+    })
+}
+
+// The graph of the states that are reached from the first one on, as far as all that may come next leads to states that were
+// found, or outcomes that are written.
+fn draw_all<E: Endings>(
+    alloc: Global,
+    found: Found<'_>,
+    endings: &E,
+    moves: &[Move],
+) -> Result<Drawing, AllocError>
+    requires moves { AreMoves (length found.first.now.seats.items) found.touched.now.places.items moves.now }
+    requires kept { IsKept (groups_of found.touched.now) found.first.now found.first.now }
+    ensures { IfOk result (λ drawing. AreDrawn found.entry.states.now (groups_of found.entry.touched.now) (E.numbered endings.now) found.entry.allowed found.entry.touched.now.places.items found.entry.first.now drawing.edges.items drawing.marks.items) }
+{
+    let mut drawing = blank(alloc, found.states.len())?;
+    let mut crashes = CrashOutcomes::new(alloc);
     let mut visits = Vec::new(alloc);
     let mut position = found.first.copy(alloc)?;
     for _ in 0..u64::MAX {
-        if let Some(ahead) = mark(alloc, found, endings, &position, &mut crashes, &mut marks)? {
+        if let Some(ahead) = drawing.draw(alloc, found, endings, moves, &position, &mut crashes)? {
             visits.push(Visit {
                 position: Some(position),
                 ahead,
             })?;
         }
-        match next(alloc, found.touched, &mut visits, &marks)? {
+        match next(alloc, found.touched, &mut visits, &drawing.marks)? {
             Some(after) => position = after,
-            None => return Ok(marks),
+            None => return Ok(drawing),
         }
     }
-    Ok(marks)
+    Ok(drawing)
 }
 
 // Whether each of n states is marked.
@@ -429,21 +361,39 @@ fn is_whole(position: &Position) -> bool
     position.seats.len() == position.world.words.layout().processes
 }
 
-/// Whether the states that were found are all: the first one is there, nothing that may happen leads out of them, and it is
-/// written what orders come to that end in one of them. An error means that an allocation failed.
-pub fn is_closed<E: Endings>(
+// Whether the state of the position has number 0.
+fn begins(alloc: Global, found: Found<'_>) -> Result<bool, AllocError>
+    ensures { IfOk result (λ b. IsTrue b → HasNumber found.entry.states.now (groups_of found.entry.touched.now) found.entry.first.now 0) }
+{
+    match found.states.number_of(alloc, found.first, found.touched)? {
+        Some(number) => Ok(number == 0),
+        None => Ok(false),
+    }
+}
+
+/// The graph of the states that were found, where these are all: the first one has number 0, nothing that may happen leads
+/// out of them, and it is written what orders come to that end in one of them. Else none. An error means that an allocation
+/// failed.
+pub fn draw_graph<E: Endings>(
     alloc: Global,
     found: Found<'_>,
     endings: &E,
-) -> Result<bool, AllocError>
-    ensures { IfOk result (λ b. IsTrue b → AreAll found.entry.states.now (groups_of found.entry.touched.now) (E.written endings.now) found.entry.allowed found.entry.touched.now.places.items found.entry.first.now) }
+) -> Result<Option<Vec<Edge<Choice>>>, AllocError>
+    ensures kept { IfOk result (λ some. IfSome some (λ edges. IsKept (groups_of found.entry.touched.now) found.entry.first.now found.entry.first.now)) }
+    ensures graph { IfOk result (λ some. IfSome some (λ edges. IsGraph found.entry.states.now (groups_of found.entry.touched.now) (E.numbered endings.now) found.entry.allowed found.entry.touched.now.places.items found.entry.first.now edges.items)) }
 {
     if !is_whole(found.first) {
-        return Ok(false);
+        return Ok(None);
     }
-    let Some(_number) = found.states.number_of(alloc, found.first, found.touched)? else {
-        return Ok(false);
-    };
-    let marks = marks(alloc, found, endings)?;
-    Ok(are_marked(&marks, found.states.len()))
+    let begins = begins(alloc, found)?;
+    if !begins {
+        return Ok(None);
+    }
+    let moves = moves_of(alloc, found.first.seats.len(), &found.touched.places)?;
+    let drawing = draw_all(alloc, found, endings, &moves)?;
+    if are_marked(&drawing.marks, found.states.len()) {
+        Ok(Some(drawing.edges))
+    } else {
+        Ok(None)
+    }
 }

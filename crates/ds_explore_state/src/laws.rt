@@ -7,8 +7,11 @@ ghost use Rattle.ds_state.specs.Value.{IsGood, WorldValue, world_of};
 ghost use Rattle.ds_explore_state.specs.States.{IsKey, PlainPart, SameState, state_of};
 ghost use Rattle.ds_explore_state.specs.Alike.{ArePositionsAlike};
 ghost use Rattle.ds_explore_state.specs.Buffers.{HasEmptyBuffer};
-ghost use Rattle.ds_explore_state.specs.Closed.{AreAll, Order, OrdersAreWritten};
-ghost use Rattle.ds_explore_state.specs.Following.{KnowsBuffers};
+ghost use Rattle.ds_paths.specs.declared.graph.Edge.{Edge};
+ghost use Rattle.ds_explore_state.specs.Closed.{Order};
+ghost use Rattle.ds_explore_state.specs.Drawn.{IsGraph, IsPath};
+ghost use Rattle.ds_explore_state.specs.declared.choices.Choice.{Choice};
+ghost use Rattle.ds_explore_state.specs.Following.{IsKept, KnowsBuffers};
 ghost use Rattle.ds_explore_state.specs.Orders.{Happens, MayHappen};
 ghost use Rattle.ds_explore_state.specs.declared.orders.Allowed.{Allowed};
 ghost use Rattle.ds_explore_state.specs.declared.position.Move.{Move};
@@ -33,12 +36,13 @@ pub fn positions_go_on_alike()
         → ArePositionsAlike x y → MayHappen allowed places x move → Happens x move after → Happens y move other → ArePositionsAlike after other }
 {}
 
-/// Where the states that were found are all, every order of what may happen comes to positions alike to those that stand
-/// for states that were found, if the buffers of the first position are known; and wherever an order ends, it is written
-/// what it comes to: of a position that is alike, or of one of which a crash leaves the same.
-pub fn orders_are_written<E: Endings>(endings: &E)
-    ensures { (states : States) (groups : List (List Place)) (allowed : Allowed) (places : List Place) (first : Position) → AreAll states groups (E.written endings.now) allowed places first → KnowsBuffers first
-        → (moves : List Move) (y : Position) → Order allowed places first moves y → OrdersAreWritten states groups (E.written endings.now) allowed places first y }
+/// Where there is a graph of the states that were found, every order of what may happen is a path in it, by its moves, to the
+/// vertex of a state whose position is alike, if the buffers of the first position are known; and wherever an order ends, with
+/// its end it is a path to the vertex of its outcome: that of a position that is alike, or of one of which a crash leaves the
+/// same.
+pub fn orders_are_paths<E: Endings>(endings: &E)
+    ensures { (states : States) (groups : List (List Place)) (allowed : Allowed) (places : List Place) (first : Position) (edges : List (Edge Choice)) → IsGraph states groups (E.numbered endings.now) allowed places first edges
+        → IsKept groups first first → KnowsBuffers first → (moves : List Move) (y : Position) → Order allowed places first moves y → IsPath states groups (E.numbered endings.now) allowed places first edges moves y }
 {
     // The body does not use it: the signature or a clause names it.
     let _endings = endings;

@@ -2,6 +2,7 @@
 #![tactic(auto)]
 
 mod buffers;
+pub mod choices;
 pub mod closure;
 pub mod describe;
 pub mod endings;

@@ -1,10 +1,11 @@
 //! The words that calls under way may touch.
 
-ghost use Rattle.std.specs.Prelude.{◌≡◌, ◌≢◌, IfOk, IsTrue, map};
+ghost use Rattle.std.specs.Prelude.{◌≡◌, ◌≢◌, IfOk, IsTrue, Some, map, slice_get, ℕ};
 ghost use Rattle.std.specs.List.{AllByRecursion};
-ghost use Rattle.ds_explore_state.specs.Following.{IsOff, IsWithin};
+ghost use Rattle.ds_explore_state.specs.Following.{HasAllDirt, IsOff, IsWithin};
 ghost use Rattle.ds_explore_state.specs.States.{all_places, groups_of};
 
+use crate::orders::is_dirty;
 use ds_layout::layout::Layout;
 use ds_layout::place::{DONE_PARTS, Edition, Place, RECORDS};
 use ds_state::situation::Situation;
@@ -15,7 +16,7 @@ use std::alloc::{AllocError, Global};
 /// each process.
 #[derive(Drop)]
 pub struct Touched {
-    /// The version, the words of each cell, then of each process with its records.
+    /// The version, the words of each cell, then of each process with its records, and then all others whose sides differ.
     pub groups: Vec<Vec<Place>>,
     /// All of them.
     pub places: Vec<Place>,
@@ -147,21 +148,85 @@ fn of_process(
     Ok(places)
 }
 
+// The words of each cell are added.
+fn add_cells(
+    alloc: Global,
+    layout: &Layout,
+    groups: &mut Vec<Vec<Place>>,
+) -> Result<(), AllocError> {
+    for cell in 0..layout.cells() {
+        groups.push(of_cell(alloc, layout, cell)?)?;
+    }
+    Ok(())
+}
+
+// The words of each process are added.
+fn add_processes(
+    alloc: Global,
+    world: &World,
+    groups: &mut Vec<Vec<Place>>,
+) -> Result<(), AllocError> {
+    let editions = editions_of(alloc, world)?;
+    for process in 0..world.words.layout().processes {
+        groups.push(of_process(alloc, world, &editions, process)?)?;
+    }
+    Ok(())
+}
+
+// Whether the place is one of these.
+fn is_one(places: &[Place], place: Place) -> bool
+    ensures { IsTrue result → (i : ℕ) × (slice_get places.now i ≡ Some place) }
+{
+    for number in 0..places.len() {
+        if places[number] == place {
+            return true;
+        }
+    }
+    false
+}
+
+// The words whose sides differ that are in none of the groups: an edit that was stopped may have left them.
+fn rest(alloc: Global, world: &World, groups: &[Vec<Place>]) -> Result<Vec<Place>, AllocError> {
+    let layout = world.words.layout();
+    let mut rest = Vec::new(alloc);
+    for number in 0..layout.words() {
+        let place = layout.place(number);
+        if is_dirty(world, place) && !groups.iter().any(|group| is_one(group, place)) {
+            rest.push(place)?;
+        }
+    }
+    Ok(rest)
+}
+
+// Whether each word whose sides differ is at one of these places.
+fn has_all_dirt(world: &World, places: &[Place]) -> bool
+    ensures { IsTrue result → HasAllDirt world.now places.now }
+{
+    let layout = world.words.layout();
+    for number in 0..layout.words() {
+        let place = layout.place(number);
+        if is_dirty(world, place) && !is_one(places, place) {
+            return false;
+        }
+    }
+    true
+}
+
 impl Touched {
-    /// The words of this world. An error means that an allocation failed.
+    /// The words of this world: each whose sides differ is one of them. An error means that an allocation failed.
     pub fn of(alloc: Global, world: &World) -> Result<Touched, AllocError>
-        ensures { IfOk result (λ touched. touched.places.items ≡ all_places (groups_of touched)) }
+        ensures places { IfOk result (λ touched. touched.places.items ≡ all_places (groups_of touched)) }
+        ensures dirt { IfOk result (λ touched. HasAllDirt world.now touched.places.items) }
     {
-        let layout = world.words.layout();
-        let editions = editions_of(alloc, world)?;
         let mut groups = vec![in alloc; vec![in alloc; Place::Version]?]?;
-        for cell in 0..layout.cells() {
-            groups.push(of_cell(alloc, &layout, cell)?)?;
-        }
-        for process in 0..layout.processes {
-            groups.push(of_process(alloc, world, &editions, process)?)?;
-        }
+        add_cells(alloc, &world.words.layout(), &mut groups)?;
+        add_processes(alloc, world, &mut groups)?;
+        let rest = rest(alloc, world, &groups)?;
+        groups.push(rest)?;
         let places = all(alloc, &groups)?;
+        if !has_all_dirt(world, &places) {
+            return Err(AllocError);
+        }
         Ok(Touched { groups, places })
     }
 

@@ -33,6 +33,7 @@ enum Ask {
     Work(Cell),
     Report,
     Recover,
+    NextMarked(usize),
 }
 
 // What is answered.
@@ -45,6 +46,7 @@ enum Seen {
     Worked(Worked),
     Reported(Reported),
     Recovered(Recovered),
+    Marked(Option<usize>),
     NoMemory,
 }
 
@@ -68,6 +70,7 @@ fn answer_to<L: Ledger, M: Ledger, R: Wait>(
         Ask::Work(cell) => Seen::Worked(sheet.work(rt, alloc, pass, cell)),
         Ask::Report => Seen::Reported(sheet.show(rt, alloc, pass)),
         Ask::Recover => Seen::Recovered(sheet.recover(rt, alloc, pass)),
+        Ask::NextMarked(from) => Seen::Marked(sheet.next_marked(rt, from)),
     }
 }
 
@@ -78,9 +81,11 @@ const C1: Cell = Cell { column: 2, row: 0 };
 // What is asked by the pass of a process, and what it is to be answered.
 type Row = (usize, Ask, Seen);
 
-const ROWS: [Row; 10] = [
+const ROWS: [Row; 13] = [
     (0, Ask::Recover, Seen::Recovered(Recovered::Nothing)),
     (0, Ask::Edit(A1, "=1+2"), Seen::Done(0)),
+    (0, Ask::NextMarked(0), Seen::Marked(Some(0))),
+    (0, Ask::NextMarked(1), Seen::Marked(None)),
     (
         0,
         Ask::Report,
@@ -96,6 +101,7 @@ const ROWS: [Row; 10] = [
         Ask::Work(A1),
         Seen::Worked(Worked::Ended(WorkEnd::NotDirty)),
     ),
+    (0, Ask::NextMarked(0), Seen::Marked(None)),
     (0, Ask::Report, Seen::Reported(Reported::Settled)),
     (
         0,
@@ -142,6 +148,12 @@ const MIGRATING: [Row; 6] = [
         Ask::Recover,
         Seen::Recovered(Recovered::Refused(Refusal::Busy)),
     ),
+];
+
+// The first calls on a new sheet, of its last process first.
+const FIRST: [Row; 2] = [
+    (1, Ask::Edit(A1, "1"), Seen::Done(0)),
+    (0, Ask::Edit(A1, "2"), Seen::Done(0)),
 ];
 
 // The first row whose answer is another one; how many rows there are, where all are right.
@@ -237,10 +249,28 @@ fn between<R: Wait>(rt: &R, alloc: Global) -> Option<(usize, Option<Answer>)> {
     Some((right, finish(alloc, &mut world)))
 }
 
+// The first calls after a making: how many rows are right, and how shows begin of both processes after the close.
+fn around<R: Wait>(rt: &R, alloc: Global) -> Option<(usize, Reply, Reply)> {
+    let world = World::new(alloc, Shape::new(2, 2)?, 2).ok()?;
+    let (mut world, right) = ask_two(rt, alloc, world, &FIRST)?;
+    let first = take(alloc, &mut world, &Event::BeginShow(0));
+    let last = take(alloc, &mut world, &Event::BeginShow(1));
+    Some((right, first, last))
+}
+
 #[test]
 fn calls_answer(rt: HostRuntime) -> Result<(), Fail> {
     let alloc = rt.alloc();
-    assert_eq!(rt; new_right(&rt, alloc), Some(10));
+    assert_eq!(rt; new_right(&rt, alloc), Some(13));
+    Ok(())
+}
+
+// Neither the making nor the close stops a process.
+#[test]
+fn made_and_closed_as_it_is(rt: HostRuntime) -> Result<(), Fail> {
+    let alloc = rt.alloc();
+    let wanted = (2, Reply::Entered, Reply::Entered);
+    assert_eq!(rt; around(&rt, alloc), Some(wanted));
     Ok(())
 }
 

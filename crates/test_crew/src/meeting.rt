@@ -1,7 +1,9 @@
-//! Two workers evaluate at once.
+//! Three workers evaluate at once, one of which first recovers its process.
 
 ghost use Rattle.std.specs.Prelude.{◌≡◌};
 
+use ds_core::event::Event;
+use ds_core::take::take;
 use ds_crew::ended::Reported;
 use ds_crew::locked::LockedSheet;
 use ds_crew::pass::Pass;
@@ -18,39 +20,38 @@ use std::test::Fail;
 use std::thread;
 use std::thread::Threads;
 
-// How often the first evaluation looks for another one.
-const TURNS: u64 = 100_000_000;
+// How often an evaluation looks for the others.
+const TURNS: u64 = 10_000_000;
 
-// Holds the first evaluation until another one is over.
+// Holds each evaluation until three go on at once.
 #[derive(Drop)]
 struct Meet {
-    entered: AtomicU64,
-    over: AtomicU64,
+    inside: AtomicU64,
     met: AtomicU64,
 }
 
 impl Gate for Meet {
     fn before(&self, _process: usize, _cell: Cell) {
-        if self.entered.fetch_add(1, Ordering::SeqCst) == 0 {
-            for _ in 0..TURNS {
-                if self.over.load(Ordering::SeqCst) > 0 {
-                    self.met.store(1, Ordering::SeqCst);
-                    return;
-                }
-                thread::yield_now();
+        self.inside.fetch_add(1, Ordering::SeqCst);
+        for _ in 0..TURNS {
+            if self.inside.load(Ordering::SeqCst) >= 3 {
+                self.met.store(1, Ordering::SeqCst);
             }
+            if self.met.load(Ordering::SeqCst) == 1 {
+                return;
+            }
+            thread::yield_now();
         }
     }
 
     fn after(&self, _process: usize, _cell: Cell) {
-        self.over.fetch_add(1, Ordering::SeqCst);
+        self.inside.fetch_sub(1, Ordering::SeqCst);
     }
 }
 
-// What came of two workers on two cells.
+// What came of three workers on three cells.
 #[derive(Clone, Copy, Debug, PartialEq, Eq)]
 struct Seen {
-    started: usize,
     met: u64,
     shown: Reported,
     values: [Value; 4],
@@ -68,8 +69,8 @@ fn values<L: Ledger, M: Ledger>(pass: &Pass<L, M>) -> [Value; 4] {
     values
 }
 
-// Edits two cells, lets two workers go round once, and reports.
-fn run_both<L: Ledger + Send + Sync, M: Ledger + Send + Sync, R: Threads + Wait + Sync>(
+// Edits the last three of four cells, lets workers go round, and reports.
+fn run_all<L: Ledger + Send + Sync, M: Ledger + Send + Sync, R: Threads + Wait + Sync>(
     rt: &R,
     alloc: Global,
     world: World,
@@ -84,22 +85,20 @@ fn run_both<L: Ledger + Send + Sync, M: Ledger + Send + Sync, R: Threads + Wait 
         return Ok(None);
     };
     let shape = sheet.layout().shape;
-    if passes.is_empty() || shape.count() < 2 {
+    if passes.is_empty() || shape.count() != 4 {
         return Ok(None);
     }
-    let one = Vec::from_slice(alloc, b"1")?;
-    let two = Vec::from_slice(alloc, b"=1+1")?;
-    let _first = sheet.edit(rt, alloc, &mut passes[0], shape.cell(0), one);
-    let _second = sheet.edit(rt, alloc, &mut passes[0], shape.cell(1), two);
+    for index in 1..4usize {
+        let text = Vec::from_slice(alloc, b"=1+1")?;
+        let _edited = sheet.edit(rt, alloc, &mut passes[0], shape.cell(index), text);
+    }
     let gate = Meet {
-        entered: AtomicU64::new(0),
-        over: AtomicU64::new(0),
+        inside: AtomicU64::new(0),
         met: AtomicU64::new(0),
     };
-    let started = work_all(rt, alloc, &sheet, &mut passes, &gate, 1);
+    work_all(rt, alloc, &sheet, &mut passes, &gate, 2);
     let shown = sheet.show(rt, alloc, &mut passes[0]);
     Ok(Some(Seen {
-        started,
         met: gate.met.load(Ordering::SeqCst),
         shown,
         values: values(&passes[0]),
@@ -107,22 +106,25 @@ fn run_both<L: Ledger + Send + Sync, M: Ledger + Send + Sync, R: Threads + Wait 
 }
 
 #[test]
-fn two_evaluations_meet(rt: HostRuntime) -> Result<(), Fail> {
+fn three_evaluations_meet(rt: HostRuntime) -> Result<(), Fail> {
     let alloc = rt.alloc();
     let Some(shape) = Shape::new(2, 2) else {
         return Err(Fail::from("no shape"));
     };
-    let world = World::new(alloc, shape, 2)?;
-    let seen = run_both::<Brand, Brand, _>(&rt, alloc, world, Blank::new(2), Blank::new(2))?;
+    let mut world = World::new(alloc, shape, 3)?;
+    let _stopped = take(alloc, &mut world, &Event::Stop(2));
+    if world.words.layout().processes != 3 {
+        return Err(Fail::from("another number of processes"));
+    }
+    let seen = run_all::<Brand, Brand, _>(&rt, alloc, world, Blank::new(3), Blank::new(3))?;
     let wanted = Seen {
-        started: 2,
         met: 1,
         shown: Reported::Settled,
         values: [
-            Value::Number(1),
+            Value::Blank,
             Value::Number(2),
-            Value::Blank,
-            Value::Blank,
+            Value::Number(2),
+            Value::Number(2),
         ],
     };
     assert_eq!(rt; seen, Some(wanted));

@@ -1,4 +1,4 @@
-use Rattle.std.proofs.Common.{◌≡◌, ◌∙◌, ap, map, sym, true, Some, List, subst}
+use Rattle.std.proofs.Common.{◌≡◌, ◌∙◌, ap, map, sym, true, [], Some, List, subst}
 use Rattle.std.proofs.lemmas.Result.{IfOk-weaker, IfErr-weaker}
 use Rattle.std.specs.String.{string_bytes}
 use Rattle.clap.specs.Simple.{is_simple, subcommand_of, subcommand_rows_of}
@@ -20,10 +20,11 @@ returns-in-Some c =
     let named = entered_is (out-ArgMatches m).subcommand c.in-Some.name.now (rows_of (found_of c.in-Some.found.now)) c.in-Some.ensures.name c.in-Some.ensures.rows in
     let asked : subcommand_of dsheet words ≡ Some (c.in-Some.name.now, rows_of (found_of c.in-Some.found.now)) =
     sym (ap (λ a. subcommand_of a words) program_is) ∙ sym entered ∙ named in
+    let none : fault_of dsheet words ≡ [] = sym (ap (λ a. fault_of a words) program_is) ∙ c.in_ok-matches.ensures.kinds free in
     record {
       action = IfOk-weaker c.asked.result _ _ (λ action h. (c.in-Some.name.now, rows_of (found_of c.in-Some.found.now), asked, h)) c.asked.ensures.action;
-      accepted = IfOk-weaker c.asked.result _ _ (λ action h. sym (ap (λ a. fault_of a words) program_is) ∙ c.in_ok-matches.ensures.kinds free) c.asked.ensures.action;
-      fault = IfErr-weaker c.asked.result _ _ (λ fault h. refused_for words c.in-Some.name.now (rows_of (found_of c.in-Some.found.now)) fault asked h) c.asked.ensures.fault;
+      accepted = IfOk-weaker c.asked.result _ _ (λ action h. none) c.asked.ensures.action;
+      fault = IfErr-weaker c.asked.result _ _ (λ fault h. refused_for words c.in-Some.name.now (rows_of (found_of c.in-Some.found.now)) fault none asked h) c.asked.ensures.fault;
     }
 
 pub returns-in_err-matches-clause-fault : goal.returns-in_err-matches-clause-fault

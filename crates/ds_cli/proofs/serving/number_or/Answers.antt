@@ -8,8 +8,9 @@ returns-in-Some-clause-some c = given_number (found_of c.args.matches.now) c.arg
     (text_of (found_of c.args.matches.now) c.args.name.now c.get_str.result c.in-Some.text c.get_str.ensures c.in-Some.is) c.digits.ensures.some
 
 pub returns-in-Some-clause-none : goal.returns-in-Some-clause-none
-returns-in-Some-clause-none c = λ e. no_number_of (found_of c.args.matches.now) c.args.name.now c.in-Some.text.now
-    (text_of (found_of c.args.matches.now) c.args.name.now c.get_str.result c.in-Some.text c.get_str.ensures c.in-Some.is) (c.digits.ensures.none e)
+returns-in-Some-clause-none c = λ e.
+    let has = text_of (found_of c.args.matches.now) c.args.name.now c.get_str.result c.in-Some.text c.get_str.ensures c.in-Some.is in
+    ((c.in-Some.text.now, has), no_number_of (found_of c.args.matches.now) c.args.name.now c.in-Some.text.now has (c.digits.ensures.none e))
 
 pub returns-in-None-clause-some : goal.returns-in-None-clause-some
 returns-in-None-clause-some c = inr (none_of (found_of c.args.matches.now) c.args.name.now c.get_str.result c.get_str.ensures c.in-None.is, refl)

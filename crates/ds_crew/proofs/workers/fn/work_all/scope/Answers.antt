@@ -1,7 +1,0 @@
-use Rattle.std.proofs.Crossing.{crosses}
-use denote.Param.Send.{sendable}
-use Rattle.ds_crew.proofs.Crossing.{sheet_sync}
-use Rattle.ds_crew.proofs.workers.fn.work_all.scope.Goals as goal
-
-pub spawn-requires-send-F : goal.spawn-requires-send-F
-spawn-requires-send-F g c κs within = search (sendable, crosses, sheet_sync) depth 40

@@ -1,0 +1,12 @@
+use Rattle.std.proofs.Common.{ℕ, ◌<◌, List}
+use Rattle.std.specs.Prelude.{All, Contains}
+use Rattle.ds_layout.specs.declared.place.Place.{Place}
+use Rattle.ds_explore_state.specs.declared.position.Move.TheVariants.{Step}
+use Rattle.ds_explore_state.specs.Drawn.{IsOf}
+use Rattle.ds_explore_state.proofs.choices.steps.Given as goal
+
+abbrev pub invariant-loop-process : goal.invariant-loop-process
+invariant-loop-process l = record {
+  each : (places : List Place) → All (IsOf places) l.moves.items;
+  steps : (p : ℕ) → p < l.process → Contains l.moves.items (Step p);
+}
