@@ -255,6 +255,31 @@ grep -q '"told"' "$room/asked" && fail "the number of an edit with a key is told
 [ "$(tail -n 1 "$room/out")" = "0 4 done" ] || fail "an edit with a key is answered: $(cat "$room/out")"
 passed "a server that breaks off after an edit with a key"
 
+# An answer of a million bytes, which comes in pieces of 500, is read whole.
+python3 -c '
+import socket
+listener = socket.create_server(("127.0.0.1", 0))
+print(listener.getsockname()[1], flush=True)
+listener.settimeout(20)
+stream = listener.accept()[0]
+stream.settimeout(20)
+stream.setsockopt(socket.IPPROTO_TCP, socket.TCP_NODELAY, 1)
+stream.recv(65536)
+for _ in range(2000):
+    stream.sendall(b" " * 500)
+stream.sendall(b"{\"ok\":\"settled\",\"rows\":[[\"7\"]]}\n")
+stream.recv(1)
+' >"$room/port" &
+long=$!
+for _ in $(seq 400); do
+    [ -s "$room/port" ] && break
+    sleep 0.05
+done
+echo view | timeout 60 "$program" connect "127.0.0.1:$(cat "$room/port")" >"$room/out" 2>"$room/said" || fail "a long answer: status $?: $(cat "$room/said")"
+wait "$long" 2>/dev/null || true
+printf 'settled\n7\n' | cmp - "$room/out" || fail "a long answer: $(cat "$room/out")"
+passed "an answer of a million bytes"
+
 # A server that does not listen yet is waited for: both may be begun at once.
 kill "$server"
 wait "$server" 2>/dev/null || true

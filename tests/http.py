@@ -39,11 +39,11 @@ class Server:
 
     running = []
 
-    def __init__(self, program, *words):
-        ask = [program, "serve", "--listen", "127.0.0.1:0", "--http", "127.0.0.1:0", "--forever", *words]
+    def __init__(self, program, *words, host="127.0.0.1"):
+        ask = [program, "serve", "--listen", "127.0.0.1:0", "--http", f"{host}:0", "--forever", *words]
         self.process = subprocess.Popen(ask, stdin=subprocess.PIPE, stderr=subprocess.PIPE, text=True, bufsize=1)
         Server.running.append(self.process)
-        self.said, self.lines, self.port = [], None, None
+        self.host, self.said, self.lines, self.port = host, [], None, None
         while self.port is None:
             line = self.process.stderr.readline()
             if not line:
@@ -51,7 +51,7 @@ class Server:
             self.said.append(line)
             if found := re.fullmatch(r"dsheet: listening on 127\.0\.0\.1:(\d+)\n", line):
                 self.lines = int(found[1])
-            if found := re.fullmatch(r"dsheet: HTTP on 127\.0\.0\.1:(\d+)\n", line):
+            if found := re.fullmatch(rf"dsheet: HTTP on {re.escape(host)}:(\d+)\n", line):
                 self.port = int(found[1])
         threading.Thread(target=self.listen, daemon=True).start()
 
@@ -70,8 +70,8 @@ class Server:
         self.process.send_signal(signal.SIGKILL)
         self.process.wait(timeout=60)
 
-    def connect(self, port=None):
-        return socket.create_connection(("127.0.0.1", port or self.port), timeout=60)
+    def connect(self):
+        return socket.create_connection((self.host, self.port), timeout=60)
 
 
 class Client:
@@ -79,7 +79,7 @@ class Client:
 
     def __init__(self, server, host=None):
         self.socket = server.connect()
-        self.host = host or f"127.0.0.1:{server.port}"
+        self.host = host or f"{server.host}:{server.port}"
         self.rest = b""
 
     def close(self):
@@ -425,6 +425,7 @@ def limits(server):
     client = Client(server)
     row("the longest body", client.ask("POST", "/lines", " " * 1048575 + "\n")[::2], (200, '{"code":5,"error":"line-too-long"}\n'))
     row("its last line has no LF, which makes it too long", client.ask("POST", "/lines", " " * 1048576)[0], 413)
+    row("answers that are longer than it", Client(server).ask("POST", "/lines", "{\n" * 50000)[::2], (200, '{"code":1,"error":"not-json"}\n' * 50000))
 
 
 def origins(server):
@@ -443,6 +444,24 @@ def origins(server):
     for host in ["localhost", f"localhost:{port}", "127.0.0.1", f"[::1]:{port}", f"127.0.0.1:{port}"]:
         row(f"its own host {host}", Client(server, host).ask("GET", "/healthz", origin=f"http://{host}")[0], 200)
     row("nothing of elsewhere was made", Client(server).sheet(), before)
+
+
+def addressed(program, token):
+    """A server at an address that is no loopback: a request for just that address is answered."""
+    with socket.socket(socket.AF_INET, socket.SOCK_DGRAM) as it:
+        try:
+            it.connect(("192.0.2.1", 9))
+            own = it.getsockname()[0]
+        except OSError:
+            own = "127.0.0.1"
+    if own.startswith("127."):
+        print("http: the address that is served: not played: this computer has none but loopback")
+        return
+    server = Server(program, "--token-file", token, host=own)
+    row("the address that is served", Client(server).ask("GET", "/healthz")[0], 200)
+    for host in [f"{own}:1", f"{own}/", f"1{own}:{server.port}", f"{own}:{server.port}0"]:
+        row(f"another address {host}", Client(server, host).ask("GET", "/healthz")[0] in (400, 403), True)
+    row("it is asked to stop", server.stop(), 0)
 
 
 def sockets(server):
@@ -486,7 +505,7 @@ def sockets(server):
 
 def beside(server):
     """Edits by requests beside sessions: each request takes a process that nobody has."""
-    talker = server.connect(server.lines)
+    talker = socket.create_connection(("127.0.0.1", server.lines), timeout=60)
     lines = talker.makefile("rw", encoding="utf-8", newline="\n")
 
     def tell(line):
@@ -540,28 +559,52 @@ def many(server, count):
     row("their last edits are there", [client.sheet() for _ in range(200)][-1], [[str(count - 1)] * 2] * 2)
 
 
-def kills(program, rounds):
+class Edits:
+    """A client that edits by requests."""
+
+    def __init__(self, server):
+        self.client = Client(server)
+
+    def edit(self, cell, text):
+        """The answer to an edit that is made."""
+        status, answer = self.client.edit(cell, text)
+        assert status == 200, status
+        return answer
+
+
+class Session:
+    """A client that edits in a session over a WebSocket."""
+
+    def __init__(self, server):
+        self.socket = WebSocket(server)
+        assert self.socket.ask(op="join", process=0)["ok"] == "join"
+
+    def edit(self, cell, text):
+        """The answer to an edit."""
+        return self.socket.ask(op="set", cell=cell, text=text)
+
+
+def kills(program, rounds, kind, what):
     """A server with a store is killed while a client edits: what was answered done is there after it starts again."""
     with tempfile.TemporaryDirectory() as room:
         path, said = f"{room}/sheet.db", -1
         for _ in range(rounds):
             server = Server(program, "--store", path, "--columns", "2", "--rows", "2", "--processes", "2")
-            client = Client(server)
-            value = int(client.sheet()[0][0] or -1)
+            value = int(Client(server).sheet()[0][0] or -1)
             assert value in (said, said + 1), f"{said} was acknowledged, and {value} is there"
-            said = value
+            client, said = kind(server), value
             killing = threading.Timer(random.uniform(0.0, 0.1), server.kill)
             try:
                 for number in range(10000):
-                    status, answer = client.edit("A1", str(said + 1))
-                    assert (status, answer["ok"]) == (200, "done"), (status, answer)
+                    answer = client.edit("A1", str(said + 1))
+                    assert answer["ok"] == "done", answer
                     said += 1
                     if number == 0:
                         killing.start()
             except (OSError, AssertionError, ValueError) as broken:
                 assert not isinstance(broken, AssertionError) or "no answer" in str(broken), broken
             server.process.wait(timeout=60)
-        row(f"killed {rounds} times: no acknowledged edit is lost, of {said + 1}", said + 1 >= rounds, True)
+        row(f"killed {rounds} times beside {what}: no acknowledged edit is lost, of {said + 1}", said + 1 >= rounds, True)
 
 
 def tokens(program):
@@ -597,6 +640,7 @@ def tokens(program):
             row(f"a question by {op} without it, with it, and after a join", answers, ["denied", None, None, None])
         row("the page needs none", client.ask("GET", "/")[0], 200)
         server.stop()
+        addressed(program, f"{room}/token")
 
 
 def slow(program):
@@ -631,7 +675,8 @@ def play(program, quick):
     beside(server)
     many(server, 10 if quick else 50)
     row("it is asked to stop", server.stop(), 0)
-    kills(program, 5 if quick else 40)
+    kills(program, 5 if quick else 40, Edits, "requests")
+    kills(program, 5 if quick else 20, Session, "a session over a WebSocket")
     tokens(program)
     slow(program)
 

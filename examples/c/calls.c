@@ -20,15 +20,18 @@ static struct dsheet_answer answer;
 static struct dsheet_place head_of_a1 = {DSHEET_PLACE_HEAD, 0, 0, 0};
 static const size_t most = SIZE_MAX;
 
-/* How many allocations succeed before one fails; where it is negative, all do. */
+/* How many allocations succeed before one fails; where it is negative, all do. Whether just that one fails. */
 static long allocations = -1;
+static bool alone = false;
 
 void *__real_malloc(size_t size);
 void *__wrap_malloc(size_t size);
 
 void *__wrap_malloc(size_t size) {
-    if (allocations == 0)
+    if (allocations == 0) {
+        allocations -= alone;
         return NULL;
+    }
     allocations -= allocations > 0;
     return __real_malloc(size);
 }
@@ -400,7 +403,60 @@ static void shared_want_of_memory(void) {
         allocations = -1;
         WANT(status == DSHEET_OK ? made > 5 : status == DSHEET_NO_MEMORY);
     }
+    status = DSHEET_NO_MEMORY;
+    for (long made = 0; status != DSHEET_OK; made++) {
+        allocations = made;
+        status = dsheet_sheet_close(&sheet, &closed);
+        allocations = -1;
+        WANT(status == DSHEET_OK ? made > 0 : status == DSHEET_NO_MEMORY);
+    }
+    WANT(dsheet_closed_free(&closed) == DSHEET_OK);
+}
+
+/* The seats of the most processes come back, and the sheet is closed; not while one is out. */
+static void all_seats(void) {
+    struct dsheet_seat seats[8] = {DSHEET_SEAT_INIT};
+    WANT(dsheet_sheet_make(&sheet, 1, 1, 8) == DSHEET_OK);
+    for (size_t process = 0; process < 8; process++)
+        WANT(dsheet_sheet_take(&sheet, process, &seats[process]) == DSHEET_OK);
+    for (size_t process = 0; process < 8; process++) {
+        WANT(dsheet_sheet_close(&sheet, &closed) == DSHEET_SEAT_TAKEN);
+        WANT(dsheet_seat_free(&seats[process]) == DSHEET_OK);
+    }
     WANT(dsheet_sheet_close(&sheet, &closed) == DSHEET_OK && dsheet_closed_free(&closed) == DSHEET_OK);
+}
+
+/* A sheet whose last edit was stopped after each of its steps is closed, and not opened, as one allocation fails: its text
+ * and its mark stay what they were, though a crash would lose some of them. */
+static void failed_reopenings(void) {
+    struct dsheet_mark before, after;
+    char was[1], is[1];
+    size_t had, has;
+    WANT(dsheet_sheet_make(&sheet, 1, 1, 1) == DSHEET_OK);
+    alone = true;
+    answer.kind = DSHEET_STOPPED;
+    for (uint64_t steps = 0; answer.kind == DSHEET_STOPPED; steps++) {
+        uint32_t status = DSHEET_NO_MEMORY;
+        WANT(dsheet_sheet_take(&sheet, 0, &first) == DSHEET_OK);
+        WANT(dsheet_seat_recover(&first, DSHEET_NO_FUSE, &answer) == DSHEET_OK);
+        WANT(dsheet_seat_edit(&first, 0, 0, steps % 2 ? "1" : "2", 1, steps, &answer) == DSHEET_OK);
+        WANT(dsheet_seat_free(&first) == DSHEET_OK && dsheet_sheet_close(&sheet, &closed) == DSHEET_OK);
+        WANT(dsheet_closed_text(&closed, 0, 0, was, 1, &had) == DSHEET_OK);
+        WANT(dsheet_closed_mark(&closed, 0, 0, &before) == DSHEET_OK);
+        for (long made = 0; status != DSHEET_OK; made++) {
+            allocations = made;
+            status = dsheet_closed_reopen(&closed, &sheet);
+            allocations = -1;
+            if (status == DSHEET_OK)
+                break;
+            WANT(dsheet_closed_text(&closed, 0, 0, is, 1, &has) == DSHEET_OK);
+            WANT(has == had && (had == 0 || was[0] == is[0]));
+            WANT(dsheet_closed_mark(&closed, 0, 0, &after) == DSHEET_OK);
+            WANT(after.state == before.state && after.generation == before.generation);
+        }
+    }
+    alone = false;
+    WANT(answer.kind == DSHEET_DONE && dsheet_sheet_free(&sheet) == DSHEET_OK);
 }
 
 /* A sheet of the first layout, migrated: with its texts, and with room for longer ones. */
@@ -448,6 +504,8 @@ int main(void) {
     fuses();
     closed_sheets();
     shared_want_of_memory();
+    all_seats();
+    failed_reopenings();
     WANT(dsheet_world_free(&world) == DSHEET_OK);
     return 0;
 }

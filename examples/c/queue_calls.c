@@ -22,15 +22,18 @@ static struct pmq_answer answer;
 static uint8_t choice[8 * (2 * PMQ_OPERATIONS + 1)];
 static size_t words;
 
-/* How many allocations succeed before one fails; where it is negative, all do. */
+/* How many allocations succeed before one fails; where it is negative, all do. Whether just that one fails. */
 static long allocations = -1;
+static bool alone = false;
 
 void *__real_malloc(size_t size);
 void *__wrap_malloc(size_t size);
 
 void *__wrap_malloc(size_t size) {
-    if (allocations == 0)
+    if (allocations == 0) {
+        allocations -= alone;
         return NULL;
+    }
     allocations -= allocations > 0;
     return __real_malloc(size);
 }
@@ -174,11 +177,61 @@ static void memory(void) {
     WANT(pmq_closed_free(&closed) == PMQ_EMPTY_HANDLE);
 }
 
+/* The seats of many processes come back, and the queue is closed; not while one is out. */
+static void all_seats(void) {
+    struct pmq_seat seats[64] = {PMQ_INIT};
+    WANT(pmq_queue_make(&queue, 64) == PMQ_OK);
+    for (size_t process = 0; process < 64; process++)
+        WANT(pmq_queue_take(&queue, process, &seats[process]) == PMQ_OK);
+    for (size_t process = 0; process < 64; process++) {
+        WANT(pmq_queue_close(&queue, &closed) == PMQ_SEAT_TAKEN);
+        WANT(pmq_seat_free(&seats[process]) == PMQ_OK);
+    }
+    WANT(pmq_queue_close(&queue, &closed) == PMQ_OK && pmq_closed_free(&closed) == PMQ_OK);
+}
+
+/* What a recovery says of an enqueue that was stopped after that number of steps, where the queue was closed then and opened:
+ * at once, or after each allocation of the opening failed alone. Whether the enqueue was stopped. */
+static bool reopened(uint64_t steps, bool fails) {
+    bool stopped;
+    uint32_t status = PMQ_NO_MEMORY;
+    WANT(pmq_queue_make(&queue, 1) == PMQ_OK && pmq_queue_take(&queue, 0, &seat) == PMQ_OK);
+    WANT(pmq_seat_enqueue(&seat, 7, steps, &answer) == PMQ_OK);
+    stopped = answer.kind == PMQ_STOPPED;
+    WANT(pmq_seat_free(&seat) == PMQ_OK && pmq_queue_close(&queue, &closed) == PMQ_OK);
+    alone = true;
+    for (long made = 0; status != PMQ_OK; made++) {
+        allocations = fails ? made : -1;
+        status = pmq_closed_reopen(&closed, &queue);
+        allocations = -1;
+        WANT(status == PMQ_OK || (fails && status == PMQ_NO_MEMORY));
+    }
+    alone = false;
+    WANT(pmq_queue_take(&queue, 0, &seat) == PMQ_OK);
+    WANT(pmq_seat_recover(&seat, PMQ_NO_FUSE, &answer) == PMQ_OK);
+    WANT(pmq_seat_free(&seat) == PMQ_OK && pmq_queue_free(&queue) == PMQ_OK);
+    return stopped;
+}
+
+/* An opening that fails leaves each word what it was, though a crash would lose some of them. */
+static void failed_reopenings(void) {
+    bool stopped = true;
+    for (uint64_t steps = 0; stopped; steps++) {
+        struct pmq_answer at_once;
+        stopped = reopened(steps, false);
+        at_once = answer;
+        WANT(reopened(steps, true) == stopped);
+        WANT(answered(at_once.kind, at_once.number, at_once.value));
+    }
+}
+
 int main(void) {
     handles();
     seats();
     operations();
     crashes();
     memory();
+    all_seats();
+    failed_reopenings();
     return 0;
 }

@@ -28,8 +28,8 @@ const TRIES: u32 = 100;
 
 const REST: u64 = 100;
 
-// How many reads an answer may take, and how much is read at once.
-const READS: usize = 1024;
+// How many bytes an answer has at most, about, and how many are read at once.
+const ANSWER_MOST: usize = 1_048_576;
 
 const CHUNK: usize = 1024;
 
@@ -127,14 +127,14 @@ fn add_line(said: &mut Vec<u8>, part: &[u8]) -> Result<bool, AllocError> {
     }
 }
 
-// The first line of what the server says.
+// The first line of what the server says, in as many pieces as it comes.
 fn read_answer(alloc: Global, stream: &mut TcpStream) -> io::Result<Vec<u8>> {
     let mut chunk = [0u8; CHUNK];
     let mut said = Vec::new(alloc);
-    for _ in 0..READS {
+    for _ in 0..ANSWER_MOST {
         let count = stream.read(&mut chunk)?;
         let part = chunk.get(..count).unwrap_or(b"");
-        if part.is_empty() {
+        if part.is_empty() || said.len() >= ANSWER_MOST {
             break;
         }
         if add_line(&mut said, part)? {

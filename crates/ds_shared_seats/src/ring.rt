@@ -72,14 +72,14 @@ impl Ring {
 }
 
 impl Home {
-    ghost use Rattle.std.specs.Prelude.{IsTrue, IfSome, IfNone};
+    ghost use Rattle.std.specs.Prelude.{◌↔◌, IsTrue, IfSome, IfNone};
     ghost use Rattle.ds_shared.specs.declared.sheet.SharedSheet.{SharedSheet};
     ghost use Rattle.ds_shared_seats.specs.Homes.{HomeLooked, IsFull, IsHomeOf, Lends};
 
-    /// Whether a pass lies in it, as far as can be seen.
+    /// Whether a pass is known to lie in it, now that it has been looked at.
     pub(crate) fn is_full(&mut self) -> bool
         ensures looked { HomeLooked self.old self.new }
-        ensures full { IsTrue result → IsFull self.new }
+        ensures full { IsTrue result ↔ IsFull self.new }
     {
         !self.end.is_empty()
     }

@@ -46,6 +46,14 @@ full_more ys n y below full here k d low =
     (λ other. subst IsFull (sym (get_or-set_other ys n k y d other.1)) (full k d (let ne = other.1 in omega (arith, low, ne))))
     (eqb_tells k n)
 
+-- where all are full, one of them looked at just now, those before it were full
+pub full_before : (ys : List Home) (n : ℕ) (y : Home) → n < length ys → ((k : ℕ) (d : Home) → k < n + 1 → IsFull (get_or (slice_set ys n y) k d)) → (k : ℕ) (d : Home) → k < n → IsFull (get_or ys k d)
+full_before ys n y below each k d low = subst IsFull (get_or-set_other ys n k y d (λ same. let s = same in omega (arith, low, s))) (each k d (omega (arith, low)))
+
+-- and it is full itself
+pub full_here : (ys : List Home) (n : ℕ) (y : Home) → n < length ys → ((k : ℕ) (d : Home) → k < n + 1 → IsFull (get_or (slice_set ys n y) k d)) → IsFull y
+full_here ys n y below each = subst IsFull (get_or-set_same ys n y y below) (each n y (omega arith))
+
 unlooked : (h : Home) → HomeLooked h h
 unlooked h = (refl, (((refl, refl, refl, refl), refl), refl, ([], append-nil _)))
 

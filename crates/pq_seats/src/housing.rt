@@ -1,6 +1,6 @@
 //! Passes are laid into homes, and gathered from them.
 
-ghost use Rattle.std.specs.Prelude.{◌≡◌, ◌≤◌, [], ◌∷◌, length, map, All, IfOk, IsTrue, vec_capacity};
+ghost use Rattle.std.specs.Prelude.{◌≡◌, ◌≤◌, ◌↔◌, [], ◌∷◌, length, map, All, IfOk, IsTrue, vec_capacity};
 ghost use Rattle.std.specs.List.{range_with_len};
 ghost use Rattle.rtrb.specs.Ring.{received, known_items};
 ghost use Rattle.pq_seats.specs.Known.{IsOf};
@@ -45,7 +45,7 @@ pub(crate) fn housed(passes: Vec<Pass>, mut rings: Vec<Ring>, mut homes: Vec<Hom
 /// Whether a pass is known to lie in every home, now that each has been looked at.
 pub(crate) fn look(homes: &mut Vec<Home>) -> bool
     ensures looked { AreLooked homes.old.items homes.new.items }
-    ensures full { IsTrue result → All IsFull homes.new.items }
+    ensures full { IsTrue result ↔ All IsFull homes.new.items }
 {
     let mut full = true;
     for number in 0..homes.len() {

@@ -72,15 +72,15 @@ impl Ring {
 }
 
 impl Home {
-    ghost use Rattle.std.specs.Prelude.{IsTrue, IfSome, IfNone};
+    ghost use Rattle.std.specs.Prelude.{◌↔◌, IsTrue, IfSome, IfNone};
     ghost use Rattle.std.specs.Prelude.{ℕ};
     ghost use Rattle.atomic_table.specs.Seated.{TableId};
     ghost use Rattle.pq_seats.specs.Homes.{HomeLooked, IsFull, IsHomeOf, Lends};
 
-    /// Whether a pass lies in it, as far as can be seen.
+    /// Whether a pass is known to lie in it, now that it has been looked at.
     pub(crate) fn is_full(&mut self) -> bool
         ensures looked { HomeLooked self.old self.new }
-        ensures full { IsTrue result → IsFull self.new }
+        ensures full { IsTrue result ↔ IsFull self.new }
     {
         !self.end.is_empty()
     }
