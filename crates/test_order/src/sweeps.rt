@@ -125,6 +125,25 @@ fn each_cell(rt: HostRuntime) -> Result<(), Fail> {
     Ok(())
 }
 
+// A short sweep names the cells that a whole one does, up to four for each.
+#[test]
+fn short_ones(rt: HostRuntime) -> Result<(), Fail> {
+    let model = marked(rt.alloc(), Sheet::Circles(16), 4)?;
+    let mut course = Course::new(rt.alloc());
+    course.renew(rt.alloc(), &model.known);
+    let mut whole = Sweep::new(&course, 64, 17);
+    let mut short = Sweep::short(&course, 64, 17);
+    for _ in 0..256 {
+        assert!(rt; short.cell().is_some(), "four for each cell");
+        assert_eq!(rt; short.cell(), whole.cell(), "the same cell");
+        short.note(Outcome::Changed);
+        whole.note(Outcome::Changed);
+    }
+    assert_eq!(rt; short.cell(), None, "no more");
+    assert!(rt; whole.cell().is_some(), "a whole sweep goes on");
+    Ok(())
+}
+
 // The works after an edit of a cell of a sheet that was clean, in a sweep at the end of which it is clean again.
 fn after_edit(
     alloc: Global,
