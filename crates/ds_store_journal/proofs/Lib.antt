@@ -1,2 +1,4 @@
 mod Counting
 mod Noting
+pub mod ReadsBack
+mod Written

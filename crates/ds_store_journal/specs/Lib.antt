@@ -1,3 +1,5 @@
+pub mod Faults
 pub mod Joining
 pub mod Journals
 pub mod Standings
+pub mod Written

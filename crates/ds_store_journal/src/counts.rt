@@ -1,7 +1,7 @@
 //! How many edits of each process a journal has.
 
 ghost use Rattle.std.specs.List.{list_any};
-ghost use Rattle.std.specs.Prelude.{◌≡◌, nat_le, ◌++◌, ◌∷◌, [], List, IfOk, IfSome, None};
+ghost use Rattle.std.specs.Prelude.{◌≡◌, ◌≤◌, ◌⊎◌, nat_le, ◌++◌, ◌∷◌, [], List, IfOk, IfSome, None, length, slice_index_or};
 ghost use Rattle.ds_store_journal.specs.Journals.{AreCounts, KeptEdit, edits_by};
 
 use std::alloc::{AllocError, Global};
@@ -15,7 +15,8 @@ pub struct EditCounts {
 impl EditCounts {
     /// Of a journal that has no edits, of a sheet with that number of processes.
     pub fn new(alloc: Global, processes: usize) -> Result<EditCounts, AllocError>
-        ensures { IfOk result (λ c. AreCounts c.counts.items []) }
+        ensures none { IfOk result (λ c. AreCounts c.counts.items []) }
+        ensures each { IfOk result (λ c. length c.counts.items ≡ processes) }
     {
         let mut counts = Vec::with_capacity(alloc, processes)?;
         for _process in 0..processes {
@@ -40,6 +41,8 @@ impl EditCounts {
         ensures counted { IfSome result (λ number. (edits : List KeptEdit) (edit : KeptEdit) → AreCounts self.old.counts.items edits → edit.process ≡ process
             → (number ≡ edits_by process edits) × AreCounts self.new.counts.items (edits ++ edit ∷ [])) }
         ensures none { result ≡ None → self.new ≡ self.old }
+        ensures refused { result ≡ None → (length self.old.counts.items ≤ process) ⊎ (slice_index_or self.old.counts.items process 0 ≡ usize.MAX) }
+        ensures each { length self.new.counts.items ≡ length self.old.counts.items }
     {
         let number = *self.counts.get(process)?;
         let more = number.checked_add(1)?;

@@ -24,6 +24,11 @@ pub enum JournalFault {
 }
 
 impl From<AllocError> for JournalFault {
+    ghost use Rattle.std.specs.Prelude.{◌≡◌};
+    ghost use Rattle.ds_store_journal.specs.declared.fault.JournalFault.TheVariants.{NoMemory};
+
+    ghost from_gives = { λ _ fault. fault ≡ NoMemory };
+
     fn from(_error: AllocError) -> JournalFault {
         JournalFault::NoMemory
     }

@@ -1,15 +1,17 @@
 //! How many processes of a journal's sheet clients may join.
 
-ghost use Rattle.std.specs.Prelude.{◌≡◌, ◌≤◌, IfOk, IfSome, Some, map, true};
+ghost use Rattle.std.specs.Prelude.{◌≡◌, ◌≤◌, IfOk, IfErr, IfSome, Some, map, true, false};
 ghost use Rattle.std.specs.String.{string_bytes};
 ghost use Rattle.ds_script_io.specs.Fields.{is_skipped};
 ghost use Rattle.ds_store_journal.specs.Joining.{joins_in, joins_of};
+ghost use Rattle.ds_store_journal.specs.Faults.{IsUnwritten, MayBeJoined};
+ghost use Rattle.ds_store_journal.specs.Written.{joins_text};
 
 use crate::fault::JournalFault;
 use crate::journal::after;
 use ds_layout::layout::Layout;
 use ds_script_io::fields::{is_skipped, numbered};
-use std::alloc::Global;
+use std::alloc::{AllocError, Global};
 
 // How many a line says: `# joins NUMBER`.
 fn read_joins(layout: &Layout, line: &[u8]) -> Option<usize>
@@ -34,14 +36,30 @@ pub fn joins_of(layout: &Layout, lines: &[String]) -> usize
     read_joins(layout, second.as_bytes()).unwrap_or(layout.processes)
 }
 
+// The line that says that, as yet unread.
+fn joins_text(alloc: Global, number: usize) -> Result<String, AllocError>
+    ensures { IfOk result (λ line. string_bytes line ≡ joins_text number) }
+{
+    format!(in alloc; "# joins {number}")
+}
+
+// Whether a line says that many, and is skipped.
+fn says(layout: &Layout, line: &[u8], number: usize) -> bool
+    ensures says { result ≡ true → (is_skipped line.now ≡ true) × (joins_in layout.now line.now ≡ Some number) }
+    ensures other { result ≡ false → is_skipped line.now ≡ true → joins_in layout.now line.now ≡ Some number → ⊥ }
+{
+    is_skipped(line) && read_joins(layout, line) == Some(number)
+}
+
 /// The line that says how many there are, the second one of a journal. It was read again, and says so. The fault is that
 /// it does not, as of a number above that of the processes, or that an allocation failed.
 pub fn joins_line(alloc: Global, layout: &Layout, number: usize) -> Result<String, JournalFault>
-    ensures { IfOk result (λ line. (is_skipped (string_bytes line) ≡ true) × (joins_in layout.now (string_bytes line) ≡ Some number)) }
+    ensures text { IfOk result (λ line. string_bytes line ≡ joins_text number) }
+    ensures says { IfOk result (λ line. (is_skipped (string_bytes line) ≡ true) × (joins_in layout.now (string_bytes line) ≡ Some number)) }
+    ensures unwritten { IfErr result (IsUnwritten (MayBeJoined layout.now number)) }
 {
-    let line = format!(in alloc; "# joins {number}")?;
-    let bytes = line.as_bytes();
-    if is_skipped(bytes) && read_joins(layout, bytes) == Some(number) {
+    let line = joins_text(alloc, number)?;
+    if says(layout, line.as_bytes(), number) {
         Ok(line)
     } else {
         Err(JournalFault::Other)

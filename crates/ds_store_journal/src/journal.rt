@@ -1,10 +1,12 @@
 //! The lines of a journal are read, and written.
 
 ghost use Rattle.std.specs.Prelude.{◌≡◌, ◌<◌, IfOk, IfErr, IfSome, Some, None, true, false, option_map};
+ghost use Rattle.ds_store_journal.specs.Faults.{HasLine, IsUnwritten};
 ghost use Rattle.std.specs.String.{string_bytes};
 ghost use Rattle.ds_script_io.specs.Fields.{is_skipped};
 ghost use Rattle.ds_formula.specs.Cells.{IsInside};
 ghost use Rattle.ds_store_journal.specs.Journals.{after_verb, asked_by, asked_view, edit_in, sheet_in, size_of};
+ghost use Rattle.ds_store_journal.specs.Written.{edit_text, sheet_text};
 
 use crate::edit::AnsweredEdit;
 use crate::fault::JournalFault;
@@ -12,7 +14,7 @@ use ds_formula::cells::{COLUMN_LIMIT, Cell, ROW_LIMIT, Shape};
 use ds_layout::layout::{Layout, PROCESS_LIMIT};
 use ds_script_io::fields::{is_skipped, named, numbered};
 use ds_script_io::line::word;
-use std::alloc::Global;
+use std::alloc::{AllocError, Global};
 use std::str;
 
 /// An edit that a line asks for.
@@ -69,6 +71,7 @@ pub(crate) fn edit<'a>(layout: &Layout, line: &'a [u8]) -> Option<AskedEdit<'a>>
 pub fn read_sheet(line: &[u8]) -> Result<Layout, JournalFault>
     ensures made { IfOk result (λ layout. sheet_in line.now ≡ Some (size_of layout)) }
     ensures none { IfErr result (λ _. sheet_in line.now ≡ None) }
+    ensures fault { IfErr result (λ fault. fault ≡ JournalFault.NoSheet) }
 {
     match sheet(line) {
         Some(layout) => Ok(layout),
@@ -83,6 +86,7 @@ pub fn read_edit<'a>(layout: &Layout, line: &'a [u8]) -> Result<Option<AskedEdit
     ensures inside { IfOk result (λ asked. IfSome asked (λ a. (a.process < layout.now.processes) × IsInside layout.now.shape a.cell)) }
     ensures skipped { IfOk result (λ asked. asked ≡ None → is_skipped line.now ≡ true) }
     ensures neither { IfErr result (λ _. (is_skipped line.now ≡ false) × (edit_in layout.now line.now ≡ None)) }
+    ensures fault { IfErr result (λ fault. fault ≡ JournalFault.NoEdit) }
 {
     if is_skipped(line) {
         return Ok(None);
@@ -93,12 +97,21 @@ pub fn read_edit<'a>(layout: &Layout, line: &'a [u8]) -> Result<Option<AskedEdit
     }
 }
 
-/// The line that makes a sheet of this layout. It was read again. An error is that an allocation failed.
-pub fn sheet_line(alloc: Global, layout: &Layout) -> Result<String, JournalFault>
-    ensures { IfOk result (λ line. sheet_in (string_bytes line) ≡ Some (size_of layout.now)) }
+// The line that makes a sheet of this layout, as yet unread.
+fn sheet_text(alloc: Global, layout: &Layout) -> Result<String, AllocError>
+    ensures { IfOk result (λ line. string_bytes line ≡ sheet_text layout.now) }
 {
     let Shape { columns, rows, .. } = layout.shape;
-    let line = format!(in alloc; "sheet {columns} {rows} {}", layout.processes)?;
+    format!(in alloc; "sheet {columns} {rows} {}", layout.processes)
+}
+
+/// The line that makes a sheet of this layout. It was read again. An error is that an allocation failed.
+pub fn sheet_line(alloc: Global, layout: &Layout) -> Result<String, JournalFault>
+    ensures text { IfOk result (λ line. string_bytes line ≡ sheet_text layout.now) }
+    ensures makes { IfOk result (λ line. sheet_in (string_bytes line) ≡ Some (size_of layout.now)) }
+    ensures fault { IfErr result (λ fault. fault ≡ JournalFault.NoMemory) }
+{
+    let line = sheet_text(alloc, layout)?;
     let read = read_sheet(line.as_bytes())?;
     if read == *layout {
         Ok(line)
@@ -109,7 +122,8 @@ pub fn sheet_line(alloc: Global, layout: &Layout) -> Result<String, JournalFault
 
 // Whether a line of a sheet of this layout asks for the edit, and is not skipped.
 fn asks(layout: &Layout, line: &[u8], edit: &AnsweredEdit) -> bool
-    ensures { result ≡ true → (is_skipped line.now ≡ false) × (edit_in layout.now line.now ≡ Some (asked_by edit.now)) }
+    ensures asks { result ≡ true → (is_skipped line.now ≡ false) × (edit_in layout.now line.now ≡ Some (asked_by edit.now)) }
+    ensures other { result ≡ false → is_skipped line.now ≡ false → edit_in layout.now line.now ≡ Some (asked_by edit.now) → ⊥ }
 {
     match read_edit(layout, line) {
         Ok(Some(asked)) => {
@@ -121,6 +135,13 @@ fn asks(layout: &Layout, line: &[u8], edit: &AnsweredEdit) -> bool
     }
 }
 
+// The line that asks for this edit, as yet unread.
+fn edit_text(alloc: Global, process: usize, cell: Cell, text: &str) -> Result<String, AllocError>
+    ensures { IfOk result (λ line. string_bytes line ≡ edit_text (record { process = process; cell = cell; text = text.now })) }
+{
+    format!(in alloc; "set {process} {cell} {text}")
+}
+
 /// The line that keeps an edit of a sheet of this layout. It was read again, and asks for that edit. The fault is that it
 /// does not, as of a cell that the sheet has not or of a text that is not UTF-8, or that an allocation failed.
 pub fn edit_line(
@@ -128,13 +149,14 @@ pub fn edit_line(
     layout: &Layout,
     edit: &AnsweredEdit,
 ) -> Result<String, JournalFault>
-    ensures { IfOk result (λ line. (is_skipped (string_bytes line) ≡ false) × (edit_in layout.now (string_bytes line) ≡ Some (asked_by edit.now))) }
+    ensures text { IfOk result (λ line. string_bytes line ≡ edit_text (asked_by edit.now)) }
+    ensures asks { IfOk result (λ line. (is_skipped (string_bytes line) ≡ false) × (edit_in layout.now (string_bytes line) ≡ Some (asked_by edit.now))) }
+    ensures unwritten { IfErr result (IsUnwritten (HasLine layout.now edit.now)) }
 {
-    let AnsweredEdit { process, cell, .. } = edit;
     let Ok(text) = str::from_utf8(&edit.text) else {
         return Err(JournalFault::Other);
     };
-    let line = format!(in alloc; "set {process} {cell} {text}")?;
+    let line = edit_text(alloc, edit.process, edit.cell, text)?;
     if asks(layout, line.as_bytes(), edit) {
         Ok(line)
     } else {

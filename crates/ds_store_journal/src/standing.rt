@@ -1,6 +1,8 @@
 //! What a process of a store has done, as its clients count it, and the line that says so.
 
-ghost use Rattle.std.specs.Prelude.{◌≡◌, ◌<◌, IfOk, IfSome, Some, option_map, true};
+ghost use Rattle.std.specs.Prelude.{◌≡◌, ◌<◌, IfOk, IfErr, IfSome, Some, option_map, true, false};
+ghost use Rattle.ds_store_journal.specs.Faults.{IsUnwritten, MayStand};
+ghost use Rattle.ds_store_journal.specs.Written.{before_text};
 ghost use Rattle.std.specs.String.{string_bytes};
 ghost use Rattle.ds_script_io.specs.Fields.{field_view, is_skipped, number_below, number_field};
 ghost use Rattle.ds_store_journal.specs.Standings.{EDITS_LIMIT as EDITS_MOST, before_in, last_in};
@@ -12,7 +14,7 @@ use ds_formula::decimal::digits;
 use ds_layout::layout::Layout;
 use ds_script_io::fields::{is_skipped, named, numbered};
 use ds_script_io::line::word;
-use std::alloc::Global;
+use std::alloc::{AllocError, Global};
 
 /// Below how many edits of a process are counted: 2^53, where numbers of JSON are exact.
 pub const EDITS_LIMIT: usize = 9_007_199_254_740_992;
@@ -90,9 +92,21 @@ pub fn read_before(layout: &Layout, line: &[u8]) -> Option<Mention>
 
 // Whether a line says this of a process, and is skipped.
 fn says(layout: &Layout, line: &[u8], mention: &Mention) -> bool
-    ensures { result ≡ true → (is_skipped line.now ≡ true) × (before_in layout.now line.now ≡ Some mention.now) }
+    ensures says { result ≡ true → (is_skipped line.now ≡ true) × (before_in layout.now line.now ≡ Some mention.now) }
+    ensures other { result ≡ false → is_skipped line.now ≡ true → before_in layout.now line.now ≡ Some mention.now → ⊥ }
 {
     is_skipped(line) && read_before(layout, line) == Some(*mention)
+}
+
+// The line that says this of a process, as yet unread.
+fn before_text(alloc: Global, mention: &Mention) -> Result<String, AllocError>
+    ensures { IfOk result (λ line. string_bytes line ≡ before_text mention.now) }
+{
+    let Mention { process, standing } = *mention;
+    match standing.last {
+        Some(cell) => format!(in alloc; "# before {process} {} {cell}", standing.edits),
+        None => format!(in alloc; "# before {process} {}", standing.edits),
+    }
 }
 
 /// The line that says how a process stood. It was read again, and says so. The fault is that it does not, as of a process
@@ -102,13 +116,11 @@ pub fn before_line(
     layout: &Layout,
     mention: &Mention,
 ) -> Result<String, JournalFault>
-    ensures { IfOk result (λ line. (is_skipped (string_bytes line) ≡ true) × (before_in layout.now (string_bytes line) ≡ Some mention.now)) }
+    ensures text { IfOk result (λ line. string_bytes line ≡ before_text mention.now) }
+    ensures says { IfOk result (λ line. (is_skipped (string_bytes line) ≡ true) × (before_in layout.now (string_bytes line) ≡ Some mention.now)) }
+    ensures unwritten { IfErr result (IsUnwritten (MayStand layout.now mention.now)) }
 {
-    let Mention { process, standing } = *mention;
-    let line = match standing.last {
-        Some(cell) => format!(in alloc; "# before {process} {} {cell}", standing.edits)?,
-        None => format!(in alloc; "# before {process} {}", standing.edits)?,
-    };
+    let line = before_text(alloc, mention)?;
     if says(layout, line.as_bytes(), mention) {
         Ok(line)
     } else {

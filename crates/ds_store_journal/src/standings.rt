@@ -1,9 +1,11 @@
 //! How the processes of a store stand, from its lines.
 
-ghost use Rattle.std.specs.Prelude.{◌≡◌, ◌++◌, ◌∷◌, ◌<◌, [], List, ℕ, IfOk, IfSome, OnOk, length, map, slice_index_or};
+ghost use Rattle.std.specs.Prelude.{◌≡◌, ◌++◌, ◌∷◌, ◌+◌, ◌<◌, ◌≤◌, [], List, ℕ, None, IfOk, IfErr, IfSome, OnOk, length, map, slice_index_or};
 ghost use Rattle.std.specs.String.{string_bytes};
 ghost use Rattle.ds_store_journal.specs.declared.standing.Standing.{Standing};
-ghost use Rattle.ds_store_journal.specs.Standings.{AreStandings, noted, one_more, standing_after};
+ghost use Rattle.ds_store_journal.specs.Faults.{IsUncounted};
+ghost use Rattle.ds_store_journal.specs.Standings.{AreStandings, EDITS_LIMIT as EDITS_MOST, noted, one_more, standing_after};
+ghost use Rattle.ds_store_journal.specs.Standings.{none_made as nothing_made};
 
 use crate::fault::JournalFault;
 use crate::journal::edit;
@@ -30,7 +32,8 @@ fn none_made(alloc: Global, layout: &Layout) -> Result<Vec<Standing>, AllocError
 
 // How a process stands after one edit more. None where no more are counted.
 fn with_edit(standing: &Standing, cell: Cell) -> Option<Standing>
-    ensures { IfSome result (λ s. s ≡ one_more cell standing.now) }
+    ensures more { IfSome result (λ s. s ≡ one_more cell standing.now) }
+    ensures full { result ≡ None → EDITS_MOST ≤ standing.now.edits + 1 }
 {
     let edits = standing.edits.checked_add(1)?;
     if edits >= EDITS_LIMIT {
@@ -52,6 +55,8 @@ fn mentioned(
     ensures after { IfOk result (λ mention. (process : ℕ) (d : Standing) → process < layout.now.processes
         → standing_after layout.now process (slice_index_or standings.now process d) line.now ≡ noted process (slice_index_or standings.now process d) mention) }
     ensures inside { IfOk result (λ mention. IfSome mention (λ m. m.process < layout.now.processes)) }
+    ensures full { IfErr result (λ fault. (fault ≡ JournalFault.Other) × ((process : ℕ) × (process < layout.now.processes)
+        × (EDITS_MOST ≤ (standing_after layout.now process (slice_index_or standings.now process nothing_made) line.now).edits))) }
 {
     if is_skipped(line) {
         return Ok(read_before(layout, line));
@@ -71,6 +76,7 @@ fn follow(layout: &Layout, standings: &mut Vec<Standing>, line: &[u8]) -> Result
     requires { length standings.old.items ≡ layout.now.processes }
     ensures count { length standings.new.items ≡ layout.now.processes }
     ensures standings { OnOk result ((lines : List (List ℕ)) → AreStandings layout.now standings.old.items lines → AreStandings layout.now standings.new.items (lines ++ line.now ∷ [])) }
+    ensures full { IfErr result (λ fault. (lines : List (List ℕ)) → AreStandings layout.now standings.old.items lines → IsUncounted layout.now (lines ++ line.now ∷ []) fault) }
 {
     if let Some(Mention { process, standing }) = mentioned(layout, standings, line)? {
         standings[process] = standing;
@@ -87,6 +93,7 @@ pub fn standings_of(
 ) -> Result<Vec<Standing>, JournalFault>
     ensures count { IfOk result (λ s. length s.items ≡ layout.now.processes) }
     ensures standings { IfOk result (λ s. AreStandings layout.now s.items (map string_bytes lines.now)) }
+    ensures full { IfErr result (IsUncounted layout.now (map string_bytes lines.now)) }
 {
     let mut standings = none_made(alloc, layout)?;
     for line in lines {

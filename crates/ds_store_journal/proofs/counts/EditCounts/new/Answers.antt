@@ -11,6 +11,6 @@ loop-process-preserved c =
     let so = c.loop-process.invariant.0 in
     (omega (arith, long, more, so), search rules, λ k. ap (λ xs. get_or xs k 0) items ∙ zeros_more c.loop-process.counts.items c.loop-process.invariant.2 k)
 
-pub returns : goal.returns
+pub returns-clause-none : goal.returns-clause-none
 unfolding edits_by
-returns c p = c.loop-process.invariant.2 p
+returns-clause-none c p = c.loop-process.invariant.2 p
