@@ -2,3 +2,4 @@ pub mod Sides
 pub mod Trails
 pub mod Turning
 pub mod Lines
+mod Firsts

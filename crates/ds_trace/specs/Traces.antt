@@ -1,5 +1,5 @@
 -- The recording of a script.
-use Rattle.std.specs.Prelude.{ℕ, ◌≡◌, ◌⊎◌, Bool, List, Option, Some, None, Ok, Err, IfSome, Contains, length, map}
+use Rattle.std.specs.Prelude.{ℕ, ◌≡◌, ◌≢◌, ◌≤◌, ◌⊎◌, ◌↔◌, Bool, List, Option, Some, None, Ok, Err, IfSome, AllPairs, Contains, filter_map, length, map, take}
 use Rattle.ds_words.specs.declared.words.Word.{Word}
 use Rattle.ds_words.specs.declared.access.Access.{Access}
 use Rattle.ds_words.specs.declared.access.Access.TheVariants as accesses
@@ -121,3 +121,14 @@ place_named Crashes = None
 -- the event names one of these places, or none
 abbrev pub NamesWithin : List Place → Happening → Type 0
 NamesWithin places what = IfSome (place_named what) (λ place. Contains places place)
+
+-- the places that the events name, one after the other
+abbrev pub names_of : List TraceRow → List Place
+names_of rows = filter_map (λ row. place_named row.what) rows
+
+-- the places are those that are named, each once, in the order in which they are named first: the first places are just those
+-- that come first among the names
+pub record AreFirsts (names places : List Place) : Type 0 where
+  pub once : AllPairs (λ place other. place ≢ other) places
+  pub each : (place : Place) → Contains names place → Contains places place
+  pub in_order : (n : ℕ) → n ≤ length places → (k : ℕ) × (k ≤ length names) × ((place : Place) → Contains (take n places) place ↔ Contains (take k names) place)

@@ -1,7 +1,8 @@
 //! Records a script, with the words that its events name.
 
-ghost use Rattle.std.specs.Prelude.{◌≡◌, ◌<◌, ◌^◌, All, IfErr, IfOk, IsTrue, length};
-ghost use Rattle.ds_trace.specs.Traces.{IsTraceOf, IsUntraced, NamesWithin, place_in, place_named};
+ghost use Rattle.std.specs.Prelude.{◌≡◌, ◌<◌, ◌^◌, ◌↔◌, ◌++◌, ◌∷◌, [], All, Contains, IfErr, IfOk, IsTrue, List, OnOk, length};
+ghost use Rattle.ds_layout.specs.declared.place.Place.{Place};
+ghost use Rattle.ds_trace.specs.Traces.{AreFirsts, IsTraceOf, IsUntraced, NamesWithin, names_of, place_in, place_named};
 
 use crate::record::{Untraced, record};
 use crate::row::{Happening, Trace, TraceRow};
@@ -37,23 +38,49 @@ pub fn place_named(what: Happening) -> Option<Place>
     }
 }
 
-// Appends the place that an event names to the others, where it is none of them.
-fn add(places: &mut Vec<Place>, what: Happening) -> Result<(), AllocError> {
-    if let Some(place) = place_named(what) {
-        if !places.contains(&place) {
-            places.push(place)?;
-        }
+// Whether the place is one of the others.
+fn is_one_of(places: &[Place], place: Place) -> bool
+    ensures { IsTrue result ↔ Contains places.now place }
+{
+    places.contains(&place)
+}
+
+// Appends the place to the others, where it is none of them.
+fn add(places: &mut Vec<Place>, place: Place) -> Result<(), AllocError>
+    ensures { OnOk result ((names : List Place) → AreFirsts names places.old.items → AreFirsts (names ++ place ∷ []) places.new.items) }
+{
+    if is_one_of(places, place) {
+        return Ok(());
     }
+    places.push(place)?;
     Ok(())
 }
 
-// The places that events name, in the order in which they do first.
-fn places_of(alloc: Global, rows: &[TraceRow]) -> Result<Vec<Place>, AllocError> {
+// The places that events name, each once, in the order in which they do first.
+fn places_of(alloc: Global, rows: &[TraceRow]) -> Result<Vec<Place>, AllocError>
+    ensures { IfOk result (λ places. AreFirsts (names_of rows.now) places.items) }
+{
     let mut places = Vec::new(alloc);
     for row in rows {
-        add(&mut places, row.what)?;
+        if let Some(place) = place_named(row.what) {
+            add(&mut places, place)?;
+        }
     }
     Ok(places)
+}
+
+fn are_same(places: &[Place], others: &[Place]) -> bool
+    ensures { IsTrue result → places.now ≡ others.now }
+{
+    places == others
+}
+
+// Whether these are the places that events name.
+fn are_named(alloc: Global, places: &[Place], rows: &[TraceRow]) -> Result<bool, AllocError>
+    ensures { IfOk result (λ named. IsTrue named → AreFirsts (names_of rows.now) places.now) }
+{
+    let named = places_of(alloc, rows)?;
+    Ok(are_same(&named, places))
 }
 
 // Whether the event names one of the places, or none at all.
@@ -85,6 +112,7 @@ pub fn trace(alloc: Global, script: &[u8], whole: bool) -> Result<Trace, Untrace
     requires { length script.now < 2 ^ 62 }
     ensures trace { IfOk result (λ trace. IsTraceOf whole script.now trace) }
     ensures named { IfOk result (λ trace. All (λ row. NamesWithin trace.places.items row.what) trace.rows.items) }
+    ensures places { IfOk result (λ trace. AreFirsts (names_of trace.rows.items) trace.places.items) }
     ensures untraced { IfErr result (λ why. IsUntraced whole script.now why) }
 {
     let first = record(alloc, script, whole, Vec::new(alloc))?;
@@ -93,6 +121,9 @@ pub fn trace(alloc: Global, script: &[u8], whole: bool) -> Result<Trace, Untrace
     };
     let second = record(alloc, script, whole, places)?;
     if !are_within(&second.places, &second.rows) {
+        return Err(Untraced::NoMemory);
+    }
+    if !are_named(alloc, &second.places, &second.rows)? {
         return Err(Untraced::NoMemory);
     }
     Ok(second)
