@@ -35,7 +35,7 @@ abbrev pub CrashesAt : List TraceRow → ℕ → Type 0
 CrashesAt rows zero = ⊥
 CrashesAt rows (suc event) = IsSomeAnd (slice_get rows event) (λ row. row.reply ≡ Crashed)
 
--- from the first line of the span up to the last the side is its number; at the last line, unless that is behind all events, it
+-- from the first line of the span up to the last the side is its number; at the last line, unless that is after all events, it
 -- is another one; and the span is lost just where a crash ends it
 pub record IsTrueSpan (first : Word) (rows : List TraceRow) (number : ℕ) (side : Side) (span : Span) : Type 0 where
   pub each : (line : ℕ) → span.from ≤ line → line < span.to → side_at first rows number side line ≡ span.word
