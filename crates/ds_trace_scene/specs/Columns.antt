@@ -1,5 +1,7 @@
 -- The words of a recording, line by line.
-use Rattle.std.specs.Prelude.{ℕ, zero, suc, ◌≡◌, ◌<◌, ◌≤◌, List, map, length, ◌+◌, slice_index_or, All}
+use Rattle.std.specs.Prelude.{ℕ, zero, suc, ◌≡◌, ◌≢◌, ◌<◌, ◌≤◌, ◌↔◌, List, [], ◌∷◌, true, map, length, ◌+◌, slice_get, slice_index_or, IsSomeAnd, All, AllPairs, Any, Contains}
+use Rattle.std.specs.List.{AllZip}
+use Rattle.ds_core.specs.declared.reply.Reply.TheVariants.{Crashed}
 use Rattle.ds_words.specs.declared.words.Word.{Word}
 use Rattle.ds_layout.specs.declared.place.Place.TheVariants.{Version}
 use Rattle.ds_trace.specs.declared.row.TraceRow.{TraceRow}
@@ -28,19 +30,46 @@ abbrev pub side_at : Word → List TraceRow → ℕ → Side → ℕ → ℕ
 side_at first rows number side zero = side_of side first
 side_at first rows number side (suc event) = side_of side (slice_index_or (map (word_in number) rows) event no_word)
 
--- from the first line of the span up to the last the side is its number
+-- the event of the line was answered as a crash is
+abbrev pub CrashesAt : List TraceRow → ℕ → Type 0
+CrashesAt rows zero = ⊥
+CrashesAt rows (suc event) = IsSomeAnd (slice_get rows event) (λ row. row.reply ≡ Crashed)
+
+-- from the first line of the span up to the last the side is its number; at the last line, unless that is after all events, it
+-- is another one; and the span is lost just where a crash ends it
 pub record IsTrueSpan (first : Word) (rows : List TraceRow) (number : ℕ) (side : Side) (span : Span) : Type 0 where
   pub each : (line : ℕ) → span.from ≤ line → line < span.to → side_at first rows number side line ≡ span.word
   pub within : span.to ≤ length rows + 1
+  pub ends : span.to ≤ length rows → side_at first rows number side span.to ≢ span.word
+  pub lost : (span.is_lost ≡ true) ↔ CrashesAt rows span.to
+
+-- the spans follow each other from this line to that one, without a gap
+abbrev pub Follow : ℕ → List Span → ℕ → Type 0
+Follow from [] to = from ≡ to
+Follow from (span ∷ spans) to = (span.from ≡ from) × (span.from < span.to) × Follow span.to spans to
+
+-- the spans say what the side of the word is at each line, from the first to the last
+pub record AreSpans (first : Word) (rows : List TraceRow) (number : ℕ) (side : Side) (spans : List Span) : Type 0 where
+  pub each : All (IsTrueSpan first rows number side) spans
+  pub whole : Follow 0 spans (length rows + 1)
 
 -- both sides of the word with this number in the new sheet
 abbrev pub first_in : Trace → ℕ → Word
 first_in trace number = slice_index_or trace.start.items number no_word
 
--- the column is that of a word of the recording: at each line of a span that is drawn, the side is its number
-pub record IsColumnOf (trace : Trace) (column : Column) : Type 0 where
-  pub number : ℕ
-  pub there : number < length trace.places.items
+-- the column is that of the word with this number: its place, and what its sides are at each line
+pub record IsColumnOf (trace : Trace) (number : ℕ) (column : Column) : Type 0 where
   pub place : slice_index_or trace.places.items number Version ≡ column.place
-  pub cached : All (IsTrueSpan (first_in trace number) trace.rows.items number Cached) column.cached.items
-  pub persisted : All (IsTrueSpan (first_in trace number) trace.rows.items number Persisted) column.persisted.items
+  pub cached : AreSpans (first_in trace number) trace.rows.items number Cached column.cached.items
+  pub persisted : AreSpans (first_in trace number) trace.rows.items number Persisted column.persisted.items
+
+-- the word with this number is another one after some event than before all of them
+abbrev pub Changes : Trace → ℕ → Type 0
+Changes trace number = Any (λ row. word_in number row ≢ first_in trace number) trace.rows.items
+
+-- the columns are those of the words, among the first ones of the recording, that change; in the order of the words
+pub record AreColumns (trace : Trace) (words : ℕ) (columns : List Column) : Type 0 where
+  pub numbers : List ℕ
+  pub in_order : AllPairs (λ number later. number < later) numbers
+  pub each : (number : ℕ) → Contains numbers number ↔ ((number < words) × Changes trace number)
+  pub are : AllZip (IsColumnOf trace) numbers columns

@@ -1,7 +1,8 @@
 //! The columns of a picture: the words that change, side by side, and how they come from one side to the other.
 
-ghost use Rattle.std.specs.Prelude.{◌≡◌, ◌<◌, All, IfOk, length, slice_index_or};
-ghost use Rattle.ds_trace_scene.specs.Columns.{IsColumnOf, IsTrueSpan, first_in, side_of, word_in};
+ghost use Rattle.std.specs.Prelude.{◌≡◌, ◌<◌, ◌↔◌, IfOk, IsTrue, length, slice_index_or};
+ghost use Rattle.ds_core.specs.declared.reply.Reply.TheVariants as replies;
+ghost use Rattle.ds_trace_scene.specs.Columns.{AreColumns, AreSpans, Changes, IsColumnOf, first_in, side_of, word_in};
 
 use ds_core::reply::Reply;
 use ds_layout::place::Place;
@@ -100,6 +101,13 @@ fn side_of(word: Word, side: Side) -> u64
     }
 }
 
+// Whether the reply is that to a crash.
+fn is_crash(reply: Reply) -> bool
+    ensures { IsTrue result ↔ reply ≡ replies.Crashed }
+{
+    reply == Reply::Crashed
+}
+
 // The numbers of a side of a word, line by line, which was this one first.
 fn spans(
     alloc: Global,
@@ -108,19 +116,23 @@ fn spans(
     number: usize,
     side: Side,
 ) -> Result<Vec<Span>, AllocError>
-    ensures { IfOk result (λ spans. All (IsTrueSpan first rows.now number side) spans.items) }
+    ensures { IfOk result (λ spans. AreSpans first rows.now number side spans.items) }
 {
+    let Some(end) = rows.len().checked_add(1) else {
+        return Err(AllocError);
+    };
     let mut spans = Vec::new(alloc);
     let mut word = side_of(first, side);
     let mut from = 0;
     for event in 0..rows.len() {
-        let next = side_of(word_in(&rows[event], number), side);
+        let row = &rows[event];
+        let next = side_of(word_in(row, number), side);
         if next != word {
             spans.push(Span {
                 from,
                 to: event + 1,
                 word,
-                is_lost: rows[event].reply == Reply::Crashed,
+                is_lost: is_crash(row.reply),
             })?;
             from = event + 1;
             word = next;
@@ -128,7 +140,7 @@ fn spans(
     }
     spans.push(Span {
         from,
-        to: rows.len().saturating_add(1),
+        to: end,
         word,
         is_lost: false,
     })?;
@@ -146,10 +158,24 @@ pub fn first_in(trace: &Trace, number: usize) -> Word
     }
 }
 
+// Whether two words are the same on both sides.
+fn are_same(word: Word, other: Word) -> bool
+    ensures { IsTrue result ↔ word ≡ other }
+{
+    word == other
+}
+
 // Whether a word ever is another one than in the new sheet.
-fn changes(trace: &Trace, number: usize) -> bool {
+fn changes(trace: &Trace, number: usize) -> bool
+    ensures { IsTrue result ↔ Changes trace.now number }
+{
     let first = first_in(trace, number);
-    trace.rows.iter().any(|row| word_in(row, number) != first)
+    for row in &trace.rows {
+        if !are_same(word_in(row, number), first) {
+            return true;
+        }
+    }
+    false
 }
 
 fn place_of(trace: &Trace, number: usize) -> Place
@@ -162,7 +188,7 @@ fn place_of(trace: &Trace, number: usize) -> Place
 // The column of a word.
 fn column_of(alloc: Global, trace: &Trace, number: usize) -> Result<Column, AllocError>
     requires { number < length trace.now.places.items }
-    ensures { IfOk result (λ column. IsColumnOf trace.now column) }
+    ensures { IfOk result (λ column. IsColumnOf trace.now number column) }
 {
     let first = first_in(trace, number);
     Ok(Column {
@@ -172,9 +198,9 @@ fn column_of(alloc: Global, trace: &Trace, number: usize) -> Result<Column, Allo
     })
 }
 
-/// A column for each word that changes. An error means that an allocation failed.
+/// A column for each word that changes, in their order. An error means that an allocation failed.
 pub fn columns(alloc: Global, trace: &Trace) -> Result<Vec<Column>, AllocError>
-    ensures { IfOk result (λ columns. All (IsColumnOf trace.now) columns.items) }
+    ensures { IfOk result (λ columns. AreColumns trace.now (length trace.now.places.items) columns.items) }
 {
     let mut columns = Vec::new(alloc);
     for number in 0..trace.places.len() {
