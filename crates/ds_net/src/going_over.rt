@@ -1,18 +1,20 @@
 //! A server goes over to a new sheet.
 
-ghost use Rattle.std.specs.Prelude.{IfOk, map};
-ghost use Rattle.ds_server.specs.Replies.{entry_view};
+ghost use Rattle.std.specs.Prelude.{ℕ, List, IfOk, map};
+ghost use Rattle.std.specs.Arc.{arc_value};
+ghost use Rattle.std.specs.String.{string_bytes};
+ghost use Rattle.ds_store.specs.GoingOver.{GoesOver};
 ghost use Rattle.ds_net_desks.specs.SeatsOfStores.{AreSeatsOf};
 
-use ds_net_desks::listing::listed_in;
+use crate::held_lines::HeldLines;
 use ds_net_desks::numbered_seat::{NumberedSeat, seats_of};
 use ds_net_desks::seat_pool::SeatPool;
+use ds_net_floor::edit_list::EditList;
 use ds_net_floor::keeping::{Backlog, Batch, Keeping};
-use ds_server::desk::ListedEdit;
+use ds_net_floor::listing::list_of;
 use ds_shared_seats::sheet::OpenSheet;
 use ds_store::fault::StoreFault;
 use ds_store::store::Store;
-use ds_store_keys::table::KeyTable;
 use sqlite::Alter;
 use std::alloc::Global;
 use std::sync::Wait;
@@ -25,14 +27,14 @@ pub(crate) struct ServedSheet<'a> {
     epoch: u64,
 }
 
-// A sheet to which a store has gone over: the seats of its processes that may be joined, its edits that count, and the keys that
-// the store has.
+// A sheet to which a store has gone over: the seats of its processes that may be joined, the list of its edits that count, and the
+// lines of the store.
 #[derive(Drop)]
 struct NextSheet {
     sheet: OpenSheet,
     seats: Vec<NumberedSeat>,
-    edits: Vec<ListedEdit>,
-    keys: KeyTable,
+    list: EditList,
+    lines: Vec<String>,
 }
 
 // Keeps what the keeper has heard of and not taken yet, if there is anything.
@@ -47,7 +49,7 @@ fn keep_rest<S: Alter + Drop>(
     }
     let Batch { edits, keys } = batch;
     let committed = store.keep_all(alloc, edits, keys)?;
-    backlog.keep(&committed);
+    backlog.keep(committed);
     Ok(())
 }
 
@@ -57,20 +59,19 @@ fn next_sheet<S: Alter + Drop>(
     store: &mut Store<S>,
     epoch: u64,
 ) -> Result<NextSheet, StoreFault>
-    ensures { IfOk result (λ next. AreSeatsOf store.new.layout store.new.joins store.new.counts.counts.items store.new.sums epoch next.seats.items (map entry_view next.edits.items) next.keys) }
+    ensures over { IfOk result (λ next. (held : List (List ℕ)) × GoesOver held (map string_bytes next.lines.items)) }
+    ensures seats { IfOk result (λ next. AreSeatsOf store.new.layout store.new.joins store.new.counts.counts.items store.new.sums (map string_bytes next.lines.items) epoch (arc_value next.sheet.sheet) next.seats.items next.list) }
 {
-    let held = store.lines(alloc)?;
-    let next = store.go_over(alloc, &held)?;
+    let held = HeldLines::of(alloc, store)?;
+    let next = held.go_over(alloc, store)?;
     let (sheet, seats) = next.sheet.into_parts();
     let seats = seats_of(alloc, store, &next.lines, seats, epoch)?;
-    let layout = store.layout();
-    let edits = listed_in(alloc, &layout, store.joins(), &next.lines)?;
-    let keys = KeyTable::of_lines(alloc, &layout, &next.lines)?;
+    let list = list_of(alloc, store, &next.lines)?;
     Ok(NextSheet {
         sheet,
         seats,
-        edits,
-        keys,
+        list,
+        lines: next.lines,
     })
 }
 
@@ -99,11 +100,11 @@ impl<'a> ServedSheet<'a> {
         let NextSheet {
             sheet,
             seats,
-            edits,
-            keys,
+            list,
+            ..
         } = next_sheet(alloc, store, epoch)?;
         self.pool.go_over(rt, seats, epoch);
-        backlog.go_over(edits, store.joins(), keys);
+        backlog.go_over(list);
         self.sheet = sheet;
         self.epoch = epoch;
         keeping.wake_all();

@@ -52,7 +52,7 @@ fn keep_on<S: Alter + Drop, R: Wait + Clock, T: Attendant>(
         match keeping.take(rt, alloc) {
             News::Some(batch) => {
                 let committed = commit(rt, alloc, door, store, batch)?;
-                keeping.count(rt, &committed);
+                keeping.count(rt, committed);
                 if store.is_short() {
                     served_sheet.go_over(rt, alloc, keeping, store)?;
                 }

@@ -2,5 +2,6 @@
 #![tactic(auto)]
 
 mod going_over;
+mod held_lines;
 pub mod keeper;
 pub mod stored;

@@ -2,10 +2,7 @@
 
 ghost use Rattle.std.specs.Prelude.{◌≡◌, IfErr, IfOk, IfSome, map};
 ghost use Rattle.std.specs.String.{string_bytes};
-ghost use Rattle.ds_server.specs.Replies.{entry_view};
-ghost use Rattle.ds_net_desks.specs.Listings.{listed_in};
-ghost use Rattle.ds_store_keys.specs.Keys.{keys_of};
-ghost use Rattle.ds_store_keys.specs.Tables.{AreKeys};
+ghost use Rattle.ds_net_floor.specs.Listings.{IsListOf};
 ghost use Rattle.ds_net_connections.specs.Accepting.{IsLasting, IsServed, IsStoredLasting};
 
 use crate::going_over::ServedSheet;
@@ -14,20 +11,19 @@ use ds_analyst::question::Analyst;
 use ds_net_connections::counts::Taken;
 use ds_net_connections::entrance::Entrances;
 use ds_net_connections::serving::{ServeError, Service, serve_floor};
-use ds_net_desks::listing::listed_in;
 use ds_net_desks::numbered_seat::seats_of;
 use ds_net_desks::seat_pool::SeatPool;
 use ds_net_desks::stored_floor::StoredFloor;
 use ds_net_floor::door::Door;
+use ds_net_floor::edit_list::EditList;
 use ds_net_floor::floor::Floor;
 use ds_net_floor::keeping::{Drained, Keeping};
+use ds_net_floor::listing::list_of;
 use ds_order::known::KnownReferences;
-use ds_server::desk::ListedEdit;
 use ds_shared_seats::sheet::OpenSheet;
 use ds_store::seated::SeatedSheet;
 use ds_store::store::{Opened, Store};
 use ds_store_journal::journal::read_edit;
-use ds_store_keys::table::KeyTable;
 use log::{Log, error, info};
 use sqlite::Alter;
 use std::alloc::Global;
@@ -174,14 +170,13 @@ fn references(alloc: Global, sheet: &SeatedSheet, lines: &[String]) -> Option<Kn
     Some(references)
 }
 
-// The sheet of a store, the pool of its seats, what is known of its references, its edits that count, and its keys.
+// The sheet of a store, the pool of its seats, what is known of its references, and the list of its edits that count.
 #[derive(Drop)]
 struct OpenedSheet {
     sheet: OpenSheet,
     pool: SeatPool,
     references: KnownReferences,
-    edits: Vec<ListedEdit>,
-    keys: KeyTable,
+    list: EditList,
 }
 
 // So of the sheet that the store's edits have made. None where an allocation fails.
@@ -192,13 +187,13 @@ fn opened_with<S: Alter + Drop, R: Wait>(
     sheet: SeatedSheet,
     lines: &[String],
 ) -> Option<OpenedSheet>
-    ensures edits { IfSome result (λ opened. map entry_view opened.edits.items ≡ listed_in store.now.layout store.now.joins (map string_bytes lines.now)) }
-    ensures keys { IfSome result (λ opened. AreKeys opened.keys (keys_of store.now.layout (map string_bytes lines.now))) }
+    ensures list { IfSome result (λ opened. IsListOf store.now.layout store.now.joins (map string_bytes lines.now) opened.list) }
+    ensures sheet { IfSome result (λ opened. opened.sheet ≡ sheet.sheet) }
 {
     let references = references(alloc, &sheet, lines)?;
-    let layout = store.layout();
-    let edits = listed_in(alloc, &layout, store.joins(), lines).ok()?;
-    let keys = KeyTable::of_lines(alloc, &layout, lines).ok()?;
+    let Ok(list) = list_of(alloc, store, lines) else {
+        return None;
+    };
     let (sheet, seats) = sheet.into_parts();
     let seats = seats_of(alloc, store, lines, seats, 0).ok()?;
     let pool = SeatPool::new(rt, alloc, seats).ok()?;
@@ -206,8 +201,7 @@ fn opened_with<S: Alter + Drop, R: Wait>(
         sheet,
         pool,
         references,
-        edits,
-        keys,
+        list,
     })
 }
 
@@ -246,8 +240,7 @@ pub fn serve<
             sheet,
             pool,
             references,
-            edits,
-            keys,
+            list,
         },
     ) = opened_with(rt, alloc, &store, sheet, &lines)
     else {
@@ -255,7 +248,7 @@ pub fn serve<
     };
     drop(lines);
     let mut served_sheet = ServedSheet::new(sheet, &pool);
-    let keeping = Keeping::new(alloc, edits, store.joins(), keys);
+    let keeping = Keeping::new(alloc, list);
     let floor = StoredFloor::new(
         &references,
         &pool,

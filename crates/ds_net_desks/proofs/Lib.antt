@@ -1,6 +1,7 @@
 pub mod Crossing
+mod Hears
 mod Keys
-mod Listed
 mod Reading
+mod Seating
 mod Sharing
 mod Viewing

@@ -1,8 +1,8 @@
 pub mod CellQuestions
 pub mod Counting
 pub mod DeskSeats
+pub mod Hearing
 pub mod Keyings
-pub mod Listings
 pub mod NumberedSeats
 pub mod Numberings
 pub mod PoolSizes

@@ -35,11 +35,6 @@ abbrev pub StoredSet : Heard → Cell → List ℕ → Heard → Seat → said.S
 StoredSet before cell text after seat what new =
     (HasSet seat cell text what new ⊎ ((new ≡ seat) × (what ≡ said.Refused refusals.NoMemory))) × (after ≡ before ++ heard_of seat.pass.process cell text what)
 
--- what is listed of an edit of the process that its client is answered so: of one that is done, all of it; of another one, nothing
-abbrev pub listed_of : ℕ → Cell → List ℕ → said.Said → List said.EditEntry
-listed_of process cell text (said.Done number) = record { process = process; number = number; cell = cell; text = text } ∷ []
-listed_of process cell text what = []
-
 -- the keys of which the keeper has heard from the session
 abbrev pub Keyed : Type 0
 Keyed = List (ℕ × KeptKey)

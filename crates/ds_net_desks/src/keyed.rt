@@ -5,8 +5,10 @@ ghost use Rattle.ds_server.specs.Replies.{resolved_view, set_view};
 ghost use Rattle.ds_store_journal.specs.Journals.{KeptEdit};
 ghost use Rattle.ds_store_keys.specs.Keys.{edit_of};
 ghost use Rattle.ds_store_keys.specs.Tables.{found};
+ghost use Rattle.ds_net_floor.specs.Entries.{entries};
 ghost use Rattle.ds_net_desks.specs.CellQuestions.{Seen, look};
 ghost use Rattle.ds_net_desks.specs.DeskSeats.{Uses};
+ghost use Rattle.ds_net_desks.specs.Hearing.{HearsNoted, HearsNotedKeys};
 ghost use Rattle.ds_net_desks.specs.Keyings.{AreCopies, SaysKnowing, SaysUse, once_view};
 ghost use Rattle.ds_net_desks.specs.StoredDesks.{EditsWithKey, HasResolved, HasSetOnce, Heard, Resolves, StoredSet, keyed_of, notes};
 
@@ -147,6 +149,8 @@ fn edited_keyed(
     ensures uses { Uses (StoredSet heard.old.items cell text.now heard.new.items) numbered.old (set_view result) numbered.new }
     ensures keyed { keyed.new.items ≡ keyed.old.items ++ keyed_of numbered.old.seat.pass.process cell text.now key.now (set_view result) }
     ensures process { numbered.new.seat.pass.process ≡ numbered.old.seat.pass.process }
+    ensures hears { HearsNoted numbered.old.numberings.items backlog.old heard.old.items backlog.new heard.new.items }
+    ensures hears_keys { HearsNotedKeys backlog.old keyed.old.items backlog.new keyed.new.items }
 {
     let Ok((kept, known)) = copies(alloc, key, text) else {
         return Err(CallRefusal::NoMemory);
@@ -269,7 +273,9 @@ fn spend(
     keyed: &mut Log<usize, KeyNote>,
     key: &[u8],
 ) -> Result<Option<ListedEdit>, CallRefusal>
-    ensures { Resolves key.now None keyed.old.items (resolved_view result) keyed.new.items ⊎ ((result ≡ Err CallRefusal.NoMemory) × (keyed.new.items ≡ keyed.old.items)) }
+    ensures resolves { Resolves key.now None keyed.old.items (resolved_view result) keyed.new.items ⊎ ((result ≡ Err CallRefusal.NoMemory) × (keyed.new.items ≡ keyed.old.items)) }
+    ensures hears_keys { HearsNotedKeys backlog.old keyed.old.items backlog.new keyed.new.items }
+    ensures edits { (backlog.new.edits.items ≡ backlog.old.edits.items) × (entries backlog.new.list ≡ entries backlog.old.list) × (backlog.new.list.nobody ≡ backlog.old.list.nobody) }
 {
     let Ok((note, copy)) = spent(alloc, key) else {
         return Err(CallRefusal::NoMemory);

@@ -5,7 +5,6 @@ mod cell_question;
 mod computed;
 mod counts;
 pub mod keyed;
-pub mod listing;
 pub mod numbered_seat;
 pub mod numbering;
 pub mod seat_pool;

@@ -5,7 +5,7 @@ ghost use Rattle.std.specs.String.{string_bytes};
 ghost use Rattle.ds_server.specs.Replies.{set_view};
 ghost use Rattle.ds_net_desks.specs.Counting.{last_seen, number_seen, other_seen};
 ghost use Rattle.ds_net_desks.specs.NumberedSeats.{seen_at};
-ghost use Rattle.ds_net_desks.specs.SeatsOfStores.{AreNumberedBy};
+ghost use Rattle.ds_net_desks.specs.SeatsOfStores.{AreNumberedBy, seats_below, seats_in};
 ghost use Rattle.ds_store.specs.Stores.{GoesOn};
 ghost use Rattle.ds_store_journal.specs.Journals.{KeptEdit};
 
@@ -110,7 +110,8 @@ fn numbered_seats(
     numberings: &[Numbering],
     epoch: u64,
 ) -> Result<Vec<NumberedSeat>, AllocError>
-    ensures { IfOk result (λ all. All (λ n. (n.numberings.items ≡ numberings.now) × (n.epoch ≡ epoch) × (n.seat.pass.process < joins)) all.items) }
+    ensures numbered { IfOk result (λ all. All (λ n. (n.numberings.items ≡ numberings.now) × (n.epoch ≡ epoch) × (n.seat.pass.process < joins)) all.items) }
+    ensures joined { IfOk result (λ all. seats_in all.items ≡ seats_below joins seats.items) }
 {
     let mut all = Vec::with_capacity(alloc, joins)?;
     for seat in seats {
@@ -124,7 +125,7 @@ fn numbered_seats(
     Ok(all)
 }
 
-/// The seats of the processes of a store's sheet that may be joined, numbered as its lines say, of the server's sheet of this
+/// The seats of all processes of a store's sheet that may be joined, numbered as its lines say, of the server's sheet of this
 /// epoch. The other seats go back to the sheet. An error is that of a line that is none of a journal, or of an allocation.
 pub fn seats_of<S: Alter + Drop>(
     alloc: Global,
@@ -133,7 +134,8 @@ pub fn seats_of<S: Alter + Drop>(
     seats: Vec<Seat>,
     epoch: u64,
 ) -> Result<Vec<NumberedSeat>, StoreFault>
-    ensures { IfOk result (λ all. (edits : List KeptEdit) → GoesOn store.now.layout store.now.counts.counts.items (map string_bytes lines.now) edits
+    ensures joined { IfOk result (λ all. seats_in all.items ≡ seats_below store.now.joins seats.items) }
+    ensures numbered { IfOk result (λ all. (edits : List KeptEdit) → GoesOn store.now.layout store.now.counts.counts.items (map string_bytes lines.now) edits
         → AreNumberedBy store.now.layout store.now.joins (map string_bytes lines.now) edits epoch all.items) }
 {
     let numberings = numberings(alloc, store, lines)?;

@@ -1,13 +1,11 @@
 //! A desk that is a shared sheet whose edits are kept in a store.
 
-ghost use Rattle.std.specs.Prelude.{◌≡◌, ◌++◌, ◌∷◌, ◌⊎◌, [], IfOk};
-ghost use Rattle.ds_server.specs.Replies.{Done, set_view};
-ghost use Rattle.ds_net_floor.specs.Entries.{entries};
-ghost use Rattle.ds_net_floor.specs.declared.keeping.Phase.TheVariants as Phase;
+ghost use Rattle.std.specs.Prelude.{◌≡◌, ◌++◌, ◌∷◌, [], IfOk};
+ghost use Rattle.ds_server.specs.Replies.{set_view};
 ghost use Rattle.ds_net_desks.specs.DeskSeats.{Uses};
-ghost use Rattle.ds_net_desks.specs.StoredDesks.{HasListed, HasUndone, Keyed, SaysBefore, SaysPart, StoredSet, listed_of, notes};
+ghost use Rattle.ds_net_desks.specs.Hearing.{HearsNoKey, HearsNoted};
+ghost use Rattle.ds_net_desks.specs.StoredDesks.{HasListed, HasUndone, Keyed, SaysBefore, SaysPart, StoredSet, notes};
 ghost use Rattle.ds_net_desks.specs.CellQuestions.{look};
-ghost use Rattle.ds_net_desks.specs.Counting.{number_seen};
 
 use crate::computed::computed_values;
 use crate::keyed::{Once, resolved, seat_edit_once};
@@ -64,7 +62,8 @@ fn hear(
 )
     requires { copy.items ≡ edit.text }
     ensures log { heard.new.items ≡ heard.old.items ++ (edit.process, edit) ∷ [] }
-    ensures listed { (entries backlog.new.list ≡ entries backlog.old.list ++ listed_of edit.process edit.cell edit.text (Done (number_seen numberings.now edit.process edit.number))) ⊎ (backlog.new.phase ≡ Phase.Failed) }
+    ensures hears { HearsNoted numberings.now backlog.old heard.old.items backlog.new heard.new.items }
+    ensures keys { HearsNoKey backlog.old backlog.new }
 {
     let known = number_seen(numberings, edit.process, edit.number);
     backlog.hear(heard, edit, known, copy);
@@ -83,7 +82,9 @@ fn edited_alone(
     copy: Vec<u8>,
 ) -> Result<EditEnd, CallRefusal>
     requires { copy.items ≡ text.items }
-    ensures { StoredSet heard.old.items cell text.items heard.new.items seat.old (set_view result) seat.new }
+    ensures set { StoredSet heard.old.items cell text.items heard.new.items seat.old (set_view result) seat.new }
+    ensures hears { HearsNoted numberings.now backlog.old heard.old.items backlog.new heard.new.items }
+    ensures keys { HearsNoKey backlog.old backlog.new }
 {
     if backlog.make_room().is_err() {
         return Err(CallRefusal::NoMemory);
@@ -117,6 +118,8 @@ fn edited_seen(
     requires { copy.items ≡ text.items }
     ensures uses { Uses (StoredSet heard.old.items cell text.items heard.new.items) numbered.old (set_view result) numbered.new }
     ensures process { numbered.new.seat.pass.process ≡ numbered.old.seat.pass.process }
+    ensures hears { HearsNoted numbered.old.numberings.items backlog.old heard.old.items backlog.new heard.new.items }
+    ensures keys { HearsNoKey backlog.old backlog.new }
 {
     let end = edited_alone(
         alloc,
@@ -151,6 +154,8 @@ pub(crate) fn edited_as(
 ) -> Result<EditEnd, CallRefusal>
     ensures uses { Uses (StoredSet heard.old.items cell text.now heard.new.items) numbered.old (set_view result) numbered.new }
     ensures process { numbered.new.seat.pass.process ≡ numbered.old.seat.pass.process }
+    ensures hears { HearsNoted numbered.old.numberings.items backlog.old heard.old.items backlog.new heard.new.items }
+    ensures keys { HearsNoKey backlog.old backlog.new }
 {
     match copies(alloc, text) {
         Ok((kept, listed)) => edited_seen(alloc, backlog, heard, numbered, cell, kept, listed),

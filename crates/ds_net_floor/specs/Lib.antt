@@ -1,2 +1,3 @@
 pub mod EditLists
 pub mod Entries
+pub mod Listings

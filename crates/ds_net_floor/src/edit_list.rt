@@ -18,7 +18,8 @@ use std::alloc::{AllocError, Global};
 
 /// The edits of the newest sheet of a server that count, in the order in which they count, as clients know them: those that
 /// the lines of its store list when the sheet is opened, and then each one of which the keeper of the store has heard since; and
-/// what the keys that clients gave their edits are of.
+/// what the keys that clients gave their edits are of. It is made from the lines of a store alone: whoever has no store cannot put
+/// another one in its place.
 #[derive(Drop)]
 pub struct EditList {
     edits: Vec<ListedEdit>,
@@ -27,7 +28,7 @@ pub struct EditList {
     // How many edits were listed when the sheet was opened.
     begun: usize,
     // What each key is of, by the numbers that clients know.
-    pub keys: KeyTable,
+    keys: KeyTable,
     // For proofs alone: the edits that were heard of since, each with the number by which clients know it.
     since: Log<usize, AnsweredEdit>,
     ghost few: { begun ≤ length edits.items },

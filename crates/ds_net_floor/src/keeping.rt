@@ -7,11 +7,9 @@ ghost use Rattle.ds_net_floor.specs.EditLists.{told_as};
 ghost use Rattle.ds_net_floor.specs.Entries.{entries};
 
 use crate::edit_list::EditList;
-use ds_server::desk::ListedEdit;
 use ds_store::committed::Committed;
 use ds_store_journal::edit::AnsweredEdit;
 use ds_store_keys::note::KeyNote;
-use ds_store_keys::table::KeyTable;
 use http_server::Log;
 use std::alloc::{AllocError, Global};
 use std::mem;
@@ -86,8 +84,8 @@ pub struct Drained {
 
 impl KeptCount {
     // Counts what a commit has kept. None where 2^64 - 1 would be passed: then nothing is counted.
-    fn add(&mut self, committed: &Committed) -> Option<()>
-        ensures some { IfSome result (λ _. self.new.count ≡ self.old.count + (length committed.now.edits.items + length committed.now.keys.items)) }
+    fn add(&mut self, committed: Committed) -> Option<()>
+        ensures some { IfSome result (λ _. self.new.count ≡ self.old.count + (length committed.edits.items + length committed.keys.items)) }
         ensures none { result ≡ None → self.new ≡ self.old }
     {
         self.count = self.count.checked_add(committed.count() as u64)?;
@@ -143,7 +141,7 @@ impl Backlog {
     /// counted.
     pub fn make_room(&mut self) -> Result<(), AllocError>
         ensures edits { (self.new.edits.items ≡ self.old.edits.items) × (self.new.keys.items ≡ self.old.keys.items) }
-        ensures list { (entries self.new.list ≡ entries self.old.list) × (self.new.list.keys ≡ self.old.list.keys) }
+        ensures list { (entries self.new.list ≡ entries self.old.list) × (self.new.list.keys ≡ self.old.list.keys) × (self.new.list.nobody ≡ self.old.list.nobody) }
     {
         if self.heard >= u64::MAX - 1 {
             return Err(AllocError);
@@ -167,7 +165,7 @@ impl Backlog {
         ensures log { heard.new.items ≡ heard.old.items ++ (edit.process, edit) ∷ [] }
         ensures heard { (self.new.edits.items ≡ self.old.edits.items ++ edit ∷ []) ⊎ (self.new.phase ≡ Phase.Failed) }
         ensures listed { (entries self.new.list ≡ entries self.old.list ++ told_as (number, edit) ∷ []) ⊎ (self.new.phase ≡ Phase.Failed) }
-        ensures keys { (self.new.keys ≡ self.old.keys) × (self.new.list.keys ≡ self.old.list.keys) }
+        ensures rest { (self.new.keys ≡ self.old.keys) × (self.new.list.keys ≡ self.old.list.keys) × (self.new.list.nobody ≡ self.old.list.nobody) }
     {
         *heard = heard.and(&edit.process, &edit);
         let Some(count) = self.heard.checked_add(1) else {
@@ -191,7 +189,8 @@ impl Backlog {
         ensures log { keyed.new.items ≡ keyed.old.items ++ (0, note) ∷ [] }
         ensures heard { (self.new.keys.items ≡ self.old.keys.items ++ note ∷ []) ⊎ (self.new.phase ≡ Phase.Failed) }
         ensures known { ((key : List ℕ) → found self.new.list.keys key ≡ (if bytes_eq key note.key then Some note.edit else found self.old.list.keys key)) ⊎ (self.new.phase ≡ Phase.Failed) }
-        ensures rest { (self.new.edits ≡ self.old.edits) × (entries self.new.list ≡ entries self.old.list) }
+        ensures rest { (self.new.edits ≡ self.old.edits) × (entries self.new.list ≡ entries self.old.list) × (self.new.list.nobody ≡ self.old.list.nobody) }
+        ensures failed { self.old.phase ≡ Phase.Failed → self.new.phase ≡ Phase.Failed }
     {
         *keyed = keyed.and(&0, &note);
         let Some(more) = self.heard.checked_add(1) else {
@@ -208,14 +207,12 @@ impl Backlog {
         }
     }
 
-    /// The server goes over to a new sheet, of which these are the edits that count, and these the keys; texts that it began
-    /// with are as of this process, which is none of it.
-    pub fn go_over(&mut self, edits: Vec<ListedEdit>, nobody: usize, keys: KeyTable)
-        ensures list { (self.new.list.edits ≡ edits) × (self.new.list.nobody ≡ nobody) × (self.new.list.keys ≡ keys) }
-        ensures begun { (self.new.list.begun ≡ length edits.items) × (self.new.list.since.items ≡ []) }
+    /// The server goes over to a new sheet, of which this is the list.
+    pub fn go_over(&mut self, list: EditList)
+        ensures list { self.new.list ≡ list }
         ensures rest { (self.new.edits ≡ self.old.edits) × (self.new.keys ≡ self.old.keys) × (self.new.heard ≡ self.old.heard) × (self.new.kept ≡ self.old.kept) }
     {
-        self.list = EditList::of(edits, nobody, keys);
+        self.list = list;
     }
 
     /// All edits and keys that have come, which the keeper has in hand then.
@@ -235,10 +232,11 @@ impl Backlog {
         self.edits.is_empty() && self.keys.is_empty()
     }
 
-    /// What a commit has kept is kept. Where it is more than the keeper has in hand, nothing is kept any more.
-    pub fn keep(&mut self, committed: &Committed)
-        ensures kept { (self.new.kept.count ≡ self.old.kept.count + (length committed.now.edits.items + length committed.now.keys.items)) ⊎ (self.new.phase ≡ Phase.Failed) }
-        ensures at_most { self.new.kept.count ≤ self.old.kept.count + (length committed.now.edits.items + length committed.now.keys.items) }
+    /// What a commit has kept is kept. Where it is more than the keeper has in hand, nothing is kept any more. A commit is
+    /// taken, and cannot be copied: so it counts once.
+    pub fn keep(&mut self, committed: Committed)
+        ensures kept { (self.new.kept.count ≡ self.old.kept.count + (length committed.edits.items + length committed.keys.items)) ⊎ (self.new.phase ≡ Phase.Failed) }
+        ensures at_most { self.new.kept.count ≤ self.old.kept.count + (length committed.edits.items + length committed.keys.items) }
         ensures heard { (self.new.heard ≡ self.old.heard) × (self.new.edits ≡ self.old.edits) × (self.new.keys ≡ self.old.keys) }
     {
         let Some(left) = self.taken.checked_sub(committed.count() as u64) else {
@@ -287,10 +285,9 @@ pub struct Keeping {
 }
 
 impl Keeping {
-    /// Of a server that has not begun, of whose sheet these edits count, and these are the keys; texts that it began with are
-    /// as of this process, which is none of it.
-    pub fn new(alloc: Global, edits: Vec<ListedEdit>, nobody: usize, keys: KeyTable) -> Keeping {
-        let list = EditList::of(edits, nobody, keys);
+    /// Of a server that has not begun, of whose sheet this is the list. Only lines of a store make a list: so a session, which has
+    /// no store, cannot tell a keeper of its own.
+    pub fn new(alloc: Global, list: EditList) -> Keeping {
         Keeping {
             backlog: Mutex::new(Backlog::new(alloc, list)),
             news: Condvar::new(),
@@ -352,8 +349,9 @@ impl Keeping {
         }
     }
 
-    /// What a commit has kept is kept: whoever waits for it may go on.
-    pub fn count<R: Wait>(&self, rt: &R, committed: &Committed) {
+    /// What a commit has kept is kept: whoever waits for it may go on. A commit is taken, and cannot be copied: so it counts
+    /// once.
+    pub fn count<R: Wait>(&self, rt: &R, committed: Committed) {
         self.backlog.lock(rt).keep(committed);
         self.done.notify_all();
     }

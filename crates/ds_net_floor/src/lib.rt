@@ -6,4 +6,5 @@ pub mod door;
 pub mod edit_list;
 pub mod floor;
 pub mod keeping;
+pub mod listing;
 pub mod visit;

@@ -15,7 +15,7 @@ pub returns-in-Ok-None : goal.returns-in-Ok-None
 returns-in-Ok-None g c = λ heard. record {
   list = c.deref.result.now.list;
   seen = c.use_in.ensures.seen;
-  does = spends c.args.key.now (found c.deref.result.now.list.keys c.args.key.now) c.spend-end.result c.args.keyed.now.items c.spend-end.new.keyed.items (c.in-Ok-None.ensures.none c.in-Ok-None.field-0-is) c.spend-end.ensures;
+  does = spends c.args.key.now (found c.deref.result.now.list.keys c.args.key.now) c.spend-end.result c.args.keyed.now.items c.spend-end.new.keyed.items (c.in-Ok-None.ensures.none c.in-Ok-None.field-0-is) c.spend-end.ensures.resolves;
 }
 
 pub returns : goal.returns

@@ -1,9 +1,9 @@
 use Rattle.std.proofs.Common.{◌≡◌, ◌+◌, ap, length-append, map, subst, sym, take, arith, length, [], ◌∷◌}
 use Rattle.ds_server.specs.Replies.{entry_view}
 use Rattle.ds_store_edits.specs.JournalEdits as edits
-use Rattle.ds_net_desks.specs.Listings.{listed_from}
-use Rattle.ds_net_desks.proofs.Listed.{none_listed, one_listed}
-use Rattle.ds_net_desks.proofs.listing.listed_all.Goals as goal
+use Rattle.ds_net_floor.specs.Listings.{listed_from}
+use Rattle.ds_net_floor.proofs.Listed.{none_listed, one_listed}
+use Rattle.ds_net_floor.proofs.listing.listed_all.Goals as goal
 
 pub loop-entry-init : goal.loop-entry-init
 loop-entry-init c = record { count = ap length c.in_ok-list.ensures.items; listed = none_listed c.args.nobody c.in_ok-list.list.items c.in_ok-list.ensures.items }

@@ -2,9 +2,9 @@ use Rattle.std.proofs.Common.{◌∙◌, List, ap, map}
 use Rattle.ds_server.specs.Replies.{entry_view}
 use Rattle.ds_store_edits.specs.JournalEdits as edits
 use Rattle.ds_store_edits.specs.declared.edits.Entry.{Entry}
-use Rattle.ds_net_desks.specs.Listings.{listed_from}
-use Rattle.ds_net_desks.proofs.Listed.{listed_split}
-use Rattle.ds_net_desks.proofs.listing.listed_in.Goals as goal
+use Rattle.ds_net_floor.specs.Listings.{listed_from}
+use Rattle.ds_net_floor.proofs.Listed.{listed_split}
+use Rattle.ds_net_floor.proofs.listing.listed_in.Goals as goal
 
 pub returns : goal.returns
 returns c =

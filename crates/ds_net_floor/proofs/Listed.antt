@@ -8,7 +8,7 @@ use Rattle.ds_server.specs.declared.desk.ListedEdit.{ListedEdit}
 use Rattle.ds_store_edits.specs.JournalEdits as edits
 use Rattle.ds_store_edits.specs.JournalEdits.{entries_of}
 use Rattle.ds_store_edits.specs.declared.edits.Entry.{Entry}
-use Rattle.ds_net_desks.specs.Listings.{listed_as, listed_from, listed_in}
+use Rattle.ds_net_floor.specs.Listings.{listed_as, listed_from, listed_in}
 
 -- one edit more
 listed_more : (nobody place : ℕ) (entries : List edits.EntryValue) (entry : edits.EntryValue) → listed_from nobody place (entries ++ entry ∷ []) ≡ listed_from nobody place entries ++ listed_as nobody (place + length entries) entry ∷ []
