@@ -1,3 +1,4 @@
+pub mod Exports
 pub mod Logs
 pub mod Statuses
 pub mod Tables

@@ -1,5 +1,7 @@
 -- Tables of the texts of a store's sheet.
-use Rattle.std.specs.Prelude.{ℕ, ◌≡◌, ◌<◌, List}
+use Rattle.std.specs.Prelude.{ℕ, ◌≡◌, ◌<◌, List, [], ◌∷◌}
+use Rattle.csv.specs.Writing.{default_writer, row_text}
+use Rattle.ds_formula.specs.declared.cells.Cell.{Cell}
 use Rattle.ds_formula.specs.Cells.{cell_at, count_of}
 use Rattle.ds_layout.specs.declared.layout.Layout.{Layout}
 use Rattle.ds_grid.specs.Grids.{IsCsv, IsGridOf, cell_field}
@@ -20,3 +22,9 @@ pub record IsTextsTable (bytes : List ℕ) (lines : List (List ℕ)) : Type 0 wh
   pub rows : List (List (List ℕ))
   pub csv : IsCsv bytes rows
   pub same : HaveSameTexts rows lines
+
+-- the bytes are CSV of one field alone: the one that a table has for the cell
+pub record IsCellTable (cell : Cell) (table bytes : List ℕ) : Type 0 where
+  pub rows : List (List (List ℕ))
+  pub csv : IsCsv table rows
+  pub is : bytes ≡ row_text default_writer (cell_field rows cell ∷ [])

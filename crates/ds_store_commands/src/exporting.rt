@@ -1,5 +1,10 @@
 //! `dsheet export`.
 
+ghost use Rattle.std.specs.Prelude.{◌≡◌, OnOk, map};
+ghost use Rattle.std.specs.Io.KnownBytes.{Appends};
+ghost use Rattle.std.specs.String.{string_bytes};
+ghost use Rattle.ds_store_commands.specs.Exports.{script_line, script_of, shown_byte, shown_line};
+
 use crate::reading::read_sound;
 use crate::status::store_status;
 use crate::stores::{tell_fault, written};
@@ -13,26 +18,52 @@ use ds_store_sums::sums::is_sum;
 use std::fs::Files;
 use std::io::{self, BufWriter, Write};
 
-// Writes lines, each ended, but for sums, which are of the file alone; a line feed or a carriage return within one is white
-// space of a formula, and is written as a space.
-fn write_lines<W: Write>(out: &mut W, lines: &[String]) -> io::Result<()> {
+// What is written of a byte within a line: a space for a line feed or a carriage return, which is white space of a formula.
+fn shown_byte(byte: u8) -> u8
+    ensures { result ≡ shown_byte byte }
+{
+    if byte == b'\n' || byte == b'\r' {
+        b' '
+    } else {
+        byte
+    }
+}
+
+// Writes a line as `write_line` does, but for a sum, which is of the file alone.
+fn write_script_line<W: Write>(out: &mut W, line: &str) -> io::Result<()>
+    ensures { OnOk result (Appends (W.contents out.old) (W.contents out.new) (script_line line.now)) }
+{
+    if is_sum(line) {
+        return Ok(());
+    }
+    write_line(out, line.as_bytes())
+}
+
+// Writes the lines of a store as a script.
+fn write_lines<W: Write>(out: &mut W, lines: &[String]) -> io::Result<()>
+    ensures { OnOk result (Appends (W.contents out.old) (W.contents out.new) (script_of (map string_bytes lines.now))) }
+{
     for line in lines {
-        if !is_sum(line) {
-            write_line(out, line.as_bytes())?;
-        }
+        write_script_line(out, line)?;
     }
     out.flush()
 }
 
-/// Writes a line, and ends it; a line feed or a carriage return within it is written as a space.
-pub(crate) fn write_line<W: Write>(out: &mut W, line: &[u8]) -> io::Result<()> {
+// Writes what is shown of the bytes of a line.
+fn write_bytes<W: Write>(out: &mut W, line: &[u8]) -> io::Result<()>
+    ensures { OnOk result (Appends (W.contents out.old) (W.contents out.new) (map shown_byte line.now)) }
+{
     for byte in line {
-        let shown = match *byte {
-            b'\n' | b'\r' => b' ',
-            other => other,
-        };
-        out.write_all(&[shown])?;
+        out.write_all(&[shown_byte(*byte)])?;
     }
+    Ok(())
+}
+
+/// Writes a line, and ends it; a line feed or a carriage return within it is written as a space.
+pub(crate) fn write_line<W: Write>(out: &mut W, line: &[u8]) -> io::Result<()>
+    ensures { OnOk result (Appends (W.contents out.old) (W.contents out.new) (shown_line line.now)) }
+{
+    write_bytes(out, line)?;
     out.write_all(b"\n")
 }
 

@@ -1,5 +1,8 @@
 //! `dsheet import`.
 
+ghost use Rattle.std.specs.Prelude.{◌≡◌, IfOk, map};
+ghost use Rattle.std.specs.String.{string_bytes};
+
 use crate::making::make_store;
 use crate::stores::{compacted, tell_fault};
 use crate::tables::{grid_lines, opened_rows};
@@ -51,7 +54,9 @@ fn read_lines<R: AllocGlobal + Input + Eprint>(rt: &R) -> Result<Vec<String>, u8
 }
 
 // Copies of lines.
-fn copied(alloc: Global, lines: &[String]) -> Result<Vec<String>, AllocError> {
+fn copied(alloc: Global, lines: &[String]) -> Result<Vec<String>, AllocError>
+    ensures { IfOk result (λ copies. map string_bytes copies.items ≡ map string_bytes lines.now) }
+{
     let mut copies = Vec::new(alloc);
     for line in lines {
         copies.push(String::from_str(alloc, line)?)?;

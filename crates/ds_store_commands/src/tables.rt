@@ -1,13 +1,16 @@
 //! The texts of a store's sheet as a table of CSV, and a table as the lines of a journal.
 
-ghost use Rattle.std.specs.Prelude.{◌≡◌, ◌<◌, IfOk, List, ℕ, Vec, length, map, slice_index_or, true};
+ghost use Rattle.std.specs.Prelude.{◌≡◌, ◌<◌, ◌++◌, ◌∷◌, [], IfOk, List, OnOk, ℕ, Vec, length, map, slice_index_or, true};
 ghost use Rattle.std.specs.Global.{Global};
 ghost use Rattle.std.specs.String.{string_bytes};
-ghost use Rattle.csv.specs.Records.{fields_of};
+ghost use Rattle.csv.specs.Records.{fields_of, partial_of};
+ghost use Rattle.ds_a1.specs.Notation.{opens};
+ghost use Rattle.csv.specs.Writing.{default_writer, row_text};
 ghost use Rattle.ds_formula.specs.Cells.{cell_at, count_of};
 ghost use Rattle.ds_store.specs.Texts.{HasTexts};
 ghost use Rattle.ds_grid.specs.Grids.{cell_field};
-ghost use Rattle.ds_store_commands.specs.Tables.{HaveSameTexts, IsTextsTable};
+ghost use Rattle.ds_store_commands.specs.Exports.{FieldsOpen, RowsOpen};
+ghost use Rattle.ds_store_commands.specs.Tables.{HaveSameTexts, IsCellTable, IsTextsTable};
 
 use csv::{ByteRecord, WriterBuilder};
 use ds_a1::notation::Notation;
@@ -30,6 +33,16 @@ use std::str;
 
 // How many processes of a store that begins with a table may be joined: as many as a new store has.
 const JOINS: usize = 2;
+
+// The field of a record at a place; it is empty where the record has none.
+fn field_of(record: &ByteRecord, index: usize) -> &[u8]
+    ensures { result.now ≡ slice_index_or (fields_of record.now) index [] }
+{
+    match record.get(index) {
+        Some(field) => field,
+        None => &[],
+    }
+}
 
 // The field of a cell; it is empty where the table has none.
 fn field(rows: &[ByteRecord], cell: Cell) -> &[u8]
@@ -159,32 +172,72 @@ pub fn table_of(alloc: Global, cells: Cells, lines: &[String]) -> Result<Vec<u8>
     }
 }
 
-/// The field of a table for a cell, as CSV. The fault is that an allocation failed.
-pub fn cell_table(alloc: Global, table: &[u8], cell: Cell) -> Result<Vec<u8>, StoreFault> {
-    let rows = records(alloc, table)?;
-    let field = rows
-        .get(cell.row)
-        .and_then(|row| row.get(cell.column))
-        .unwrap_or(&[]);
+// The field of a cell; it is empty where the table has no such cell.
+fn field_if_any(rows: &[ByteRecord], cell: Cell) -> &[u8]
+    ensures { result.now ≡ cell_field (map fields_of rows.now) cell }
+{
+    if cell.row < rows.len() {
+        field(rows, cell)
+    } else {
+        &[]
+    }
+}
+
+// A record of one field, as CSV.
+fn lone_field(alloc: Global, field: &[u8]) -> Result<Vec<u8>, AllocError>
+    ensures { IfOk result (λ table. table.items ≡ row_text default_writer (field.now ∷ [])) }
+{
     let mut record = ByteRecord::new(alloc);
     record.push_field(field)?;
     let mut writer = WriterBuilder::new().from_writer(Vec::new(alloc));
     if writer.write_byte_record(&record).is_err() {
-        return Err(StoreFault::NoMemory);
+        return Err(AllocError);
     }
-    writer.into_inner().or(Err(StoreFault::NoMemory))
+    match writer.into_inner() {
+        Ok(table) => Ok(table),
+        Err(_) => Err(AllocError),
+    }
+}
+
+/// The field of a table for a cell, as CSV. The fault is that an allocation failed.
+pub fn cell_table(alloc: Global, table: &[u8], cell: Cell) -> Result<Vec<u8>, StoreFault>
+    ensures { IfOk result (λ only. IsCellTable cell table.now only.items) }
+{
+    let rows = records(alloc, table)?;
+    Ok(lone_field(alloc, field_if_any(&rows, cell))?)
+}
+
+// Adds a field, whose formula is in A1 notation, with it in OpenFormula.
+fn add_opened(alloc: Global, opened: &mut ByteRecord, field: &[u8]) -> Result<(), StoreFault>
+    requires { partial_of opened.old ≡ [] }
+    ensures field { OnOk result ((text : List ℕ) × (opens field.now ≡ Ok text) × (fields_of opened.new ≡ fields_of opened.old ++ text ∷ [])) }
+    ensures partial { OnOk result (partial_of opened.new ≡ []) }
+{
+    match to_open(alloc, field) {
+        Ok(open) => Ok(opened.push_field(&open)?),
+        Err(fault) if fault.kind == FaultKind::NoMemory => Err(StoreFault::NoMemory),
+        Err(_) => Err(StoreFault::Edit(JournalFault::NoEdit)),
+    }
 }
 
 // A record whose formulas are in A1 notation, with them in OpenFormula.
-fn opened_record(alloc: Global, record: &ByteRecord) -> Result<ByteRecord, StoreFault> {
+fn opened_record(alloc: Global, record: &ByteRecord) -> Result<ByteRecord, StoreFault>
+    ensures { IfOk result (λ opened. FieldsOpen (fields_of record.now) (fields_of opened)) }
+{
     let mut opened = ByteRecord::new(alloc);
     for index in 0..record.len() {
-        let field = record.get(index).unwrap_or(&[]);
-        match to_open(alloc, field) {
-            Ok(open) => opened.push_field(&open)?,
-            Err(fault) if fault.kind == FaultKind::NoMemory => return Err(StoreFault::NoMemory),
-            Err(_) => return Err(StoreFault::Edit(JournalFault::NoEdit)),
-        }
+        add_opened(alloc, &mut opened, field_of(record, index))?;
+    }
+    Ok(opened)
+}
+
+// The records of a table whose formulas are in A1 notation, with them in OpenFormula.
+fn opened_records(alloc: Global, rows: &[ByteRecord]) -> Result<Vec<ByteRecord>, StoreFault>
+    ensures { IfOk result (λ opened. map (map opens) (map fields_of rows.now) ≡ map (map Ok) (map fields_of opened.items)) }
+{
+    let mut opened = Vec::new(alloc);
+    for row in rows {
+        put(&mut opened, opened_record(alloc, row)?)?;
     }
     Ok(opened)
 }
@@ -194,19 +247,19 @@ pub fn opened_rows(
     alloc: Global,
     notation: Notation,
     rows: Vec<ByteRecord>,
-) -> Result<Vec<ByteRecord>, StoreFault> {
-    if notation == Notation::OpenFormula {
-        return Ok(rows);
+) -> Result<Vec<ByteRecord>, StoreFault>
+    ensures { IfOk result (λ opened. RowsOpen notation (map fields_of rows.items) (map fields_of opened.items)) }
+{
+    match notation {
+        Notation::OpenFormula => Ok(rows),
+        Notation::A1 => opened_records(alloc, &rows),
     }
-    let mut opened = Vec::new(alloc);
-    for row in &rows {
-        put(&mut opened, opened_record(alloc, row)?)?;
-    }
-    Ok(opened)
 }
 
 // Adds a value to others.
-fn put<T: Drop>(values: &mut Vec<T>, value: T) -> Result<(), StoreFault> {
+fn put<T: Drop>(values: &mut Vec<T>, value: T) -> Result<(), StoreFault>
+    ensures { OnOk result (values.new.items ≡ values.old.items ++ value ∷ []) }
+{
     match values.push(value) {
         Ok(()) => Ok(()),
         Err(_) => Err(StoreFault::NoMemory),
@@ -235,10 +288,7 @@ fn drafted_lines(
     put(&mut lines, sheet_line(alloc, &layout)?)?;
     for index in 0..shape.count() {
         let cell = shape.cell(index);
-        let text = rows
-            .get(cell.row)
-            .and_then(|row| row.get(cell.column))
-            .unwrap_or(&[]);
+        let text = field_if_any(rows, cell);
         if !text.is_empty() {
             put(&mut lines, cell_line(alloc, cell, text)?)?;
         }
