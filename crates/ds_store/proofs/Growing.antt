@@ -1,5 +1,6 @@
 -- A journal that grows by a line.
-use Rattle.std.proofs.Common.{◌≡◌, ◌∙◌, ap, sym, subst, ◌++◌, ◌∷◌, [], ℕ, List, true, false, Some, Result, Ok, Err, IfOk, OnOk}
+use Rattle.std.proofs.Common.{◌≡◌, ◌∙◌, ap, sym, subst, ◌++◌, ◌∷◌, [], ℕ, List, Bool, true, false, cond, map, refl, Some, Result, Ok, Err, IfOk, OnOk}
+use Rattle.std.specs.Prelude.{IfErr, filter}
 use Rattle.std.proofs.lemmas.List.{append_assoc}
 use Rattle.ds_layout.specs.declared.layout.Layout.{Layout}
 use Rattle.ds_script_io.specs.Fields.{is_skipped}
@@ -30,3 +31,18 @@ if_ok (Err e) h f = h
 pub on_ok : {T E : Type 0} {P Q : Type 0} (r : Result T E) → OnOk r P → (P → Q) → OnOk r Q
 on_ok (Ok x) h f = f h
 on_ok (Err e) h f = h
+
+pub if_err : {T E : Type 0} {P Q : E → Type 0} (r : Result T E) → IfErr r P → ((e : E) → P e → Q e) → IfErr r Q
+if_err (Ok x) h f = h
+if_err (Err e) h f = f e h
+
+-- ---- some of the lines
+
+either : {A B : Type 0} (f : A → B) (x : A) (xs : List A) (ys : List B) (b : Bool) → map f xs ≡ ys → map f (cond b (x ∷ xs) xs) ≡ cond b (f x ∷ ys) ys
+either f x xs ys true h = ap (λ ts. f x ∷ ts) h
+either f x xs ys false h = h
+
+-- those of which it is so are seen by view as those that are seen so
+pub map_filter : {A B : Type 0} (f : A → B) (p : B → Bool) (xs : List A) → map f (filter (λ x. p (f x)) xs) ≡ filter p (map f xs)
+map_filter f p [] = refl
+map_filter f p (x ∷ xs) = either f x (filter (λ a. p (f a)) xs) (filter p (map f xs)) (p (f x)) (map_filter f p xs)

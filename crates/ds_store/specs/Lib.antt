@@ -3,3 +3,5 @@ pub mod Opened
 pub mod Sound
 pub mod Texts
 pub mod GoingOver
+pub mod Replays
+pub mod Summing

@@ -1,5 +1,8 @@
 //! What is wrong with a store.
 
+ghost use Rattle.std.specs.Prelude.{◌≡◌};
+ghost use Rattle.ds_store.specs.Opened.{fault_at};
+
 use ds_store_journal::fault::JournalFault;
 use ds_store_keys::fault::KeyLineFault;
 use ds_store_table::lines::LinesFault;
@@ -88,7 +91,9 @@ impl From<AllocError> for StoreFault {
 
 impl StoreFault {
     /// That the line of this number, from 1, cannot be followed for this fault.
-    pub fn at_line(number: usize, fault: JournalFault) -> StoreFault {
+    pub fn at_line(number: usize, fault: JournalFault) -> StoreFault
+        ensures { result ≡ fault_at number fault }
+    {
         match fault {
             JournalFault::NoMemory => StoreFault::NoMemory,
             fault => StoreFault::Line { number, fault },

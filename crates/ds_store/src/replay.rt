@@ -1,10 +1,14 @@
 //! The edits of a journal are made again.
 
-ghost use Rattle.std.specs.Prelude.{◌≡◌, ◌++◌, ◌∷◌, [], List, ℕ, Some, false, IfOk, OnOk, map};
+ghost use Rattle.std.specs.Arc.{arc_value};
+ghost use Rattle.std.specs.Prelude.{◌≡◌, ◌⊎◌, ◌<◌, ◌++◌, ◌∷◌, [], List, ℕ, None, Some, false, length, IfOk, IfErr, OnOk, map};
 ghost use Rattle.std.specs.String.{string_bytes};
 ghost use Rattle.ds_script_io.specs.Fields.{is_skipped};
-ghost use Rattle.ds_store_journal.specs.Journals.{asked_view, edit_in};
-ghost use Rattle.ds_store.specs.Opened.{Leads};
+ghost use Rattle.ds_formula.specs.Cells.{IsInside};
+ghost use Rattle.ds_store_journal.specs.Journals.{asked_view, edit_in, sheet_in};
+ghost use Rattle.ds_store.specs.Replays.{IsUnfollowed, IsUnmade};
+ghost use Rattle.ds_store.specs.Opened.{Leads, LeadsNowhere, Stops, fault_at};
+ghost use Rattle.ds_store_journal.specs.declared.fault.JournalFault.{JournalFault};
 
 use crate::fault::StoreFault;
 use crate::seated::SeatedSheet;
@@ -25,7 +29,9 @@ pub(crate) struct Replay {
 impl Replay {
     // After the first line, which makes the sheet.
     fn begin(alloc: Global, line: &[u8]) -> Result<Replay, JournalFault>
-        ensures { IfOk result (λ r. Leads r.layout r.counts.counts.items r.sheet (line.now ∷ [])) }
+        ensures leads { IfOk result (λ r. Leads r.layout r.counts.counts.items r.sheet (line.now ∷ [])) }
+        ensures counts { IfOk result (λ r. length r.counts.counts.items ≡ r.layout.processes) }
+        ensures none { IfErr result (λ fault. (fault ≡ JournalFault.NoMemory) ⊎ ((fault ≡ JournalFault.NoSheet) × (sheet_in line.now ≡ None))) }
     {
         let layout = read_sheet(line)?;
         Ok(Replay {
@@ -38,6 +44,10 @@ impl Replay {
     // The edit of a line is made, and has to be answered Done with the next number of its process.
     fn make(&mut self, alloc: Global, asked: AskedEdit<'_>) -> Result<(), JournalFault>
         ensures layout { self.new.layout ≡ self.old.layout }
+        ensures counts { length self.new.counts.counts.items ≡ length self.old.counts.counts.items }
+        ensures unmade { asked.entry.process < length self.old.counts.counts.items → asked.entry.process < length self.old.sheet.seats.items
+            → IsInside (arc_value self.old.sheet.sheet.sheet).board.layout.shape asked.entry.cell
+            → IfErr result (IsUnmade self.old.counts.counts.items (arc_value self.old.sheet.sheet.sheet) self.old.sheet.seats.items self.new.sheet.seats.items (asked_view asked.entry)) }
         ensures made { OnOk result ((lines : List (List ℕ)) (line : List ℕ) → is_skipped line ≡ false → edit_in self.old.layout line ≡ Some (asked_view asked.entry)
             → Leads self.old.layout self.old.counts.counts.items self.old.sheet lines → Leads self.new.layout self.new.counts.counts.items self.new.sheet (lines ++ line ∷ [])) }
     {
@@ -54,7 +64,10 @@ impl Replay {
 
     // Follows the next line: its edit is made, or it is passed over. After an error it is of no use any more.
     fn follow(&mut self, alloc: Global, line: &[u8]) -> Result<(), JournalFault>
-        ensures { OnOk result ((lines : List (List ℕ)) → Leads self.old.layout self.old.counts.counts.items self.old.sheet lines
+        ensures counts { (self.new.layout ≡ self.old.layout) × (length self.new.counts.counts.items ≡ length self.old.counts.counts.items) }
+        ensures unfollowed { (lines : List (List ℕ)) → Leads self.old.layout self.old.counts.counts.items self.old.sheet lines → length self.old.counts.counts.items ≡ self.old.layout.processes
+            → IfErr result (IsUnfollowed self.old.layout self.old.counts.counts.items (arc_value self.old.sheet.sheet.sheet) self.old.sheet.seats.items self.new.sheet.seats.items line.now) }
+        ensures followed { OnOk result ((lines : List (List ℕ)) → Leads self.old.layout self.old.counts.counts.items self.old.sheet lines
             → Leads self.new.layout self.new.counts.counts.items self.new.sheet (lines ++ line.now ∷ [])) }
     {
         let layout = self.layout;
@@ -68,7 +81,9 @@ impl Replay {
 
 // Follows the lines after the first one, each in its turn.
 fn follow_rest(alloc: Global, replay: &mut Replay, rest: &[String]) -> Result<(), StoreFault>
-    ensures { OnOk result ((before : List (List ℕ)) → Leads replay.old.layout replay.old.counts.counts.items replay.old.sheet before
+    ensures stops { (before : List (List ℕ)) → Leads replay.old.layout replay.old.counts.counts.items replay.old.sheet before → length replay.old.counts.counts.items ≡ replay.old.layout.processes
+        → IfErr result (λ fault. (number : ℕ) × (why : JournalFault) × (fault ≡ fault_at number why) × Stops (before ++ map string_bytes rest.now) why) }
+    ensures leads { OnOk result ((before : List (List ℕ)) → Leads replay.old.layout replay.old.counts.counts.items replay.old.sheet before
         → Leads replay.new.layout replay.new.counts.counts.items replay.new.sheet (before ++ map string_bytes rest.now)) }
 {
     let mut number = 1usize;
@@ -84,7 +99,8 @@ fn follow_rest(alloc: Global, replay: &mut Replay, rest: &[String]) -> Result<()
 /// Follows lines from the first one on, and makes the sheet that they lead to. An error names the line that cannot be
 /// followed.
 pub(crate) fn replayed(alloc: Global, lines: &[String]) -> Result<Replay, StoreFault>
-    ensures { IfOk result (λ r. Leads r.layout r.counts.counts.items r.sheet (map string_bytes lines.now)) }
+    ensures leads { IfOk result (λ r. Leads r.layout r.counts.counts.items r.sheet (map string_bytes lines.now)) }
+    ensures nowhere { IfErr result (LeadsNowhere (map string_bytes lines.now)) }
 {
     let Some((first, rest)) = lines.split_first() else {
         return Err(StoreFault::Missing(1));

@@ -1,12 +1,16 @@
 //! A sheet that threads share, with the seats of all its processes.
 
-ghost use Rattle.std.specs.Prelude.{◌≡◌, ◌++◌, ◌∷◌, [], List, false, IfOk, OnOk};
+ghost use Rattle.std.specs.Prelude.{◌≡◌, ◌<◌, ◌++◌, ◌∷◌, [], List, false, length, IfOk, IfErr, OnOk};
 ghost use Rattle.std.specs.Arc.{arc_value};
 ghost use Rattle.ds_formula.specs.declared.cells.Cell.{Cell};
 ghost use Rattle.ds_layout.specs.declared.layout.Layout.{Layout};
 ghost use Rattle.ds_shared_seats.specs.Calls.{Edits};
 ghost use Rattle.ds_shared_seats.specs.Sheets.{AllFresh, IsSeatOf};
 ghost use Rattle.ds_store_journal.specs.Journals.{KeptEdit};
+ghost use Rattle.ds_formula.specs.Cells.{IsInside};
+ghost use Rattle.ds_shared.specs.declared.ended.Ended.{Ended};
+ghost use Rattle.ds_state.specs.declared.answer.EditEnd.{EditEnd};
+ghost use Rattle.ds_store.specs.Replays.{IsNotDone, MissesEdit};
 ghost use Rattle.ds_store.specs.Stores.{AreFresh, AreSeated, IsMadeBy, STEPS_MOST};
 ghost use Rattle.ds_eval.specs.Code.{plain_code};
 ghost use Rattle.std.specs.Coded.{codes};
@@ -47,7 +51,8 @@ fn all_seats(alloc: Global, sheet: &mut OpenSheet) -> Result<Vec<Seat>, AllocErr
 
 // What an edit that ended so has come to, which is to be done with this number: an error is why it has not.
 fn as_kept(number: usize, how: Ended<EditEnd>) -> Result<(), JournalFault>
-    ensures { OnOk result (how ≡ Ended.Answered (EditEnd.Done number)) }
+    ensures done { OnOk result (how ≡ Ended.Answered (EditEnd.Done number)) }
+    ensures not_done { IfErr result (IsNotDone number how) }
 {
     match how {
         Ended::Answered(EditEnd::Done(told)) if told == number => Ok(()),
@@ -66,6 +71,8 @@ fn edited(
     text: &[u8],
 ) -> Result<(), JournalFault>
     ensures edits { OnOk result (Edits (arc_value seat.old.sheet) cell text.now STEPS_MOST seat.old.pass seat.new.pass (Ended.Answered (EditEnd.Done number))) }
+    ensures not_done { IsInside (arc_value seat.old.sheet).board.layout.shape cell → IfErr result (λ fault. (how : Ended EditEnd)
+        × Edits (arc_value seat.old.sheet) cell text.now STEPS_MOST seat.old.pass seat.new.pass how × IsNotDone number how fault) }
     ensures sheet { IsSeatOf (arc_value seat.old.sheet) seat.new }
     ensures process { seat.new.pass.process ≡ seat.old.pass.process }
 {
@@ -95,7 +102,9 @@ impl SeatedSheet {
         cell: Cell,
         text: &[u8],
     ) -> Result<(), JournalFault>
-        ensures { OnOk result ((layout : Layout) (edits : List KeptEdit) → IsMadeBy layout edits (arc_value self.old.sheet.sheet) self.old.seats.items
+        ensures not_done { process < length self.old.seats.items → IsInside (arc_value self.old.sheet.sheet).board.layout.shape cell
+            → IfErr result (MissesEdit (arc_value self.old.sheet.sheet) self.old.seats.items self.new.seats.items (record { process = process; cell = cell; text = text.now }) number) }
+        ensures made { OnOk result ((layout : Layout) (edits : List KeptEdit) → IsMadeBy layout edits (arc_value self.old.sheet.sheet) self.old.seats.items
             → IsMadeBy layout (edits ++ record { process = process; number = number; cell = cell; text = text.now } ∷ []) (arc_value self.new.sheet.sheet) self.new.seats.items) }
     {
         if process >= self.seats.len() {

@@ -5,6 +5,7 @@ ghost use Rattle.std.specs.String.{string_bytes};
 ghost use Rattle.ds_script_io.specs.Fields.{is_skipped};
 ghost use Rattle.ds_store_sums.specs.Sums.{sum_of};
 ghost use Rattle.ds_store_sums.specs.Taken.{IsAt};
+ghost use Rattle.ds_store.specs.Summing.{summed_anew};
 
 use crate::fault::StoreFault;
 use ds_store_sums::sums::{LineSums, SumFault, Tail, is_sum};
@@ -70,16 +71,10 @@ pub(crate) fn sum_up(
 }
 
 /// Lines without their sums, and after them one that has the sum of all: as they are to be committed first.
-pub fn with_sum(alloc: Global, lines: Vec<String>) -> Result<Vec<String>, StoreFault> {
-    let mut plain = Vec::new(alloc);
-    let mut full = false;
-    for line in lines {
-        if !is_sum(&line) {
-            full = full || plain.push(line).is_err();
-        }
-    }
-    if full {
-        return Err(StoreFault::NoMemory);
-    }
+pub fn with_sum(alloc: Global, lines: Vec<String>) -> Result<Vec<String>, StoreFault>
+    ensures { IfOk result (λ all. map string_bytes all.items ≡ summed_anew (map string_bytes lines.items)) }
+{
+    let mut plain = lines;
+    plain.retain(|line| !is_sum(line));
     sum_up(alloc, &mut LineSums::new(), plain)
 }

@@ -1,6 +1,6 @@
 -- The lines of a journal are gone through, one by one, and it is told who made their edits.
-use Rattle.std.proofs.Common.{ℕ, ◌≡◌, ◌+◌, ◌<◌, ◌≤◌, ◌++◌, ◌∷◌, ◌==◌, ◌&&◌, ◌||◌, Bool, true, false, [], List, Option, Some, None, is_some, length, take, drop, get_or, refl, sym, ap, subst, ◌∙◌, ⊎_elim, if◌then◌else◌, append_assoc, arith}
-use Rattle.std.specs.Prelude.{slice_set}
+use Rattle.std.proofs.Common.{ℕ, zero, suc, ◌≡◌, ◌+◌, ◌<◌, ◌≤◌, ◌++◌, ◌∷◌, ◌==◌, ◌&&◌, ◌||◌, Bool, true, false, [], List, Option, Some, None, is_some, length, take, drop, get_or, refl, sym, ap, subst, ◌∙◌, ⊎_elim, if◌then◌else◌, append_assoc, Result, Ok, Err, arith}
+use Rattle.std.specs.Prelude.{slice_set, IsErr, IsErrAnd, MatchResult}
 use Rattle.std.proofs.lemmas.List.{append-nil, drop_all, drop_more, get_or-set_same, get_or-set_other, take_more}
 use Rattle.std.proofs.lemmas.Bool.Decides.{eqb_tells}
 use Rattle.ds_layout.specs.declared.layout.Layout.{Layout}
@@ -8,7 +8,9 @@ use Rattle.ds_script_io.specs.Fields.{is_skipped}
 use Rattle.ds_store_journal.specs.declared.standing.Standing.{Standing}
 use Rattle.ds_store_journal.specs.declared.standing.Mention.{Mention}
 use Rattle.ds_store_journal.specs.Journals.{AskedFor, edit_in, one_if}
-use Rattle.ds_store_journal.specs.Standings.{AreStandings, before_in, counted, none_made, noted, one_more, standing_after, standing_from, standing_of}
+use Rattle.ds_store_journal.specs.Faults.{AreUncounted}
+use Rattle.ds_store_journal.proofs.Noting.{one_counted, uncounted_after}
+use Rattle.ds_store_journal.specs.Standings.{AreStandings, EDITS_LIMIT, before_in, counted, none_made, noted, one_more, standing_after, standing_from, standing_of}
 use Rattle.ds_store_edits.specs.declared.edits.Passed.{Passed}
 use Rattle.ds_store_edits.specs.JournalEdits.{EntryValue, HasPassed, maker_of, entries_at, entries_of, tell_before, tellings}
 
@@ -176,3 +178,38 @@ pub listed_all : (layout : Layout) (first lines : List (List ℕ)) (passed : Pas
 unfolding entries_of
 listed_all layout first lines passed entries count all has =
     sym (append-nil entries) ∙ subst (λ ls. entries ++ entries_of layout (first ++ take count lines) ls ≡ entries_of layout first lines) (drop_all count lines all) has.so_far
+
+-- ---- why edits are not listed
+
+-- nor are more lines counted, where the first ones are not
+pub uncounted_on : (layout : Layout) (first rest : List (List ℕ)) → AreUncounted layout first → AreUncounted layout (first ++ rest)
+uncounted_on layout first rest h = record {
+  before = h.before;
+  after = h.after ++ rest;
+  are = ap (λ ls. ls ++ rest) h.are ∙ append_assoc h.before h.after rest;
+  process = h.process;
+  there = h.there;
+  many = h.many;
+}
+
+-- a fact that each of two cases gives
+pub by_cases : {X : Type 0} (b : Bool) → (b ≡ true → X) → (b ≡ false → X) → X
+by_cases true f g = f refl
+by_cases false f g = g refl
+
+-- the line of an edit that is one too many
+pub uncounted_edit : (layout : Layout) (xs : List Standing) (before : List (List ℕ)) (line : List ℕ) (asked : AskedFor) → asked.process < layout.processes → is_skipped line ≡ false
+    → Some asked ≡ edit_in layout line → EDITS_LIMIT ≤ (get_or xs asked.process none_made).edits + 1 → AreStandings layout xs before → AreUncounted layout (before ++ line ∷ [])
+uncounted_edit layout xs before line asked low skipped asks many are =
+    let more = one_counted layout asked.process (get_or xs asked.process none_made) line asked skipped asks refl in
+    uncounted_after layout xs before line asked.process low (omega (arith, more, many)) are
+
+pub match_err : {A E : Type 0} (r : Result A E) (O : A → Type 0) (P Q : E → Type 0) → IsErr r × IsErrAnd r P → ((e : E) → P e → Q e) → MatchResult r O Q
+match_err (Ok a) O P Q h f = absurd h.1
+match_err (Err e) O P Q h f = f e h.1
+
+-- the first elements and the others
+pub take_drop : (n : ℕ) (xs : List (List ℕ)) → take n xs ++ drop n xs ≡ xs
+take_drop zero xs = refl
+take_drop (suc n) [] = refl
+take_drop (suc n) (x ∷ xs) = ap (λ ys. x ∷ ys) (take_drop n xs)

@@ -1,8 +1,11 @@
 -- The list of the edits of a journal.
-use Rattle.std.specs.Prelude.{ℕ, ◌≡◌, ◌+◌, Bool, false, ◌&&◌, ◌||◌, List, [], ◌∷◌, ◌++◌, Option, Some, None, is_some, if◌then◌else◌}
+use Rattle.std.specs.Prelude.{ℕ, ◌≡◌, ◌⊎◌, ◌+◌, Bool, true, false, ◌&&◌, ◌||◌, List, [], ◌∷◌, ◌++◌, Option, Some, None, is_some, if◌then◌else◌}
 use Rattle.ds_formula.specs.declared.cells.Cell.{Cell}
 use Rattle.ds_layout.specs.declared.layout.Layout.{Layout}
 use Rattle.ds_script_io.specs.Fields.{is_skipped}
+use Rattle.ds_store_journal.specs.Faults.{AreUncounted, IsUncounted}
+use Rattle.ds_store_journal.specs.declared.fault.JournalFault.{JournalFault}
+use Rattle.ds_store_journal.specs.declared.fault.JournalFault.TheVariants.{NoEdit}
 use Rattle.ds_store_journal.specs.Journals.{AskedFor, edit_in, one_if}
 use Rattle.ds_store_journal.specs.Standings.{AreStandings, before_in, standing_of}
 use Rattle.ds_store_edits.specs.declared.edits.Entry.{Entry}
@@ -58,3 +61,21 @@ tellings layout (line ∷ lines) = one_if (is_skipped line && is_some (before_in
 pub record HasPassed (layout : Layout) (passed : Passed) (before after : List (List ℕ)) : Type 0 where
   pub standings : passed.full ≡ false → AreStandings layout passed.standings.items before
   pub left : passed.left ≡ tellings layout after
+  pub full : passed.full ≡ true → AreUncounted layout before
+
+-- the line is neither skipped nor an edit of the sheet
+abbrev pub IsNeither : Layout → List ℕ → Type 0
+IsNeither layout line = (is_skipped line ≡ false) × (edit_in layout line ≡ None)
+
+-- one of the lines is neither skipped nor an edit of the sheet
+pub record HaveNeither (layout : Layout) (lines : List (List ℕ)) : Type 0 where
+  pub before : List (List ℕ)
+  pub line : List ℕ
+  pub after : List (List ℕ)
+  pub are : lines ≡ before ++ line ∷ after
+  pub neither : IsNeither layout line
+
+-- the edits of these lines are not listed, for this fault, where those lines are before them: one is neither skipped nor an edit
+-- of the sheet, or more were made than are counted, or an allocation failed
+abbrev pub AreUnlisted : Layout → List (List ℕ) → List (List ℕ) → JournalFault → Type 0
+AreUnlisted layout before lines fault = ((fault ≡ NoEdit) × HaveNeither layout lines) ⊎ IsUncounted layout (before ++ lines) fault

@@ -1,12 +1,13 @@
 //! The edits of a journal, oldest first, and who made each. The lines are gone through once.
 
-ghost use Rattle.std.specs.Prelude.{◌≡◌, ◌<◌, ◌++◌, ◌∷◌, [], List, ℕ, IfOk, OnOk, Some, true, false, length, map};
+ghost use Rattle.std.specs.Prelude.{◌≡◌, ◌⊎◌, ◌<◌, ◌≤◌, ◌++◌, ◌∷◌, [], List, ℕ, IfOk, IfErr, MatchResult, OnOk, Some, true, false, length, map};
 ghost use Rattle.std.specs.String.{string_bytes};
 ghost use Rattle.ds_layout.specs.declared.layout.Layout.{Layout};
 ghost use Rattle.ds_script_io.specs.Fields.{is_skipped};
+ghost use Rattle.ds_store_journal.specs.Faults.{AreUncounted, IsUncounted};
 ghost use Rattle.ds_store_journal.specs.Journals.{asked_view, edit_in};
 ghost use Rattle.ds_store_journal.specs.Standings.{EDITS_LIMIT as EDITS_MOST};
-ghost use Rattle.ds_store_edits.specs.JournalEdits.{HasPassed, maker_of, entry_view, entries_at, entries_in, entries_of, tellings};
+ghost use Rattle.ds_store_edits.specs.JournalEdits.{AreUnlisted, HasPassed, IsNeither, maker_of, entry_view, entries_at, entries_in, entries_of, tellings};
 
 use ds_formula::cells::Cell;
 use ds_layout::layout::Layout;
@@ -55,7 +56,8 @@ fn tellings(layout: &Layout, lines: &[String]) -> usize
 
 // Whether more edits of a process were made than are counted, where it has made this number now.
 fn is_full(full: bool, edits: usize) -> bool
-    ensures { result ≡ false → (full ≡ false) × (edits < EDITS_MOST) }
+    ensures room { result ≡ false → (full ≡ false) × (edits < EDITS_MOST) }
+    ensures full { result ≡ true → (full ≡ true) ⊎ (EDITS_MOST ≤ edits) }
 {
     full || edits >= EDITS_LIMIT
 }
@@ -81,6 +83,7 @@ impl Passed {
     ) -> Result<Passed, JournalFault>
         ensures count { IfOk result (λ p. length p.standings.items ≡ layout.now.processes) }
         ensures passed { IfOk result (λ p. HasPassed layout.now p (map string_bytes before.now) (map string_bytes lines.now)) }
+        ensures uncounted { IfErr result (IsUncounted layout.now (map string_bytes before.now)) }
     {
         let standings = standings_of(alloc, layout, before)?;
         let left = tellings(layout, lines);
@@ -109,7 +112,8 @@ impl Passed {
     // counted.
     fn maker_of(&self, process: usize) -> Result<Option<Maker>, JournalFault>
         requires { process < length self.now.standings.items }
-        ensures { IfOk result (λ maker. (layout : Layout) (before after : List (List ℕ)) (line : List ℕ) → process < layout.processes → is_skipped line ≡ false
+        ensures full { IfErr result (λ fault. (fault ≡ JournalFault.Other) × (self.now.full ≡ true)) }
+        ensures maker { IfOk result (λ maker. (layout : Layout) (before after : List (List ℕ)) (line : List ℕ) → process < layout.processes → is_skipped line ≡ false
             → HasPassed layout self.now before (line ∷ after) → maker ≡ maker_of layout before process after) }
     {
         if self.left > 0 {
@@ -126,7 +130,7 @@ impl Passed {
     fn count(&mut self, asked: AskedEdit<'_>)
         requires { asked.process < length self.old.standings.items }
         ensures count { length self.new.standings.items ≡ length self.old.standings.items }
-        ensures passed { (layout : Layout) (before after : List (List ℕ)) (line : List ℕ) → is_skipped line ≡ false → edit_in layout line ≡ Some (asked_view asked.entry)
+        ensures passed { (layout : Layout) (before after : List (List ℕ)) (line : List ℕ) → asked.entry.process < layout.processes → is_skipped line ≡ false → edit_in layout line ≡ Some (asked_view asked.entry)
             → HasPassed layout self.old before (line ∷ after) → HasPassed layout self.new (before ++ line ∷ []) after }
     {
         let AskedEdit { process, cell, .. } = asked;
@@ -149,6 +153,8 @@ impl Passed {
         ensures count { length self.new.standings.items ≡ layout.now.processes }
         ensures passed { IfOk result (λ _. (before after : List (List ℕ)) → HasPassed layout.now self.old before (line.now ∷ after)
             → HasPassed layout.now self.new (before ++ line.now ∷ []) after) }
+        ensures unlisted { IfErr result (λ fault. (before after : List (List ℕ)) → HasPassed layout.now self.old before (line.now ∷ after)
+            → ((fault ≡ JournalFault.NoEdit) × IsNeither layout.now line.now) ⊎ ((fault ≡ JournalFault.Other) × AreUncounted layout.now before)) }
         ensures entries { IfOk result (λ entry. (before after : List (List ℕ)) → HasPassed layout.now self.old before (line.now ∷ after)
             → entries_in entry ≡ entries_at layout.now before line.now after) }
     {
@@ -181,7 +187,8 @@ pub fn entries<'a>(
     before: &[String],
     lines: &'a [String],
 ) -> Result<Vec<Entry<'a>>, JournalFault>
-    ensures { IfOk result (λ entries. map entry_view entries.items ≡ entries_of layout.now (map string_bytes before.now) (map string_bytes lines.now)) }
+    ensures { MatchResult result (λ entries. map entry_view entries.items ≡ entries_of layout.now (map string_bytes before.now) (map string_bytes lines.now))
+        (AreUnlisted layout.now (map string_bytes before.now) (map string_bytes lines.now)) }
 {
     let mut entries = Vec::new(alloc);
     let mut passed = Passed::begin(alloc, layout, before, lines)?;

@@ -1,4 +1,4 @@
 mod Counting
-mod Noting
+pub mod Noting
 pub mod ReadsBack
 mod Written

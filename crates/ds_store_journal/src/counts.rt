@@ -40,6 +40,7 @@ impl EditCounts {
     pub fn count(&mut self, process: usize) -> Option<usize>
         ensures counted { IfSome result (λ number. (edits : List KeptEdit) (edit : KeptEdit) → AreCounts self.old.counts.items edits → edit.process ≡ process
             → (number ≡ edits_by process edits) × AreCounts self.new.counts.items (edits ++ edit ∷ [])) }
+        ensures number { IfSome result (λ number. number ≡ slice_index_or self.old.counts.items process 0) }
         ensures none { result ≡ None → self.new ≡ self.old }
         ensures refused { result ≡ None → (length self.old.counts.items ≤ process) ⊎ (slice_index_or self.old.counts.items process 0 ≡ usize.MAX) }
         ensures each { length self.new.counts.items ≡ length self.old.counts.items }

@@ -1,6 +1,6 @@
 //! Lists of keys.
 
-ghost use Rattle.std.specs.Prelude.{◌≡◌, ◌++◌, ◌∷◌, [], List, ℕ, IfOk, OnOk, map, true};
+ghost use Rattle.std.specs.Prelude.{◌≡◌, ◌++◌, ◌∷◌, [], List, ℕ, IfOk, OnOk, map, true, false};
 ghost use Rattle.std.specs.String.{string_bytes};
 ghost use Rattle.ds_store_keys.specs.Keys.{KEYS_MOST, carried, keys_of};
 ghost use Rattle.ds_store_keys.specs.declared.notes.TheConstants as constants;
@@ -46,7 +46,8 @@ pub fn notes_of(
 
 // Whether two edits are the same.
 fn is_same_edit(edit: &AnsweredEdit, other: &AnsweredEdit) -> bool
-    ensures { result ≡ true → edit.now ≡ other.now }
+    ensures same { result ≡ true → edit.now ≡ other.now }
+    ensures other { result ≡ false → edit.now ≡ other.now → ⊥ }
 {
     edit.process == other.process
         && edit.number == other.number
@@ -56,7 +57,8 @@ fn is_same_edit(edit: &AnsweredEdit, other: &AnsweredEdit) -> bool
 
 // Whether two keys are the same, and of the same.
 fn is_same(note: &KeyNote, other: &KeyNote) -> bool
-    ensures { result ≡ true → note.now ≡ other.now }
+    ensures same { result ≡ true → note.now ≡ other.now }
+    ensures other { result ≡ false → note.now ≡ other.now → ⊥ }
 {
     let of_same = match (&note.of, &other.of) {
         (KeyUse::Edit(edit), KeyUse::Edit(other)) => is_same_edit(edit, other),
@@ -68,7 +70,8 @@ fn is_same(note: &KeyNote, other: &KeyNote) -> bool
 
 // Whether both lists have the same keys, in the same order.
 fn are_same(notes: &[KeyNote], others: &[KeyNote]) -> bool
-    ensures { result ≡ true → notes.now ≡ others.now }
+    ensures same { result ≡ true → notes.now ≡ others.now }
+    ensures other { result ≡ false → notes.now ≡ others.now → ⊥ }
 {
     if notes.len() != others.len() {
         return false;
@@ -90,7 +93,8 @@ pub fn carried(notes: &[KeyNote]) -> &[KeyNote]
 
 /// Whether the keys after a change to a new sheet are those that were to be taken along.
 pub fn are_carried(before: &[KeyNote], after: &[KeyNote]) -> bool
-    ensures { result ≡ true → after.now ≡ carried before.now }
+    ensures same { result ≡ true → after.now ≡ carried before.now }
+    ensures other { result ≡ false → after.now ≡ carried before.now → ⊥ }
 {
     are_same(after, carried(before))
 }

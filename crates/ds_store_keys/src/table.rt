@@ -1,6 +1,6 @@
 //! What each key is of.
 
-ghost use Rattle.std.specs.Prelude.{◌≡◌, ◌++◌, ◌∷◌, ◌-◌, ◌↔◌, [], List, ℕ, None, Some, Err, IfErr, IfOk, IsSome, OnErr, OnOk, if◌then◌else◌, map, option_map, take};
+ghost use Rattle.std.specs.Prelude.{◌≡◌, ◌⊎◌, ◌++◌, ◌∷◌, ◌-◌, ◌↔◌, [], List, ℕ, None, Some, Err, IfErr, IfOk, IsSome, OnErr, OnOk, if◌then◌else◌, map, option_map, take};
 ghost use Rattle.std.specs.Str.{bytes_eq};
 ghost use Rattle.std.specs.String.{string_bytes};
 ghost use Rattle.ds_store_keys.specs.Keys.{StandOnce, edit_of, keys_of};
@@ -44,6 +44,7 @@ impl KeyTable {
         ensures new { OnOk result (found self.old note.key ≡ None) }
         ensures added { OnOk result ((key : List ℕ) → found self.new key ≡ (if bytes_eq key note.key then Some note.edit else found self.old key)) }
         ensures again { (result ≡ Err JournalFault.KeyAgain) ↔ IsSome (found self.old note.key) }
+        ensures fault { IfErr result (λ fault. (fault ≡ JournalFault.KeyAgain) ⊎ (fault ≡ JournalFault.NoMemory)) }
         ensures unchanged { OnErr result ((key : List ℕ) → found self.new key ≡ found self.old key) }
     {
         let KeyNote { key, of } = note;
@@ -59,6 +60,7 @@ impl KeyTable {
     // Adds the key that the next line has, if it has one.
     fn follow(&mut self, alloc: Global, layout: &Layout, line: &[u8]) -> Result<(), JournalFault>
         ensures added { OnOk result ((lines : List (List ℕ)) → AreKeys self.old (keys_of layout.now lines) → AreKeys self.new (keys_of layout.now (lines ++ line.now ∷ []))) }
+        ensures fault { IfErr result (λ fault. (fault ≡ JournalFault.KeyAgain) ⊎ (fault ≡ JournalFault.NoMemory)) }
         ensures again { result ≡ Err JournalFault.KeyAgain → (lines : List (List ℕ)) → AreKeys self.old (keys_of layout.now lines) → StandOnce (keys_of layout.now (lines ++ line.now ∷ [])) → ⊥ }
     {
         let Some(read) = read_key(layout, line) else {
@@ -78,6 +80,7 @@ impl KeyTable {
         lines: &[String],
     ) -> Result<KeyTable, KeyLineFault>
         ensures keys { IfOk result (λ table. AreKeys table (keys_of layout.now (map string_bytes lines.now))) }
+        ensures fault { IfErr result (λ fault. (fault.fault ≡ JournalFault.KeyAgain) ⊎ (fault.fault ≡ JournalFault.NoMemory)) }
         ensures again { IfErr result (λ fault. fault.fault ≡ JournalFault.KeyAgain → StandOnce (keys_of layout.now (map string_bytes (take (fault.number - 1) lines.now)))
             × (StandOnce (keys_of layout.now (map string_bytes (take fault.number lines.now))) → ⊥)) }
     {

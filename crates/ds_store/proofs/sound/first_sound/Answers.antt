@@ -12,7 +12,7 @@ returns-clause-leads g c =
       r.layout,
       r.counts.counts.items,
       r.sheet,
-      subst (λ ls. Leads r.layout r.counts.counts.items r.sheet (map string_bytes ls)) c.deref-2.ensures.value c.in_ok-leads.ensures,
+      subst (λ ls. Leads r.layout r.counts.counts.items r.sheet (map string_bytes ls)) c.deref-2.ensures.value c.in_ok-leads.ensures.leads,
       subst (λ ls. StandOnce (keys_of r.layout (map string_bytes ls))) c.deref-3.ensures.value c.in_ok-of_lines.ensures.keys.once,
     )
 

@@ -1,6 +1,6 @@
-use Rattle.std.proofs.Common.{◌≡◌, ◌∙◌, ◌<◌, Some, None, length, sym, arith}
+use Rattle.std.proofs.Common.{◌≡◌, ◌∙◌, ◌<◌, ◌∷◌, [], Some, None, length, sym, arith}
 use Rattle.ds_store_journal.specs.Standings.{before_in}
-use Rattle.ds_store_edits.proofs.Makers.{stand_as_said, stand_on, tellings_none, tellings_said}
+use Rattle.ds_store_edits.proofs.Makers.{stand_as_said, stand_on, tellings_none, tellings_said, uncounted_on}
 use Rattle.ds_store_edits.proofs.edits.Passed.skip.Goals as goal
 
 pub returns-in_default-clause-passed : goal.returns-in_default-clause-passed
@@ -11,6 +11,7 @@ returns-in_default-clause-passed c skipped before after has =
     record {
       standings = λ none. stand_on layout c.args.self.now.standings.items before line skipped says (has.standings none);
       left = has.left ∙ tellings_none layout line after skipped says;
+      full = λ is. uncounted_on layout before (line ∷ []) (has.full is);
     }
 
 pub returns-clause-passed : goal.returns-clause-passed
@@ -25,4 +26,5 @@ returns-clause-passed c skipped before after has =
     record {
       standings = λ none. stand_as_said layout xs before line m low skipped says (has.standings none);
       left = omega (arith, has.left, told, c.saturating_sub-self.ensures);
+      full = λ is. uncounted_on layout before (line ∷ []) (has.full is);
     }
