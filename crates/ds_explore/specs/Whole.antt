@@ -25,7 +25,7 @@ use Rattle.ds_explore.specs.declared.options.Options.{Options}
 use Rattle.ds_explore.specs.declared.outcomes.Finding.{Finding}
 use Rattle.ds_explore.specs.declared.search.Start.{Start}
 use Rattle.ds_explore.specs.Judging.{ComesTo}
-use Rattle.ds_explore.specs.Starts.{IsStart, allowed_by}
+use Rattle.ds_explore.specs.Starts.{ComesAgain, IsStart, allowed_by}
 use Rattle.ds_explore.specs.Explored.{AreOutcomes, exploration_text, key_text, wrong_in}
 
 -- what an order comes to that ends at a position, with a crash there or without one, is the outcome with this number, of those
@@ -64,7 +64,8 @@ pub record GoesThrough (start : Start) (keys : List (List ℕ)) (exploration : E
 -- ---- explorations
 
 -- an exploration of the script: outcomes, no two the same, of orders that begin where the script ends; where it is not cut,
--- these are the outcomes of all orders; else there were as many states as may be gone through
+-- these are the outcomes of all orders; else there were as many states as may be gone through. It is endless only where an
+-- order comes to a state again
 pub record IsExploration (script : List ℕ) (options : Options) (exploration : Exploration) : Type 0 where
   pub start : Start
   pub begins : IsStart script options start
@@ -72,6 +73,7 @@ pub record IsExploration (script : List ℕ) (options : Options) (exploration : 
   pub outcomes : AreOutcomes script start keys exploration.outcomes.items
   pub through : IsFalse exploration.is_cut → GoesThrough start keys exploration
   pub cut : IsTrue exploration.is_cut → options.most ≤ exploration.states
+  pub endless : IsTrue exploration.is_endless → ComesAgain start
 
 -- why there is no exploration, where the script does not end
 abbrev pub lacks_by : Short → Unexplored
