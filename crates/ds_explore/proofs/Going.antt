@@ -15,7 +15,7 @@ use Rattle.ds_explore.specs.declared.options.Options.{Options}
 use Rattle.ds_explore.specs.declared.search.Start.{Start}
 use Rattle.ds_explore.specs.Explored.{AreOutcomes, end_of, exploration_text, wrong_in}
 use Rattle.ds_explore.specs.Starts.{ComesAgain, IsStart, allowed_by}
-use Rattle.ds_explore.specs.Whole.{AreOrders, Explores, GoesThrough, HasGraph, IsAmong, IsExploration, Writes}
+use Rattle.ds_explore.specs.Whole.{AreOrders, Explores, GoesThrough, HasGraph, IsAmong, IsCut, IsExploration, Writes}
 
 -- where there is a graph of the states, every order is a path in it
 pub goes_through : (start : Start) (keys : List (List ℕ)) (found : States) (edges : List (Edge Choice)) (e : Exploration) → e.states ≡ length (keys_of found) → HasGraph start keys found edges → IsKept (groups_of start.touched) start.first start.first
@@ -30,15 +30,16 @@ goes_through start keys found edges e counted graph kept numbers = record {
 }
 
 -- an exploration whose search was cut
-pub exploration_cut : (script : List ℕ) (options : Options) (start : Start) (keys : List (List ℕ)) (e : Exploration) → IsStart script options start → AreOutcomes script start keys e.outcomes.items → e.is_cut ≡ true → start.options.most ≤ e.states
+pub exploration_cut : (script : List ℕ) (options : Options) (start : Start) (keys : List (List ℕ)) (e : Exploration) → IsStart script options start → AreOutcomes script start keys e.outcomes.items → e.is_cut ≡ true → start.options.most ≤ e.states → IsCut start keys e
     → (IsTrue e.is_endless → ComesAgain start) → IsExploration script options e
-exploration_cut script options start keys e begins are cut most again = record {
+exploration_cut script options start keys e begins are cut most found again = record {
   start = start;
   begins = begins;
   keys = keys;
   outcomes = are;
   through = λ whole. absurd (true≢false (sym cut ∙ whole));
   cut = λ is. subst (λ (o : Options). o.most ≤ e.states) begins.asked most;
+  found = λ is. found;
   endless = again;
 }
 
@@ -52,6 +53,7 @@ exploration_whole script options start keys e begins are whole through again = r
   outcomes = are;
   through = λ is. through;
   cut = λ cut. absurd (true≢false (sym cut ∙ whole));
+  found = λ cut. absurd (true≢false (sym cut ∙ whole));
   endless = again;
 }
 

@@ -89,8 +89,22 @@ impl Start {
         Ok(())
     }
 
-    // The position that an order of these events leads to.
-    fn led_to(&self, alloc: Global, path: &[u32]) -> Result<Position, AllocError>
+    /// The position after this event, of a position that stays as it is. An error is also that it may not happen there.
+    pub(crate) fn gone_on(
+        &self,
+        alloc: Global,
+        position: &Position,
+        by: u32,
+    ) -> Result<Position, AllocError>
+        ensures { IsLedTo self.now position.now → IfOk result (IsLedTo self.now) }
+    {
+        let mut next = position.copy(alloc)?;
+        self.go_on(alloc, &mut next, by)?;
+        Ok(next)
+    }
+
+    /// The position that an order of these events leads to.
+    pub(crate) fn led_to(&self, alloc: Global, path: &[u32]) -> Result<Position, AllocError>
         ensures { IfOk result (IsLedTo self.now) }
     {
         let mut position = self.position(alloc)?;

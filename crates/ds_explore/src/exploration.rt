@@ -5,12 +5,13 @@ ghost use Rattle.ds_explore.specs.Explored.{AreFlaws, AreOutcomes, IsOutcome};
 ghost use Rattle.ds_explore.specs.Judging.{texts_of};
 ghost use Rattle.ds_explore.specs.Starts.{ComesAgain, IsStart};
 ghost use Rattle.ds_paths.specs.Paths.{AreApart};
-ghost use Rattle.ds_explore.specs.Whole.{AreOrders, GoesThrough, IsExploration, LacksExploration, lacks_by};
+ghost use Rattle.ds_explore.specs.Whole.{AreOrders, GoesThrough, IsCut, IsExploration, LacksExploration, lacks_by};
 ghost use Rattle.ds_explore.specs.declared.exploration.Outcome.{Outcome};
 
 use crate::answers::{answers_to, continued};
 use crate::flaw::Flaw;
 use crate::graph::{Node, Way, path};
+use crate::met::Meeting;
 use crate::options::{Options, Watcher};
 use crate::orders::{Orders, count_orders};
 use crate::outcomes::Finding;
@@ -307,20 +308,32 @@ fn endless(alloc: Global, start: &Start, search: &Search) -> Result<bool, AllocE
     }
 }
 
-// What was found, where the search was cut. An error means that it was before as many states were found as may be gone
-// through.
+// What was found, where the search was cut, of outcomes with these keys. An error means that an allocation failed, that it was cut
+// before as many states were found as may be gone through, or that an outcome of them is not there.
 fn cut(
+    alloc: Global,
     start: &Start,
     found: &Found,
+    keys: &[Vec<u8>],
     is_endless: bool,
     outcomes: Vec<Outcome>,
 ) -> Result<Exploration, AllocError>
     ensures cut { IfOk result (λ exploration. (exploration.is_cut ≡ true) × (start.now.options.most ≤ exploration.states)) }
+    ensures found { IfOk result (IsCut start.now (texts_of keys.now)) }
     ensures endless { IfOk result (λ exploration. exploration.is_endless ≡ is_endless) }
     ensures outcomes { IfOk result (λ exploration. exploration.outcomes ≡ outcomes) }
 {
     let states = found.search.states();
     if states < start.options.most {
+        return Err(AllocError);
+    }
+    let meeting = Meeting {
+        start,
+        states: &found.search.found,
+        nodes: &found.search.nodes,
+        keys,
+    };
+    if !meeting.are_met(alloc)? {
         return Err(AllocError);
     }
     Ok(Exploration {
@@ -369,7 +382,7 @@ fn whole(alloc: Global, script: &[u8], start: &Start, found: &Found) -> Result<E
     let AllKeyed { keys, outcomes } = all;
     let is_endless = endless(alloc, start, &found.search)?;
     if found.search.is_cut {
-        return Ok(cut(start, found, is_endless, outcomes)?);
+        return Ok(cut(alloc, start, found, &keys, is_endless, outcomes)?);
     }
     Ok(gone_through(alloc, start, found, &keys, is_endless, outcomes)?)
 }
