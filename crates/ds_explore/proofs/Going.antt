@@ -14,8 +14,8 @@ use Rattle.ds_explore.specs.declared.exploration.Outcome.{Outcome}
 use Rattle.ds_explore.specs.declared.options.Options.{Options}
 use Rattle.ds_explore.specs.declared.search.Start.{Start}
 use Rattle.ds_explore.specs.Explored.{AreOutcomes, end_of, exploration_text, wrong_in}
-use Rattle.ds_explore.specs.Starts.{IsStart, allowed_by}
-use Rattle.ds_explore.specs.Whole.{AreOrders, Explores, GoesThrough, HasGraph, IsAmong, IsExploration, Writes}
+use Rattle.ds_explore.specs.Starts.{ComesAgain, IsStart, allowed_by}
+use Rattle.ds_explore.specs.Whole.{AreOrders, Explores, GoesThrough, HasGraph, IsAmong, IsCut, IsExploration, Writes}
 
 -- where there is a graph of the states, every order is a path in it
 pub goes_through : (start : Start) (keys : List (List ℕ)) (found : States) (edges : List (Edge Choice)) (e : Exploration) → e.states ≡ length (keys_of found) → HasGraph start keys found edges → IsKept (groups_of start.touched) start.first start.first
@@ -30,25 +30,31 @@ goes_through start keys found edges e counted graph kept numbers = record {
 }
 
 -- an exploration whose search was cut
-pub exploration_cut : (script : List ℕ) (options : Options) (start : Start) (keys : List (List ℕ)) (e : Exploration) → IsStart script options start → AreOutcomes script start keys e.outcomes.items → e.is_cut ≡ true → start.options.most ≤ e.states → IsExploration script options e
-exploration_cut script options start keys e begins are cut most = record {
+pub exploration_cut : (script : List ℕ) (options : Options) (start : Start) (keys : List (List ℕ)) (e : Exploration) → IsStart script options start → AreOutcomes script start keys e.outcomes.items → e.is_cut ≡ true → start.options.most ≤ e.states → IsCut start keys e
+    → (IsTrue e.is_endless → ComesAgain start) → IsExploration script options e
+exploration_cut script options start keys e begins are cut most found again = record {
   start = start;
   begins = begins;
   keys = keys;
   outcomes = are;
   through = λ whole. absurd (true≢false (sym cut ∙ whole));
   cut = λ is. subst (λ (o : Options). o.most ≤ e.states) begins.asked most;
+  found = λ is. found;
+  endless = again;
 }
 
 -- an exploration of all orders
-pub exploration_whole : (script : List ℕ) (options : Options) (start : Start) (keys : List (List ℕ)) (e : Exploration) → IsStart script options start → AreOutcomes script start keys e.outcomes.items → e.is_cut ≡ false → GoesThrough start keys e → IsExploration script options e
-exploration_whole script options start keys e begins are whole through = record {
+pub exploration_whole : (script : List ℕ) (options : Options) (start : Start) (keys : List (List ℕ)) (e : Exploration) → IsStart script options start → AreOutcomes script start keys e.outcomes.items → e.is_cut ≡ false → GoesThrough start keys e
+    → (IsTrue e.is_endless → ComesAgain start) → IsExploration script options e
+exploration_whole script options start keys e begins are whole through again = record {
   start = start;
   begins = begins;
   keys = keys;
   outcomes = are;
   through = λ is. through;
   cut = λ cut. absurd (true≢false (sym cut ∙ whole));
+  found = λ cut. absurd (true≢false (sym cut ∙ whole));
+  endless = again;
 }
 
 -- of each outcome that stands after the states the number is that of its orders

@@ -3,3 +3,4 @@ pub mod Judged
 pub mod Valued
 pub mod Going
 pub mod Leading
+mod Meeting

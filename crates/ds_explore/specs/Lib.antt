@@ -3,3 +3,4 @@ pub mod Judging
 pub mod Starts
 pub mod Explored
 pub mod Whole
+pub mod Met

@@ -9,7 +9,8 @@ use Rattle.ds_explore_state.specs.States.{groups_of}
 use Rattle.ds_paths.specs.declared.graph.Edge.{Edge}
 use Rattle.ds_paths.specs.Paths.{IsCount}
 use Rattle.ds_explore_state.specs.declared.choices.Choice.{Choice}
-use Rattle.ds_explore_state.specs.Closed.{Order, keys_of}
+use Rattle.ds_explore_state.specs.Closed.{HasNumber, Order, keys_of}
+use Rattle.ds_explore_state.specs.Orders.{IsBusy}
 use Rattle.ds_explore_state.specs.Drawn.{IsGraph, IsPath}
 use Rattle.ds_explore_state.specs.Following.{KnowsBuffers}
 use Rattle.ds_explore_state.specs.declared.position.Move.{Move}
@@ -25,7 +26,7 @@ use Rattle.ds_explore.specs.declared.options.Options.{Options}
 use Rattle.ds_explore.specs.declared.outcomes.Finding.{Finding}
 use Rattle.ds_explore.specs.declared.search.Start.{Start}
 use Rattle.ds_explore.specs.Judging.{ComesTo}
-use Rattle.ds_explore.specs.Starts.{IsStart, allowed_by}
+use Rattle.ds_explore.specs.Starts.{ComesAgain, IsLedTo, IsStart, allowed_by}
 use Rattle.ds_explore.specs.Explored.{AreOutcomes, exploration_text, key_text, wrong_in}
 
 -- what an order comes to that ends at a position, with a crash there or without one, is the outcome with this number, of those
@@ -61,10 +62,26 @@ pub record GoesThrough (start : Start) (keys : List (List ℕ)) (exploration : E
   pub counted : exploration.states ≡ length (keys_of states)
   pub numbers : IsFalse exploration.is_endless → AreOrders edges exploration.states exploration.outcomes.items
 
+-- an order comes to the state with this number; and what one comes to that ends there, where no call is under way, is one of the
+-- outcomes with these keys
+pub record IsMet (start : Start) (keys : List (List ℕ)) (states : States) (number : ℕ) : Type 0 where
+  pub position : Position
+  pub led : IsLedTo start position
+  pub has : HasNumber states (groups_of start.touched) position number
+  pub rests : ((p : ℕ) → IsBusy position p → ⊥) → (outcome : ℕ) × IsAmong start.judge keys position false outcome
+
+-- there were as many states as may be gone through: orders come to each of them, and of each in which they end the outcome is
+-- one of those with these keys
+pub record IsCut (start : Start) (keys : List (List ℕ)) (exploration : Exploration) : Type 0 where
+  pub states : States
+  pub counted : exploration.states ≡ length (keys_of states)
+  pub met : (number : ℕ) → number < exploration.states → IsMet start keys states number
+
 -- ---- explorations
 
 -- an exploration of the script: outcomes, no two the same, of orders that begin where the script ends; where it is not cut,
--- these are the outcomes of all orders; else there were as many states as may be gone through
+-- these are the outcomes of all orders; else there were as many states as may be gone through. It is endless only where an
+-- order comes to a state again
 pub record IsExploration (script : List ℕ) (options : Options) (exploration : Exploration) : Type 0 where
   pub start : Start
   pub begins : IsStart script options start
@@ -72,6 +89,8 @@ pub record IsExploration (script : List ℕ) (options : Options) (exploration : 
   pub outcomes : AreOutcomes script start keys exploration.outcomes.items
   pub through : IsFalse exploration.is_cut → GoesThrough start keys exploration
   pub cut : IsTrue exploration.is_cut → options.most ≤ exploration.states
+  pub found : IsTrue exploration.is_cut → IsCut start keys exploration
+  pub endless : IsTrue exploration.is_endless → ComesAgain start
 
 -- why there is no exploration, where the script does not end
 abbrev pub lacks_by : Short → Unexplored

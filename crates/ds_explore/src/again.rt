@@ -1,15 +1,18 @@
 //! An order, carried out again.
 
-ghost use Rattle.std.specs.Prelude.{◌≡◌, ℕ, IfOk, IsTrue, OnOk, Some, slice_get};
+ghost use Rattle.std.specs.Prelude.{◌≡◌, ◌++◌, ◌∷◌, [], ℕ, IfOk, IsTrue, List, OnOk, Some, length, slice_get};
 ghost use Rattle.ds_explore_state.specs.Orders.{MayHappen};
+ghost use Rattle.ds_explore_state.specs.declared.position.Move.{Move};
 ghost use Rattle.ds_explore_state.specs.declared.position.Move.TheVariants.{Evict};
 ghost use Rattle.ds_explore.specs.Judging.{ComesTo};
-ghost use Rattle.ds_explore.specs.Starts.{IsEnd, IsLedTo, MayEnd, allowed_by};
+ghost use Rattle.ds_explore.specs.Starts.{ComesAgain, IsEnd, IsLedTo, IsOrderTo, MayEnd, allowed_by};
 
+use crate::graph::Circle;
 use crate::outcomes::Finding;
 use crate::search::Start;
 use ds_explore_state::orders::{is_busy, is_dirty};
 use ds_explore_state::position::{Move, Position};
+use ds_explore_state::states::States;
 use ds_layout::place::Place;
 use std::alloc::{AllocError, Global};
 
@@ -58,7 +61,7 @@ impl Start {
 
     // What has this number happens, if it may. An error is also that it may not.
     fn go_on(&self, alloc: Global, position: &mut Position, by: u32) -> Result<(), AllocError>
-        ensures { IsLedTo self.now position.old → OnOk result (IsLedTo self.now position.new) }
+        ensures { (moves : List Move) → IsOrderTo self.now moves position.old → OnOk result ((move : Move) × IsOrderTo self.now (moves ++ move ∷ []) position.new) }
     {
         let next = match self.moves.get(by as usize) {
             Some(next) => *next,
@@ -71,15 +74,67 @@ impl Start {
         Ok(())
     }
 
-    // The position that an order of these events leads to.
-    fn led_to(&self, alloc: Global, path: &[u32]) -> Result<Position, AllocError>
+    // What has these numbers happens, one after the other, if it may. An error is also that it may not.
+    fn go_along(
+        &self,
+        alloc: Global,
+        position: &mut Position,
+        path: &[u32],
+    ) -> Result<(), AllocError>
+        ensures { (moves : List Move) → IsOrderTo self.now moves position.old → OnOk result ((more : List Move) × (length more ≡ length path.now) × IsOrderTo self.now (moves ++ more) position.new) }
+    {
+        for by in path {
+            self.go_on(alloc, position, *by)?;
+        }
+        Ok(())
+    }
+
+    /// The position after this event, of a position that stays as it is. An error is also that it may not happen there.
+    pub(crate) fn gone_on(
+        &self,
+        alloc: Global,
+        position: &Position,
+        by: u32,
+    ) -> Result<Position, AllocError>
+        ensures { IsLedTo self.now position.now → IfOk result (IsLedTo self.now) }
+    {
+        let mut next = position.copy(alloc)?;
+        self.go_on(alloc, &mut next, by)?;
+        Ok(next)
+    }
+
+    /// The position that an order of these events leads to.
+    pub(crate) fn led_to(&self, alloc: Global, path: &[u32]) -> Result<Position, AllocError>
         ensures { IfOk result (IsLedTo self.now) }
     {
         let mut position = self.position(alloc)?;
-        for by in path {
-            self.go_on(alloc, &mut position, *by)?;
-        }
+        self.go_along(alloc, &mut position, path)?;
         Ok(position)
+    }
+
+    /// Whether an order comes to one of the states again that was seen to. An error means that an allocation failed, or that
+    /// there is no such order.
+    pub(crate) fn comes_again(
+        &self,
+        alloc: Global,
+        states: &States,
+        circle: &Circle,
+    ) -> Result<bool, AllocError>
+        ensures { IfOk result (λ again. IsTrue again → ComesAgain self.now) }
+    {
+        if circle.around.is_empty() {
+            return Ok(false);
+        }
+        let mut position = self.position(alloc)?;
+        self.go_along(alloc, &mut position, &circle.before)?;
+        let Some(state) = states.number_of(alloc, &position, &self.touched)? else {
+            return Ok(false);
+        };
+        self.go_along(alloc, &mut position, &circle.around)?;
+        let Some(later) = states.number_of(alloc, &position, &self.touched)? else {
+            return Ok(false);
+        };
+        Ok(state == later)
     }
 
     // Whether an order may end at the position.

@@ -3,14 +3,15 @@
 ghost use Rattle.std.specs.Prelude.{◌≡◌, ◌<◌, ◌≤◌, ◌+◌, All, true, false, IfErr, IfOk, IsTrue, OnOk, ℕ, length, slice_index_or};
 ghost use Rattle.ds_explore.specs.Explored.{AreFlaws, AreOutcomes, IsOutcome};
 ghost use Rattle.ds_explore.specs.Judging.{texts_of};
-ghost use Rattle.ds_explore.specs.Starts.{IsStart};
+ghost use Rattle.ds_explore.specs.Starts.{ComesAgain, IsStart};
 ghost use Rattle.ds_paths.specs.Paths.{AreApart};
-ghost use Rattle.ds_explore.specs.Whole.{AreOrders, GoesThrough, IsExploration, LacksExploration, lacks_by};
+ghost use Rattle.ds_explore.specs.Whole.{AreOrders, GoesThrough, IsCut, IsExploration, LacksExploration, lacks_by};
 ghost use Rattle.ds_explore.specs.declared.exploration.Outcome.{Outcome};
 
 use crate::answers::{answers_to, continued};
 use crate::flaw::Flaw;
 use crate::graph::{Node, Way, path};
+use crate::met::Meeting;
 use crate::options::{Options, Watcher};
 use crate::orders::{Orders, count_orders};
 use crate::outcomes::Finding;
@@ -292,19 +293,52 @@ fn are_orders(
     are_counts(alloc, edges, &ranks, &counts)
 }
 
-// What was found, where the search was cut. An error means that it was before as many states were found as may be gone
-// through.
-fn cut(start: &Start, found: &Found, outcomes: Vec<Outcome>) -> Result<Exploration, AllocError>
+// Whether an order was seen to come to a state again. An error means that an allocation failed, or that it does not when it is
+// carried out again.
+fn endless(alloc: Global, start: &Start, search: &Search) -> Result<bool, AllocError>
+    ensures { IfOk result (λ endless. IsTrue endless → ComesAgain start.now) }
+{
+    let Some(circle) = &search.again else {
+        return Ok(false);
+    };
+    if start.comes_again(alloc, &search.found, circle)? {
+        Ok(true)
+    } else {
+        Err(AllocError)
+    }
+}
+
+// What was found, where the search was cut, of outcomes with these keys. An error means that an allocation failed, that it was cut
+// before as many states were found as may be gone through, or that an outcome of them is not there.
+fn cut(
+    alloc: Global,
+    start: &Start,
+    found: &Found,
+    keys: &[Vec<u8>],
+    is_endless: bool,
+    outcomes: Vec<Outcome>,
+) -> Result<Exploration, AllocError>
     ensures cut { IfOk result (λ exploration. (exploration.is_cut ≡ true) × (start.now.options.most ≤ exploration.states)) }
+    ensures found { IfOk result (IsCut start.now (texts_of keys.now)) }
+    ensures endless { IfOk result (λ exploration. exploration.is_endless ≡ is_endless) }
     ensures outcomes { IfOk result (λ exploration. exploration.outcomes ≡ outcomes) }
 {
     let states = found.search.states();
     if states < start.options.most {
         return Err(AllocError);
     }
+    let meeting = Meeting {
+        start,
+        states: &found.search.found,
+        nodes: &found.search.nodes,
+        keys,
+    };
+    if !meeting.are_met(alloc)? {
+        return Err(AllocError);
+    }
     Ok(Exploration {
         states,
-        is_endless: found.search.is_endless,
+        is_endless,
         is_cut: true,
         outcomes,
     })
@@ -317,16 +351,17 @@ fn gone_through(
     start: &Start,
     found: &Found,
     keys: &[Vec<u8>],
+    is_endless: bool,
     outcomes: Vec<Outcome>,
 ) -> Result<Exploration, AllocError>
     ensures through { IfOk result (λ exploration. (exploration.is_cut ≡ false) × GoesThrough start.now (texts_of keys.now) exploration) }
+    ensures endless { IfOk result (λ exploration. exploration.is_endless ≡ is_endless) }
     ensures outcomes { IfOk result (λ exploration. exploration.outcomes ≡ outcomes) }
 {
     let Some(edges) = found.search.graph(alloc, start, keys)? else {
         return Err(AllocError);
     };
     let states = found.search.states();
-    let is_endless = found.search.is_endless;
     let counted = are_orders(alloc, &edges, found, states, &outcomes)?;
     if !is_endless && !counted {
         return Err(AllocError);
@@ -345,10 +380,11 @@ fn whole(alloc: Global, script: &[u8], start: &Start, found: &Found) -> Result<E
 {
     let all = all_outcomes(alloc, script, start, found)?;
     let AllKeyed { keys, outcomes } = all;
+    let is_endless = endless(alloc, start, &found.search)?;
     if found.search.is_cut {
-        return Ok(cut(start, found, outcomes)?);
+        return Ok(cut(alloc, start, found, &keys, is_endless, outcomes)?);
     }
-    Ok(gone_through(alloc, start, found, &keys, outcomes)?)
+    Ok(gone_through(alloc, start, found, &keys, is_endless, outcomes)?)
 }
 
 // Why there is no exploration of a script that does not end.
@@ -383,7 +419,8 @@ fn explored_from<T: Watcher>(
 /// tried. Where the exploration is not cut, it was checked that nothing that may happen leads out of the states that were
 /// found, that what each order comes to is among the outcomes, and, where no order comes to a state again, that each
 /// outcome has as many orders as come to it; where it is cut, the outcomes that were found until then are there, with as
-/// many orders as were found: the first one also where that is none.
+/// many orders as were found: the first one also where that is none. An order that comes to a state again was carried out
+/// again.
 pub fn explored<T: Watcher>(
     alloc: Global,
     script: &[u8],

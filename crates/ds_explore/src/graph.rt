@@ -24,6 +24,16 @@ pub(crate) struct Node {
     pub(crate) crash: Option<usize>,
 }
 
+/// An order that comes to a state again: the numbers of what happens before it is there first, and of what happens from there
+/// on until it is there again.
+#[derive(Drop)]
+pub(crate) struct Circle {
+    /// What happens before.
+    pub(crate) before: Vec<u32>,
+    /// What happens from there on.
+    pub(crate) around: Vec<u32>,
+}
+
 /// How the orders come to a state.
 #[derive(Clone, Copy, Debug, PartialEq, Eq)]
 pub(crate) struct Way {

@@ -11,6 +11,7 @@ pub mod flaw;
 mod graph;
 mod judge;
 pub mod lines;
+mod met;
 pub mod options;
 mod orders;
 mod outcomes;

@@ -12,7 +12,7 @@ ghost use Rattle.ds_explore.specs.Starts.{IsStart};
 ghost use Rattle.ds_explore.specs.Whole.{HasGraph};
 
 use crate::among::Outcomes;
-use crate::graph::{Lead, Node};
+use crate::graph::{Circle, Lead, Node};
 use crate::judge::Judge;
 use crate::options::{Options, Watcher};
 use crate::outcomes::{Finding, Findings};
@@ -67,6 +67,14 @@ impl Frame {
         }
     }
 
+    // What has happened in it last, and has led to another state.
+    fn latest(&self) -> u32 {
+        match self.edges.last() {
+            Some(lead) => lead.by,
+            None => u32::MAX,
+        }
+    }
+
     // What is kept of it after all that may happen in it.
     fn node(self) -> Node {
         Node {
@@ -103,8 +111,8 @@ pub(crate) struct Search {
     pub(crate) nodes: Vec<Node>,
     /// Whether there are more states than there may be.
     pub(crate) is_cut: bool,
-    /// Whether an order comes to a state again.
-    pub(crate) is_endless: bool,
+    /// The first order that was seen to come to a state again.
+    pub(crate) again: Option<Circle>,
 }
 
 // What is done next.
@@ -275,7 +283,7 @@ impl Search {
             outcomes,
             nodes: Vec::new(alloc),
             is_cut: false,
-            is_endless: false,
+            again: None,
         }
     }
 
@@ -287,14 +295,35 @@ impl Search {
         Ok(())
     }
 
-    // A state that was found before.
-    fn meet(&mut self, by: u32, to: u32) -> Result<(), AllocError> {
-        if self.left.get(to as usize) == Some(&true) {
-            self.lead(by, to)
-        } else {
-            self.is_endless = true;
-            Ok(())
+    // The order that leads on to the last state, and by this event to that one, through which it has come.
+    fn circle(&self, alloc: Global, by: u32, to: u32) -> Result<Circle, AllocError> {
+        let mut circle = Circle {
+            before: Vec::new(alloc),
+            around: Vec::new(alloc),
+        };
+        let mut is_there = false;
+        for (index, frame) in self.frames.iter().enumerate() {
+            is_there = is_there || frame.state == to;
+            let is_last = index.saturating_add(1) == self.frames.len();
+            let next = if is_last { by } else { frame.latest() };
+            if is_there {
+                circle.around.push(next)?;
+            } else {
+                circle.before.push(next)?;
+            }
         }
+        Ok(circle)
+    }
+
+    // A state that was found before.
+    fn meet(&mut self, alloc: Global, by: u32, to: u32) -> Result<(), AllocError> {
+        if self.left.get(to as usize) == Some(&true) {
+            return self.lead(by, to);
+        }
+        if self.again.is_none() {
+            self.again = Some(self.circle(alloc, by, to)?);
+        }
+        Ok(())
     }
 
     // What a crash leaves of a state: the outcome where it came before, else what is to be looked at.
@@ -392,7 +421,7 @@ impl Search {
     ) -> Result<Option<u32>, AllocError> {
         let key = self.found.key(alloc, position, &start.touched)?;
         if let Some(state) = self.found.find(&key) {
-            self.meet(by, state)?;
+            self.meet(alloc, by, state)?;
             return Ok(None);
         }
         let Some(state) = self.next_number(start) else {
