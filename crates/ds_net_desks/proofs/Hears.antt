@@ -26,10 +26,10 @@ hears_none numberings old new heard kept listed nobody = record {
 }
 
 -- of one
-pub hears_one : (numberings : List Numbering) (old new : Backlog) (heard after : Heard) (edit : KeptEdit) (number : ℕ) → number ≡ number_seen numberings edit.process edit.number → after ≡ heard ++ (edit.process, edit) ∷ []
-    → (new.edits.items ≡ old.edits.items ++ edit ∷ []) ⊎ (new.phase ≡ Failed) → (entries new.list ≡ entries old.list ++ told_as (number, edit) ∷ []) ⊎ (new.phase ≡ Failed) → new.list.nobody ≡ old.list.nobody
-    → HearsNoted numberings old heard new after
-hears_one numberings old new heard after edit number seen noted kept listed nobody = record {
+pub hears_one : (numberings : List Numbering) (old new : Backlog) (heard after : Heard) (edit : KeptEdit) (number : ℕ) → after ≡ heard ++ (edit.process, edit) ∷ []
+    → (new.edits.items ≡ old.edits.items ++ edit ∷ []) ⊎ (new.phase ≡ Failed) → (entries new.list ≡ entries old.list ++ told_as (number, edit) ∷ []) ⊎ (new.phase ≡ Failed) → number ≡ number_seen numberings edit.process edit.number
+    → new.list.nobody ≡ old.list.nobody → HearsNoted numberings old heard new after
+hears_one numberings old new heard after edit number noted kept listed seen nobody = record {
   more = (edit.process, edit) ∷ [];
   noted = noted;
   kept = kept;

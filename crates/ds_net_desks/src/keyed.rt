@@ -267,6 +267,7 @@ fn spent(alloc: Global, key: &[u8]) -> Result<(KeyNote, KeyNote), AllocError>
 }
 
 // A key that is not known is of no edit from now on, and the keeper hears of that. Where memory is short for it, nothing is done.
+#[tactic(auto, using(crate::proofs::Hears::hears_no_key, crate::proofs::Hears::hears_key))]
 fn spend(
     alloc: Global,
     backlog: &mut Backlog,

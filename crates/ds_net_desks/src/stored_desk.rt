@@ -53,6 +53,7 @@ impl<'a, R: Wait + Clock> StoredDesk<'a, R> {
 }
 
 // The keeper hears of an edit that is done, and it is listed by the number by which clients know it, with a copy of its text.
+#[tactic(auto, using(crate::proofs::Hears::hears_one))]
 fn hear(
     backlog: &mut Backlog,
     heard: &mut Log<usize, AnsweredEdit>,
@@ -71,6 +72,7 @@ fn hear(
 
 // An edit by the seat, which nobody else's overlaps, with room for the keeper to hear of it and for the list, by this text and a
 // copy of it.
+#[tactic(auto, using(crate::proofs::Hears::hears_none, crate::proofs::Hears::hears_after))]
 fn edited_alone(
     alloc: Global,
     backlog: &mut Backlog,
