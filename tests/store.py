@@ -879,6 +879,18 @@ def check_white_space(program, folder):
     pass_rows("white space in formulas, exported and imported")
 
 
+def check_long(program, folder):
+    """A journal of many lines, one of them long, is imported and exported whole."""
+    store = os.path.join(folder, "long.db")
+    comments = "".join(f"# {number}\n" for number in range(5000))
+    lines = f"sheet 2 2 2\nset 0 A1 1\n{comments}# {'x' * 10000}\nset 1 A1 2\n"
+    expect("a long journal is imported", run(program, "import", store, input=lines), 0, "")
+    if run(program, "export", store).stdout != lines:
+        raise Failed("a long journal that was imported is exported otherwise")
+    expect("its last edit", run(program, "log", store, "--cell", "A1"), 0, "2")
+    pass_rows("a long journal, exported and imported")
+
+
 def check_fifo(program, folder):
     """A file that is no regular one is refused, and not waited for."""
     path = os.path.join(folder, "fifo")
@@ -1046,6 +1058,7 @@ def check_all(program, kills, cuts, many, draw):
         check_shape(program, folder)
         check_full(program, folder)
         check_white_space(program, folder)
+        check_long(program, folder)
         check_fifo(program, folder)
         check_lost_file(program, folder)
         check_lost_log(program, folder)
