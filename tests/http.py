@@ -405,7 +405,9 @@ def questions(program, server, quick):
         row(f"{path}: {why}", f"{status} {fields['content-type']} {body}", unfit + why)
     if not quick:
         many = "sheet 2 2 6\n" + "".join(f"begin {process} set A1 {process}\n" for process in range(6))
-        figures = json.loads(client.ask("POST", "/explore", many)[2].split("\n")[0])
+        patient = Client(server)
+        patient.socket.settimeout(240)
+        figures = json.loads(patient.ask("POST", "/explore", many)[2].split("\n")[0])
         row("no more states are gone through than a server goes through", (figures["cut"], figures["found"]["states"] >= 20000), (True, True))
     row("nothing of it is in the sheet", Client(server).sheet(), before)
 
