@@ -167,6 +167,7 @@ grep -q '^dsheet: the server has lost edits: it had answered that edit 2 is done
 passed "a log that is gone"
 
 # A server that breaks off after an edit: the client joins again and shows what its recovery reports; it sends no edit twice.
+: >"$room/port"
 python3 -c '
 import json, socket, sys
 listener = socket.create_server(("127.0.0.1", 0))
@@ -224,6 +225,7 @@ done
 passed "edits with keys"
 
 # A server that breaks off after an edit with a key, twice: the client joins again, and sends it again with that key.
+: >"$room/port"
 python3 -c '
 import json, socket, sys
 listener = socket.create_server(("127.0.0.1", 0))
@@ -256,6 +258,7 @@ grep -q '"told"' "$room/asked" && fail "the number of an edit with a key is told
 passed "a server that breaks off after an edit with a key"
 
 # An answer of a million bytes, which comes in pieces of 500, is read whole.
+: >"$room/port"
 python3 -c '
 import socket
 listener = socket.create_server(("127.0.0.1", 0))
