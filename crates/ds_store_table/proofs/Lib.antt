@@ -1,5 +1,6 @@
 mod Adding
 mod Crashes
+mod Failing
 mod Lists
 mod Making
 mod Numbered

@@ -1,5 +1,5 @@
 -- Lists that grow by one.
-use Rattle.std.proofs.Common.{◌≡◌, ℕ, List, [], ◌∷◌, ◌++◌, length, map, take, slice_get, Some, sym, ap}
+use Rattle.std.proofs.Common.{◌≡◌, ℕ, zero, suc, List, [], ◌∷◌, ◌++◌, length, map, take, drop, slice_get, Some, sym, ap}
 
 -- what was read so far are the first of the lines, and so it is with the next one
 pub grows : {A : Type 0} (f : A → List ℕ) (olds : List A) (a : A) (lines : List (List ℕ)) → map f olds ≡ take (length olds) lines → slice_get lines (length olds) ≡ Some (f a)
@@ -11,3 +11,15 @@ grows f (o ∷ olds) a (line ∷ lines) so at =
     let first : f o ≡ line = cc in
     let rest : map f olds ≡ take (length olds) lines = cc in
     rw first (ap (λ ls. line ∷ ls) (grows f olds a lines rest at))
+
+-- a list parts at one of its elements
+pub parted : {A B C : Type 0} (h : B → C) (f : A → B) (xs : List A) (n : ℕ) (x : A) → slice_get xs n ≡ Some x → map h (map f xs) ≡ map h (map f (take n xs)) ++ h (f x) ∷ map h (map f (drop (suc n) xs))
+parted h f [] n x at = absurd cc
+parted h f (y ∷ xs) zero x at = let same : y ≡ x = cc in ap (λ v. h (f v) ∷ map h (map f xs)) same
+parted h f (y ∷ xs) (suc n) x at = ap (λ l. h (f y) ∷ l) (parted h f xs n x at)
+
+-- one of its elements more
+pub one_longer : {A B C : Type 0} (h : B → C) (f : A → B) (xs : List A) (n : ℕ) (x : A) → slice_get xs n ≡ Some x → map h (map f (take n xs)) ++ h (f x) ∷ [] ≡ map h (map f (take (suc n) xs))
+one_longer h f [] n x at = absurd cc
+one_longer h f (y ∷ xs) zero x at = let same : y ≡ x = cc in ap (λ v. h (f v) ∷ []) (sym same)
+one_longer h f (y ∷ xs) (suc n) x at = ap (λ l. h (f y) ∷ l) (one_longer h f xs n x at)

@@ -11,15 +11,8 @@ use Rattle.sqlite.specs.Compile.{table_defined_by}
 use Rattle.sqlite_tied.specs.Compute.{everything}
 use Rattle.sqlite.specs.Listing.{understood, reads_listing}
 use Rattle.sqlite.proofs.Callers.{IsPlain, command_of, statement_of}
+pub use Rattle.ds_store_table.specs.Statements.{create_text, drop_text, insert_text, select_text}
 use Rattle.ds_store_table.specs.Tables.{journal, journal_schema, no_schema}
-
--- the statement that makes the table
-abbrev pub create_text : List ℕ
-create_text = codes "CREATE TABLE journal (number INTEGER PRIMARY KEY, line TEXT NOT NULL) STRICT"
-
--- the statement that inserts a line
-abbrev pub insert_text : List ℕ
-insert_text = codes "INSERT INTO journal (line) VALUES (?1)"
 
 -- a new row: its number is chosen, and stands in no column; its line is the parameter
 abbrev pub terms : List Term
@@ -34,10 +27,6 @@ create_is = (refl, refl, refl)
 pub create_plain : IsPlain (understood no_schema create_text)
 unfolding understood everything
 create_plain = (refl, refl)
-
--- the statement that takes the table away
-abbrev pub drop_text : List ℕ
-drop_text = codes "DROP TABLE journal"
 
 -- `drop_text` drops the table `journal`
 pub drop_is : command_of (understood journal_schema drop_text) ≡ DropTable 0
@@ -83,10 +72,6 @@ went (inr on) = on
 -- a value that two results give is one
 pub same_value : {B E : Type 0} {a b : B} → ◌≡◌ {A = Result B E} (Ok a) (Ok b) → a ≡ b
 same_value e = cc
-
--- the statement that reads the lines
-abbrev pub select_text : List ℕ
-select_text = codes "SELECT number, line FROM journal ORDER BY number"
 
 -- each row's number and line, by the number
 abbrev pub query : Query

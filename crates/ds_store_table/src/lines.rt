@@ -1,9 +1,10 @@
 //! The lines of a journal in a database: made, added to, and read.
 
-ghost use Rattle.std.specs.Prelude.{◌≡◌, ◌-◌, ◌++◌, ◌∷◌, [], ℕ, List, IfOk, IfSome, IsTrue, OnOk, Some, map, slice_get};
+ghost use Rattle.std.specs.Prelude.{◌≡◌, ◌-◌, ◌++◌, ◌∷◌, [], ℕ, List, IfErr, IfOk, IfSome, IsTrue, OnErr, OnOk, Some, map, slice_get};
 ghost use Rattle.std.specs.String.{string_bytes};
 ghost use Rattle.sqlite.specs.Held.{state};
 ghost use Rattle.sqlite.specs.State.{HasCleanDisk, Survives};
+ghost use Rattle.ds_store_table.specs.Statements.{FailsToKeep, RanInTurn, creation, insertion, removal};
 ghost use Rattle.ds_store_table.specs.Tables.{AreFirst, AreListed, Holds, HoldsInside, IsBare, IsListed, MayHold};
 
 use crate::table;
@@ -44,6 +45,7 @@ fn fill<S: Alter>(tx: &mut Transaction<'_, S>, lines: &[String]) -> Result<(), E
     ensures holds { HasCleanDisk (state S.Store tx.new.conn.now) → (before : List (List ℕ)) → HoldsInside before (state S.Store tx.old.conn.now)
         → OnOk result (HoldsInside (before ++ map string_bytes lines.now) (state S.Store tx.new.conn.now)) }
     ensures survives { Survives (state S.Store tx.old.conn.now) (state S.Store tx.new.conn.now) (λ _. ⊥) }
+    ensures runs { HasCleanDisk (state S.Store tx.new.conn.now) → IsTrue (state S.Store tx.old.conn.now).in_transaction → RanInTurn S.Store (map insertion (map string_bytes lines.now)) tx.old.conn.now tx.new.conn.now result }
 {
     for line in lines {
         table::add(tx, line.as_str())?;
@@ -57,6 +59,7 @@ fn fill_new<S: Alter>(tx: &mut Transaction<'_, S>, lines: &[String]) -> Result<(
     ensures holds { HasCleanDisk (state S.Store tx.new.conn.now) → IsTrue (state S.Store tx.old.conn.now).in_transaction → IsBare (state S.Store tx.old.conn.now).now
         → OnOk result (HoldsInside (map string_bytes lines.now) (state S.Store tx.new.conn.now)) }
     ensures survives { Survives (state S.Store tx.old.conn.now) (state S.Store tx.new.conn.now) (λ _. ⊥) }
+    ensures runs { HasCleanDisk (state S.Store tx.new.conn.now) → IsTrue (state S.Store tx.old.conn.now).in_transaction → RanInTurn S.Store (creation ∷ map insertion (map string_bytes lines.now)) tx.old.conn.now tx.new.conn.now result }
 {
     table::create(tx)?;
     fill(tx, lines)
@@ -69,6 +72,8 @@ pub fn make<S: Alter>(conn: &mut Connection<S>, lines: &[String]) -> Result<(), 
         → OnOk result (Holds (map string_bytes lines.now) (state S.Store conn.new).now × Holds (map string_bytes lines.now) (state S.Store conn.new).committed) }
     ensures crash { IsBare (state S.Store conn.old).now → Survives (state S.Store conn.old) (state S.Store conn.new) (MayHold (map string_bytes lines.now)) }
     ensures clean { HasCleanDisk (state S.Store conn.new) → HasCleanDisk (state S.Store conn.old) }
+    ensures err { HasCleanDisk (state S.Store conn.new) → IfErr result (FailsToKeep S.Store (creation ∷ map insertion (map string_bytes lines.now)) conn.old conn.new) }
+    ensures undone { HasCleanDisk (state S.Store conn.new) → OnErr result (IsTrue (state S.Store conn.new).is_open → (state S.Store conn.new).now ≡ (state S.Store conn.old).now) }
 {
     if !conn.is_autocommit() {
         return Err(IN_TRANSACTION);
@@ -86,6 +91,8 @@ pub fn append<S: Alter>(conn: &mut Connection<S>, lines: &[String]) -> Result<()
     ensures crash { (before : List (List ℕ)) → Holds before (state S.Store conn.old).now
         → Survives (state S.Store conn.old) (state S.Store conn.new) (MayHold (before ++ map string_bytes lines.now)) }
     ensures clean { HasCleanDisk (state S.Store conn.new) → HasCleanDisk (state S.Store conn.old) }
+    ensures err { HasCleanDisk (state S.Store conn.new) → IfErr result (FailsToKeep S.Store (map insertion (map string_bytes lines.now)) conn.old conn.new) }
+    ensures undone { HasCleanDisk (state S.Store conn.new) → OnErr result (IsTrue (state S.Store conn.new).is_open → (state S.Store conn.new).now ≡ (state S.Store conn.old).now) }
 {
     if !conn.is_autocommit() {
         return Err(IN_TRANSACTION);
@@ -101,6 +108,7 @@ fn fill_anew<S: Alter>(tx: &mut Transaction<'_, S>, lines: &[String]) -> Result<
     ensures holds { HasCleanDisk (state S.Store tx.new.conn.now) → (before : List (List ℕ)) → HoldsInside before (state S.Store tx.old.conn.now)
         → OnOk result (HoldsInside (map string_bytes lines.now) (state S.Store tx.new.conn.now)) }
     ensures survives { Survives (state S.Store tx.old.conn.now) (state S.Store tx.new.conn.now) (λ _. ⊥) }
+    ensures runs { HasCleanDisk (state S.Store tx.new.conn.now) → IsTrue (state S.Store tx.old.conn.now).in_transaction → RanInTurn S.Store (removal ∷ creation ∷ map insertion (map string_bytes lines.now)) tx.old.conn.now tx.new.conn.now result }
 {
     table::remove(tx)?;
     fill_new(tx, lines)
@@ -114,6 +122,8 @@ pub fn replace<S: Alter>(conn: &mut Connection<S>, lines: &[String]) -> Result<(
     ensures crash { (before : List (List ℕ)) → Holds before (state S.Store conn.old).now
         → Survives (state S.Store conn.old) (state S.Store conn.new) (MayHold (map string_bytes lines.now)) }
     ensures clean { HasCleanDisk (state S.Store conn.new) → HasCleanDisk (state S.Store conn.old) }
+    ensures err { HasCleanDisk (state S.Store conn.new) → IfErr result (FailsToKeep S.Store (removal ∷ creation ∷ map insertion (map string_bytes lines.now)) conn.old conn.new) }
+    ensures undone { HasCleanDisk (state S.Store conn.new) → OnErr result (IsTrue (state S.Store conn.new).is_open → (state S.Store conn.new).now ≡ (state S.Store conn.old).now) }
 {
     if !conn.is_autocommit() {
         return Err(IN_TRANSACTION);

@@ -3,6 +3,7 @@
 ghost use Rattle.std.specs.Prelude.{◌≡◌, ◌++◌, ◌∷◌, [], ℕ, List, IfOk, IsTrue, OnOk};
 ghost use Rattle.sqlite.specs.Held.{state};
 ghost use Rattle.sqlite.specs.State.{HasCleanDisk, Survives};
+ghost use Rattle.ds_store_table.specs.Statements.{Ran, creation, insertion, removal};
 ghost use Rattle.ds_store_table.specs.Tables.{AreListed, Holds, HoldsInside, IsBare};
 
 use sqlite::{Alter, Connection, Error, Row, Transaction, params};
@@ -13,6 +14,7 @@ pub(crate) fn create<S: Alter>(tx: &mut Transaction<'_, S>) -> Result<usize, Err
     ensures holds { HasCleanDisk (state S.Store tx.new.conn.now) → IsTrue (state S.Store tx.old.conn.now).in_transaction → IsBare (state S.Store tx.old.conn.now).now
         → OnOk result (HoldsInside [] (state S.Store tx.new.conn.now)) }
     ensures survives { Survives (state S.Store tx.old.conn.now) (state S.Store tx.new.conn.now) (λ _. ⊥) }
+    ensures runs { HasCleanDisk (state S.Store tx.new.conn.now) → IsTrue (state S.Store tx.old.conn.now).in_transaction → Ran S.Store creation tx.old.conn.now tx.new.conn.now result }
 {
     tx.execute(
         "CREATE TABLE journal (number INTEGER PRIMARY KEY, line TEXT NOT NULL) STRICT",
@@ -26,6 +28,7 @@ pub(crate) fn remove<S: Alter>(tx: &mut Transaction<'_, S>) -> Result<usize, Err
     ensures bare { HasCleanDisk (state S.Store tx.new.conn.now) → (lines : List (List ℕ)) → HoldsInside lines (state S.Store tx.old.conn.now)
         → OnOk result (IsTrue (state S.Store tx.new.conn.now).in_transaction × IsBare (state S.Store tx.new.conn.now).now) }
     ensures survives { Survives (state S.Store tx.old.conn.now) (state S.Store tx.new.conn.now) (λ _. ⊥) }
+    ensures runs { HasCleanDisk (state S.Store tx.new.conn.now) → IsTrue (state S.Store tx.old.conn.now).in_transaction → Ran S.Store removal tx.old.conn.now tx.new.conn.now result }
 {
     tx.execute("DROP TABLE journal", &[])
 }
@@ -36,6 +39,7 @@ pub(crate) fn add<S: Alter>(tx: &mut Transaction<'_, S>, line: &str) -> Result<u
     ensures holds { HasCleanDisk (state S.Store tx.new.conn.now) → (lines : List (List ℕ)) → HoldsInside lines (state S.Store tx.old.conn.now)
         → OnOk result (HoldsInside (lines ++ line.now ∷ []) (state S.Store tx.new.conn.now)) }
     ensures survives { Survives (state S.Store tx.old.conn.now) (state S.Store tx.new.conn.now) (λ _. ⊥) }
+    ensures runs { HasCleanDisk (state S.Store tx.new.conn.now) → IsTrue (state S.Store tx.old.conn.now).in_transaction → Ran S.Store (insertion line.now) tx.old.conn.now tx.new.conn.now result }
 {
     tx.execute("INSERT INTO journal (line) VALUES (?1)", params![line])
 }

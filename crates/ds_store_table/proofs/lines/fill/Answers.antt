@@ -1,16 +1,48 @@
-use Rattle.std.proofs.Common.{refl, sym, subst, append-nil}
+use Rattle.std.proofs.Common.{◌≡◌, ◌++◌, ◌∷◌, [], ◌+◌, ap, arith, rules, add-one, append-nil, drop, map, refl, slice_get, Some, subst, suc, sym, take, Err, Ok}
+use Rattle.std.proofs.lemmas.Grind.{common_steps}
+use Rattle.std.specs.String.{string_bytes}
 use Rattle.sqlite.specs.Held.{state}
 use Rattle.sqlite.proofs.StateLemmas.{survives_then}
 use Rattle.ds_store_table.specs.Tables.{HoldsInside}
+use Rattle.ds_store_table.specs.Statements.{Ran, RanInTurn, insertion}
 use Rattle.ds_store_table.proofs.Crashes.{stays}
+use Rattle.ds_store_table.proofs.Failing.{goes_on, one_failed, one_ran, then_ran}
+use Rattle.ds_store_table.proofs.Lists.{one_longer, parted}
 use Rattle.ds_store_table.proofs.lines.fill.Goals as goal
 
 pub loop-line-init : goal.loop-line-init
 loop-line-init g c =
     let s = state g.S.Store c.args.tx.now.conn.now in
-    (refl, λ clean before has. subst (λ ls. HoldsInside ls s) (sym (append-nil before)) has, stays s)
+    (refl, λ clean before has. subst (λ ls. HoldsInside ls s) (sym (append-nil before)) has, stays s, λ clean within. (refl, refl))
 
 pub returns-in_err-add-clause-survives : goal.returns-in_err-add-clause-survives
 returns-in_err-add-clause-survives g c =
     survives_then (state g.S.Store c.args.tx.now.conn.now) (state g.S.Store c.loop-line.tx.conn.now) (state g.S.Store c.add.new.tx.conn.now) _ _ (λ _. ⊥) (λ _ db none. none) (λ _ db none. none)
     c.loop-line.invariant.2 c.add.ensures.survives
+
+pub returns-in_err-add-clause-runs : goal.returns-in_err-add-clause-runs
+returns-in_err-add-clause-runs g c clean within =
+    let lines = c.args.lines.now in
+    let i = c.loop-line.line-index in
+    let line = c.line-item.result in
+    let at : slice_get lines i ≡ Some line = search rules in
+    let before = c.loop-line.invariant.3 (omega (arith, c.add.ensures.survives.clean)) within in
+    let inside = goes_on g.S.Store _ _ _ before within in
+    let failed = c.in_err-add.ensures.runs clean inside in
+    ?failed
+
+pub loop-line-preserved : goal.loop-line-preserved
+loop-line-preserved g c =
+    let lines = c.args.lines.now in
+    let i = c.loop-line.line-index in
+    let line = c.line-item.result in
+    let at : slice_get lines i ≡ Some line = search rules in (
+      search rules,
+      ?holds,
+      ?survives,
+      λ clean within.
+          let before = c.loop-line.invariant.3 (omega (arith, c.add.ensures.survives.clean)) within in
+          let inside = goes_on g.S.Store _ _ _ before within in
+          let ran = c.in_ok-add.ensures.runs clean inside in
+          ?ran,
+    )
