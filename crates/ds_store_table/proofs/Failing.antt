@@ -1,5 +1,5 @@
 -- Statements that are run in turn.
-use Rattle.std.proofs.Common.{◌≡◌, ◌⊎◌, inl, inr, ◌++◌, ◌∷◌, [], ◌∙◌, ℕ, List, Ok, Err, Result, IsTrue, ap, refl, subst, sym}
+use Rattle.std.proofs.Common.{◌≡◌, ◌⊎◌, inl, inr, ◌++◌, ◌∷◌, [], ◌∙◌, ℕ, List, Ok, Err, Result, IsTrue, ap, refl, subst, sym, true}
 use Rattle.sqlite.specs.Store.{Ghosts}
 use Rattle.sqlite.specs.declared.error.Error.{Error}
 use Rattle.sqlite.specs.Held.{Held, state}
@@ -32,7 +32,7 @@ module _ {S : Type 0} (g : Ghosts S) where
     go : ExecutesInside 0 one.text one.params (state g old) (state g new) (Err e) → Keeps (state g old) (state g new)
     go (inl (_, inl same)) = record { was_open = λ _. same.0.was_open; committed = λ _. same.0.committed_is }
     go (inl (_, inr back)) = record { was_open = back.was_open; committed = λ shown. (back.undone shown).1 }
-    go (inr (_, (_, same))) = record { was_open = λ _. same.0.was_open; committed = λ _. same.0.committed_is }
+    go (inr (_, _, same)) = record { was_open = λ _. same.0.was_open; committed = λ _. same.0.committed_is }
 
   keeps : (all : List Statement) (old new : Held S) (r : Result (Unit {0}) Error) → RanInTurn g all old new r → Keeps (state g old) (state g new)
   keeps [] old new r ran = record { was_open = λ shown. subst (λ h. IsTrue (state g h).is_open) ran.1 shown; committed = λ _. ap (λ h. (state g h).committed) ran.1 }

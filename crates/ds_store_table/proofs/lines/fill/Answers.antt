@@ -1,5 +1,6 @@
 use Rattle.std.proofs.Common.{◌≡◌, ◌++◌, ◌∷◌, [], ◌+◌, ap, arith, rules, add-one, append-nil, drop, map, refl, slice_get, Some, subst, suc, sym, take, Err, Ok}
 use Rattle.std.proofs.lemmas.Grind.{common_steps}
+use Rattle.std.proofs.lemmas.Result.{err_from_is_err_and}
 use Rattle.std.specs.String.{string_bytes}
 use Rattle.sqlite.specs.Held.{state}
 use Rattle.sqlite.proofs.StateLemmas.{survives_then}
@@ -25,24 +26,27 @@ returns-in_err-add-clause-runs g c clean within =
     let lines = c.args.lines.now in
     let i = c.loop-line.line-index in
     let line = c.line-item.result in
-    let at : slice_get lines i ≡ Some line = search rules in
+    let at : slice_get lines i ≡ Some line = c.line-item.is in
     let before = c.loop-line.invariant.3 (omega (arith, c.add.ensures.survives.clean)) within in
     let inside = goes_on g.S.Store _ _ _ before within in
-    let failed = c.in_err-add.ensures.runs clean inside in
-    ?failed
+    let failed = rw c.as_str.ensures.value at (c.in_err-add.ensures.runs clean inside) in
+    let all = then_ran g.S.Store _ _ _ _ _ _ before (one_failed g.S.Store _ (map insertion (map string_bytes (drop (suc i) lines))) _ _ _ failed) in
+    let p = err_from_is_err_and c.from_residual.result c.from_residual.ensures.1 in
+    rw (p.1, p.2, parted insertion string_bytes lines i line at) all
 
 pub loop-line-preserved : goal.loop-line-preserved
 loop-line-preserved g c =
     let lines = c.args.lines.now in
     let i = c.loop-line.line-index in
     let line = c.line-item.result in
-    let at : slice_get lines i ≡ Some line = search rules in (
+    let at : slice_get lines i ≡ Some line = c.line-item.is in (
       search rules,
       ?holds,
       ?survives,
       λ clean within.
           let before = c.loop-line.invariant.3 (omega (arith, c.add.ensures.survives.clean)) within in
           let inside = goes_on g.S.Store _ _ _ before within in
-          let ran = c.in_ok-add.ensures.runs clean inside in
-          ?ran,
+          let ran = rw c.as_str.ensures.value at (c.in_ok-add.ensures.runs clean inside) in
+          let all = then_ran g.S.Store _ _ _ _ _ _ before (one_ran g.S.Store _ _ _ _ ran) in
+          subst (λ them. RanInTurn g.S.Store them c.args.tx.now.conn.now c.add.new.tx.conn.now (Ok tt)) (one_longer insertion string_bytes lines i line at) all,
     )
