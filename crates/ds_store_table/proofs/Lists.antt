@@ -1,5 +1,5 @@
 -- Lists that grow by one.
-use Rattle.std.proofs.Common.{◌≡◌, ℕ, zero, suc, List, [], ◌∷◌, ◌++◌, length, map, take, drop, slice_get, Some, sym, ap}
+use Rattle.std.proofs.Common.{◌≡◌, ℕ, zero, suc, List, [], ◌∷◌, ◌++◌, length, map, take, drop, get_or, slice_get, Some, sym, ap, ◌<◌, arith}
 
 -- what was read so far are the first of the lines, and so it is with the next one
 pub grows : {A : Type 0} (f : A → List ℕ) (olds : List A) (a : A) (lines : List (List ℕ)) → map f olds ≡ take (length olds) lines → slice_get lines (length olds) ≡ Some (f a)
@@ -23,3 +23,9 @@ pub one_longer : {A B C : Type 0} (h : B → C) (f : A → B) (xs : List A) (n :
 one_longer h f [] n x at = absurd cc
 one_longer h f (y ∷ xs) zero x at = let same : y ≡ x = cc in ap (λ v. h (f v) ∷ []) (sym same)
 one_longer h f (y ∷ xs) (suc n) x at = ap (λ l. h (f y) ∷ l) (one_longer h f xs n x at)
+
+-- the element that a loop goes over stands there
+pub there : {A : Type 0} (xs : List A) (n : ℕ) (x : A) → n < length xs → x ≡ get_or xs n x → slice_get xs n ≡ Some x
+there [] n x low is = absurd (omega (arith, low))
+there (y ∷ xs) zero x low is = ap Some (sym is)
+there (y ∷ xs) (suc n) x low is = there xs n x (omega (arith, low)) is

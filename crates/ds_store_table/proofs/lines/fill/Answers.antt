@@ -8,7 +8,7 @@ use Rattle.ds_store_table.specs.Tables.{HoldsInside}
 use Rattle.ds_store_table.specs.Statements.{Ran, RanInTurn, insertion}
 use Rattle.ds_store_table.proofs.Crashes.{stays}
 use Rattle.ds_store_table.proofs.Failing.{goes_on, one_failed, one_ran, then_ran}
-use Rattle.ds_store_table.proofs.Lists.{one_longer, parted}
+use Rattle.ds_store_table.proofs.Lists.{one_longer, parted, there}
 use Rattle.ds_store_table.proofs.lines.fill.Goals as goal
 
 pub loop-line-init : goal.loop-line-init
@@ -26,7 +26,7 @@ returns-in_err-add-clause-runs g c clean within =
     let lines = c.args.lines.now in
     let i = c.loop-line.line-index in
     let line = c.line-item.result in
-    let at : slice_get lines i ≡ Some line = c.line-item.is in
+    let at : slice_get lines i ≡ Some line = there lines i line (search rules) c.line-item.is in
     let before = c.loop-line.invariant.3 (omega (arith, c.add.ensures.survives.clean)) within in
     let inside = goes_on g.S.Store _ _ _ before within in
     let failed = rw c.as_str.ensures.value at (c.in_err-add.ensures.runs clean inside) in
@@ -39,7 +39,7 @@ loop-line-preserved g c =
     let lines = c.args.lines.now in
     let i = c.loop-line.line-index in
     let line = c.line-item.result in
-    let at : slice_get lines i ≡ Some line = c.line-item.is in (
+    let at : slice_get lines i ≡ Some line = there lines i line (search rules) c.line-item.is in (
       search rules,
       ?holds,
       ?survives,
