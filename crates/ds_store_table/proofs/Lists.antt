@@ -24,6 +24,12 @@ one_longer h f [] n x at = absurd cc
 one_longer h f (y ∷ xs) zero x at = let same : y ≡ x = cc in ap (λ v. h (f v) ∷ []) (sym same)
 one_longer h f (y ∷ xs) (suc n) x at = ap (λ l. h (f y) ∷ l) (one_longer h f xs n x at)
 
+-- the same, mapped once
+pub one_more : {A B : Type 0} (f : A → B) (xs : List A) (n : ℕ) (x : A) → slice_get xs n ≡ Some x → map f (take n xs) ++ f x ∷ [] ≡ map f (take (suc n) xs)
+one_more f [] n x at = absurd cc
+one_more f (y ∷ xs) zero x at = let same : y ≡ x = cc in ap (λ v. f v ∷ []) (sym same)
+one_more f (y ∷ xs) (suc n) x at = ap (λ l. f y ∷ l) (one_more f xs n x at)
+
 -- the element that a loop goes over stands there
 pub there : {A : Type 0} (xs : List A) (n : ℕ) (x : A) → n < length xs → x ≡ get_or xs n x → slice_get xs n ≡ Some x
 there [] n x low is = absurd (omega (arith, low))
