@@ -1,5 +1,5 @@
 -- Statements that are run in turn.
-use Rattle.std.proofs.Common.{◌≡◌, ◌⊎◌, inl, inr, ◌++◌, ◌∷◌, [], ◌∙◌, ℕ, List, Ok, Err, Result, IsTrue, ap, refl, subst, sym, true}
+use Rattle.std.proofs.Common.{◌≡◌, inl, inr, ◌++◌, ◌∷◌, [], ◌∙◌, ℕ, List, Ok, Err, Result, IsTrue, ap, refl, subst, sym, true}
 use Rattle.sqlite.specs.Store.{Ghosts}
 use Rattle.sqlite.specs.declared.error.Error.{Error}
 use Rattle.sqlite.specs.Held.{Held, state}

@@ -1,11 +1,10 @@
-use Rattle.std.proofs.Common.{◌≡◌, ◌++◌, ◌∷◌, [], ◌+◌, ◌∙◌, ap, append_assoc, arith, rules, add-one, append-nil, drop, map, refl, slice_get, Some, subst, suc, sym, take, Err, Ok}
-use Rattle.std.proofs.lemmas.Grind.{common_steps}
+use Rattle.std.proofs.Common.{◌≡◌, ◌++◌, ◌∷◌, [], ◌∙◌, ap, append_assoc, arith, rules, add-one, append-nil, drop, map, refl, slice_get, Some, subst, suc, sym, take, Ok}
 use Rattle.std.proofs.lemmas.Result.{err_from_is_err_and}
 use Rattle.std.specs.String.{string_bytes}
 use Rattle.sqlite.specs.Held.{state}
 use Rattle.sqlite.proofs.StateLemmas.{survives_then}
 use Rattle.ds_store_table.specs.Tables.{HoldsInside}
-use Rattle.ds_store_table.specs.Statements.{Ran, RanInTurn, insertion}
+use Rattle.ds_store_table.specs.Statements.{RanInTurn, insertion}
 use Rattle.ds_store_table.proofs.Crashes.{stays}
 use Rattle.ds_store_table.proofs.Failing.{goes_on, one_failed, one_ran, then_ran}
 use Rattle.ds_store_table.proofs.Lists.{one_longer, one_more, parted, there}
@@ -46,7 +45,7 @@ loop-line-preserved g c =
           let now = rw c.as_str.ensures.value at (c.in_ok-add.ensures.holds clean (before ++ map string_bytes (take i lines)) was) in
           rw (add-one i) (subst (λ ls. HoldsInside ls (state g.S.Store c.add.new.tx.conn.now)) (append_assoc before (map string_bytes (take i lines)) (string_bytes line ∷ []) ∙ ap (λ ls. before ++ ls) (one_more string_bytes lines i line at)) now),
       survives_then (state g.S.Store c.args.tx.now.conn.now) (state g.S.Store c.loop-line.tx.conn.now) (state g.S.Store c.add.new.tx.conn.now) _ _ (λ _. ⊥) (λ _ db none. none) (λ _ db none. none)
-      c.loop-line.invariant.2 c.add.ensures.survives,
+          c.loop-line.invariant.2 c.add.ensures.survives,
       λ clean within.
           let before = c.loop-line.invariant.3 (omega (arith, c.add.ensures.survives.clean)) within in
           let inside = goes_on g.S.Store _ _ _ before within in
