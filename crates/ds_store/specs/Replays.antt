@@ -9,7 +9,7 @@ use Rattle.ds_shared_seats.specs.declared.seat.Seat.{Seat}
 use Rattle.ds_shared_seats.specs.Calls.{Edits}
 use Rattle.ds_state.specs.declared.answer.EditEnd.{EditEnd}
 use Rattle.ds_state.specs.declared.answer.EditEnd.TheVariants as ends
-use Rattle.ds_store.specs.Stores.{STEPS_MOST}
+use Rattle.ds_store.specs.Stores.{NUMBER_MOST, STEPS_MOST}
 use Rattle.ds_store_journal.specs.Journals.{AskedFor, edit_in}
 use Rattle.ds_store_journal.specs.declared.fault.JournalFault.{JournalFault}
 use Rattle.ds_store_journal.specs.declared.fault.JournalFault.TheVariants as faults
@@ -32,7 +32,7 @@ pub record MissesEdit (s : SharedSheet) (old new : List Seat) (asked : AskedFor)
 abbrev pub IsUnmade : List ℕ → SharedSheet → List Seat → List Seat → AskedFor → JournalFault → Type 0
 IsUnmade counts s old new asked fault =
     let number = slice_index_or counts asked.process 0 in
-    ((number ≡ 18446744073709551615) × (fault ≡ faults.NoEdit)) ⊎ MissesEdit s old new asked number fault
+    ((number ≡ NUMBER_MOST) × (fault ≡ faults.NoEdit)) ⊎ MissesEdit s old new asked number fault
 
 -- the line is not followed, for this fault: it is neither skipped nor an edit of the sheet, or its edit is not made
 abbrev pub IsUnfollowed : Layout → List ℕ → SharedSheet → List Seat → List Seat → List ℕ → JournalFault → Type 0

@@ -16,6 +16,10 @@ use Rattle.sqlite.specs.Tree.{Trees}
 
 -- ---- the sheet
 
+-- the largest number of a process's edit through all sheets
+abbrev pub NUMBER_MOST : ℕ
+NUMBER_MOST = 18446744073709551615
+
 -- how many steps a call may take that no fuse stops
 abbrev pub STEPS_MOST : ℕ
 STEPS_MOST = 18446744073709551615
