@@ -1,7 +1,7 @@
 //! A store: a journal in a database.
 
 ghost use Rattle.std.specs.List.{list_any};
-ghost use Rattle.std.specs.Prelude.{◌≡◌, ◌++◌, ◌∷◌, [], ℕ, List, nat_le, true, length, IfOk, IsErr, None, OnOk, map, option_map};
+ghost use Rattle.std.specs.Prelude.{◌≡◌, ◌++◌, ◌∷◌, [], ℕ, List, nat_le, true, length, IfOk, IsErr, IsTrue, None, OnErr, OnOk, map, option_map};
 ghost use Rattle.std.specs.String.{string_bytes};
 ghost use Rattle.sqlite.specs.Held.{state};
 ghost use Rattle.sqlite.specs.State.{HasCleanDisk, Survives};
@@ -239,7 +239,8 @@ impl<S: Alter + Drop> Store<S> {
 
     /// Keeps edits and keys, in their order: the lines of the edits, those of the keys, and one with the sum of all lines
     /// until then are committed together, all or none, when it returns. Each edit has the next number of its process, and
-    /// each line was read again. A key that the store has is the fault `Edit(KeyAgain)`: nothing is committed then.
+    /// each line was read again. A key that the store has is the fault `Edit(KeyAgain)`. After an error nothing was committed:
+    /// the database holds what it held, where the connection is still open.
     pub fn keep_all(
         &mut self,
         alloc: Global,
@@ -259,6 +260,7 @@ impl<S: Alter + Drop> Store<S> {
         ensures crash { (held : List (List ℕ)) (before : List KeptEdit) → GoesOn self.old.layout self.old.counts.counts.items held before → IsAt self.old.sums held → Holds held (state S.Store self.old.conn).now
             → Survives (state S.Store self.old.conn) (state S.Store self.new.conn) (MayKeep self.old.layout held before edits.items keys.items) }
         ensures clean { HasCleanDisk (state S.Store self.new.conn) → HasCleanDisk (state S.Store self.old.conn) }
+        ensures undone { HasCleanDisk (state S.Store self.new.conn) → OnErr result (IsTrue (state S.Store self.new.conn).is_open → (state S.Store self.new.conn).now ≡ (state S.Store self.old.conn).now) }
     {
         let texts = lines_to_keep(
             alloc,
@@ -293,7 +295,7 @@ impl<S: Alter + Drop> Store<S> {
 
     /// Goes over to a new sheet with the texts of the one that these lines have made, which are those that it holds: they
     /// are replaced, all or none, when it returns. Each process that may be joined stands as it stood, and the last 65536
-    /// keys are of what they were.
+    /// keys are of what they were. After an error the database holds what it held, where the connection is still open.
     pub fn go_over(&mut self, alloc: Global, held: &[String]) -> Result<NextSheet, StoreFault>
         ensures leads { IfOk result (λ next. Leads self.new.layout self.new.counts.counts.items next.sheet (map string_bytes next.lines.items)) }
         ensures summed { IfOk result (λ next. IsAt self.new.sums (map string_bytes next.lines.items)) }
@@ -304,6 +306,7 @@ impl<S: Alter + Drop> Store<S> {
             → Holds (map string_bytes next.lines.items) (state S.Store self.new.conn).now × Holds (map string_bytes next.lines.items) (state S.Store self.new.conn).committed) }
         ensures crash { Holds (map string_bytes held.now) (state S.Store self.old.conn).now → Survives (state S.Store self.old.conn) (state S.Store self.new.conn) (MayGoOver (map string_bytes held.now)) }
         ensures clean { HasCleanDisk (state S.Store self.new.conn) → HasCleanDisk (state S.Store self.old.conn) }
+        ensures undone { HasCleanDisk (state S.Store self.new.conn) → OnErr result (IsTrue (state S.Store self.new.conn).is_open → (state S.Store self.new.conn).now ≡ (state S.Store self.old.conn).now) }
     {
         let lines = next_lines(alloc, held, "the sheet before")?;
         let Replay {
