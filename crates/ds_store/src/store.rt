@@ -258,6 +258,7 @@ impl<S: Alter + Drop> Store<S> {
             → Holds (held ++ lines) (state S.Store self.new.conn).now × Holds (held ++ lines) (state S.Store self.new.conn).committed)) }
         ensures crash { (held : List (List ℕ)) (before : List KeptEdit) → GoesOn self.old.layout self.old.counts.counts.items held before → IsAt self.old.sums held → Holds held (state S.Store self.old.conn).now
             → Survives (state S.Store self.old.conn) (state S.Store self.new.conn) (MayKeep self.old.layout held before edits.items keys.items) }
+        ensures clean { HasCleanDisk (state S.Store self.new.conn) → HasCleanDisk (state S.Store self.old.conn) }
     {
         let texts = lines_to_keep(
             alloc,
@@ -277,6 +278,7 @@ impl<S: Alter + Drop> Store<S> {
         ensures lines { HasCleanDisk (state S.Store self.new.conn) → (held : List (List ℕ)) → Holds held (state S.Store self.old.conn).now
             → IfOk result (λ lines. (map string_bytes lines.items ≡ held) × Holds held (state S.Store self.new.conn).now) }
         ensures rest { (self.new.layout ≡ self.old.layout) × (self.new.joins ≡ self.old.joins) × (self.new.counts ≡ self.old.counts) × (self.new.sums ≡ self.old.sums) × (self.new.keys ≡ self.old.keys) }
+        ensures clean { HasCleanDisk (state S.Store self.new.conn) → HasCleanDisk (state S.Store self.old.conn) }
     {
         let lines = lines::read(alloc, &mut self.conn)?;
         Ok(lines)
@@ -301,6 +303,7 @@ impl<S: Alter + Drop> Store<S> {
         ensures holds { IfOk result (λ next. HasCleanDisk (state S.Store self.new.conn) → Holds (map string_bytes held.now) (state S.Store self.old.conn).now
             → Holds (map string_bytes next.lines.items) (state S.Store self.new.conn).now × Holds (map string_bytes next.lines.items) (state S.Store self.new.conn).committed) }
         ensures crash { Holds (map string_bytes held.now) (state S.Store self.old.conn).now → Survives (state S.Store self.old.conn) (state S.Store self.new.conn) (MayGoOver (map string_bytes held.now)) }
+        ensures clean { HasCleanDisk (state S.Store self.new.conn) → HasCleanDisk (state S.Store self.old.conn) }
     {
         let lines = next_lines(alloc, held, "the sheet before")?;
         let Replay {

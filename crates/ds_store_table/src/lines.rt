@@ -68,6 +68,7 @@ pub fn make<S: Alter>(conn: &mut Connection<S>, lines: &[String]) -> Result<(), 
     ensures made { HasCleanDisk (state S.Store conn.new) → IsBare (state S.Store conn.old).now
         → OnOk result (Holds (map string_bytes lines.now) (state S.Store conn.new).now × Holds (map string_bytes lines.now) (state S.Store conn.new).committed) }
     ensures crash { IsBare (state S.Store conn.old).now → Survives (state S.Store conn.old) (state S.Store conn.new) (MayHold (map string_bytes lines.now)) }
+    ensures clean { HasCleanDisk (state S.Store conn.new) → HasCleanDisk (state S.Store conn.old) }
 {
     if !conn.is_autocommit() {
         return Err(IN_TRANSACTION);
@@ -84,6 +85,7 @@ pub fn append<S: Alter>(conn: &mut Connection<S>, lines: &[String]) -> Result<()
         → OnOk result (Holds (before ++ map string_bytes lines.now) (state S.Store conn.new).now × Holds (before ++ map string_bytes lines.now) (state S.Store conn.new).committed) }
     ensures crash { (before : List (List ℕ)) → Holds before (state S.Store conn.old).now
         → Survives (state S.Store conn.old) (state S.Store conn.new) (MayHold (before ++ map string_bytes lines.now)) }
+    ensures clean { HasCleanDisk (state S.Store conn.new) → HasCleanDisk (state S.Store conn.old) }
 {
     if !conn.is_autocommit() {
         return Err(IN_TRANSACTION);
@@ -111,6 +113,7 @@ pub fn replace<S: Alter>(conn: &mut Connection<S>, lines: &[String]) -> Result<(
         → OnOk result (Holds (map string_bytes lines.now) (state S.Store conn.new).now × Holds (map string_bytes lines.now) (state S.Store conn.new).committed) }
     ensures crash { (before : List (List ℕ)) → Holds before (state S.Store conn.old).now
         → Survives (state S.Store conn.old) (state S.Store conn.new) (MayHold (map string_bytes lines.now)) }
+    ensures clean { HasCleanDisk (state S.Store conn.new) → HasCleanDisk (state S.Store conn.old) }
 {
     if !conn.is_autocommit() {
         return Err(IN_TRANSACTION);
@@ -144,8 +147,9 @@ fn text_at(row: &Row, number: usize) -> Result<Option<String>, LinesFault>
 /// The lines that are there, in their order. They are those of the table, all of them; where one of the numbers from 1 on
 /// is missing, it is named.
 pub fn read<S: Alter>(alloc: Global, conn: &mut Connection<S>) -> Result<Vec<String>, LinesFault>
-    ensures { HasCleanDisk (state S.Store conn.new) → (lines : List (List ℕ)) → Holds lines (state S.Store conn.old).now
+    ensures all { HasCleanDisk (state S.Store conn.new) → (lines : List (List ℕ)) → Holds lines (state S.Store conn.old).now
         → IfOk result (λ texts. (map string_bytes texts.items ≡ lines) × Holds lines (state S.Store conn.new).now) }
+    ensures clean { HasCleanDisk (state S.Store conn.new) → HasCleanDisk (state S.Store conn.old) }
 {
     let FirstLines { lines, missing } = read_first(alloc, conn)?;
     match missing {
@@ -159,8 +163,9 @@ pub fn read_first<S: Alter>(
     alloc: Global,
     conn: &mut Connection<S>,
 ) -> Result<FirstLines, LinesFault>
-    ensures { HasCleanDisk (state S.Store conn.new) → (lines : List (List ℕ)) → Holds lines (state S.Store conn.old).now
+    ensures first { HasCleanDisk (state S.Store conn.new) → (lines : List (List ℕ)) → Holds lines (state S.Store conn.old).now
         → IfOk result (λ first. AreFirst lines first × Holds lines (state S.Store conn.new).now) }
+    ensures clean { HasCleanDisk (state S.Store conn.new) → HasCleanDisk (state S.Store conn.old) }
 {
     let rows = table::rows(conn)?;
     first_of(alloc, &rows)

@@ -42,8 +42,9 @@ pub(crate) fn add<S: Alter>(tx: &mut Transaction<'_, S>, line: &str) -> Result<u
 
 /// All lines, by their numbers: of each its number and its text.
 pub(crate) fn rows<S: Alter>(conn: &mut Connection<S>) -> Result<Vec<Row>, Error>
-    ensures { HasCleanDisk (state S.Store conn.new) → (lines : List (List ℕ)) → Holds lines (state S.Store conn.old).now
+    ensures shows { HasCleanDisk (state S.Store conn.new) → (lines : List (List ℕ)) → Holds lines (state S.Store conn.old).now
         → IfOk result (λ rows. AreListed lines rows.items × Holds lines (state S.Store conn.new).now) }
+    ensures clean { HasCleanDisk (state S.Store conn.new) → HasCleanDisk (state S.Store conn.old) }
 {
     conn.query_all("SELECT number, line FROM journal ORDER BY number", &[])
 }

@@ -3,6 +3,6 @@ use Rattle.sqlite.specs.Held.{state}
 use Rattle.ds_store_table.proofs.Reading.{lists}
 use Rattle.ds_store_table.proofs.table.rows.Goals as goal
 
-pub returns : goal.returns
-returns g c clean lines has =
+pub returns-clause-shows : goal.returns-clause-shows
+returns-clause-shows g c clean lines has =
     IfOk-weaker c.query_all.result _ _ (λ rows h. lists (state g.S.Store c.args.conn.now) (state g.S.Store c.query_all.new.self) rows.items lines has h) (c.query_all.ensures.ok clean)
