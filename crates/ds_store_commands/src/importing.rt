@@ -1,8 +1,7 @@
 //! `dsheet import`.
 
-ghost use Rattle.std.specs.Prelude.{◌≡◌, IfOk, IfSome, map};
+ghost use Rattle.std.specs.Prelude.{◌≡◌, IfOk, map};
 ghost use Rattle.std.specs.String.{string_bytes};
-ghost use Rattle.std.specs.Str.Lines.{lines};
 
 use crate::making::make_store;
 use crate::stores::{compacted, tell_fault};
@@ -22,86 +21,33 @@ use ds_store::summing::with_sum;
 use sqlite::Connection;
 use std::alloc::{AllocError, Global};
 use std::fs::{File, Files};
-use std::io::Read;
 use std::str;
 
-// The lines of a text, where they stand in it.
-fn parts_of(alloc: Global, text: &str) -> Result<Vec<&str>, AllocError>
-    ensures { IfOk result (λ parts. map (λ part. part.now) parts.items ≡ lines text.now) }
-{
-    text.lines().collect(alloc)
-}
-
-// Texts of their own.
-fn owned(alloc: Global, parts: &[&str]) -> Result<Vec<String>, AllocError>
-    ensures { IfOk result (λ all. map string_bytes all.items ≡ map (λ part. part.now) parts.now) }
-{
-    let mut all = Vec::new(alloc);
-    for part in parts {
-        all.push(String::from_str(alloc, *part)?)?;
-    }
-    Ok(all)
-}
-
 // The lines of a text, each of its own.
-fn lines_of(alloc: Global, text: &str) -> Result<Vec<String>, AllocError>
-    ensures { IfOk result (λ all. map string_bytes all.items ≡ lines text.now) }
-{
-    let parts = parts_of(alloc, text)?;
-    owned(alloc, &parts)
-}
-
-// Why an input has no lines.
-#[derive(Clone, Copy, Debug, PartialEq, Eq)]
-enum InputFault {
-    // It is not UTF-8.
-    NotUtf8,
-    // It has more bytes than are read.
-    TooLong,
-    // A read failed.
-    ReadFailed,
-    // An allocation failed.
-    NoMemory,
-}
-
-// The lines of these bytes.
-fn lines_in(alloc: Global, bytes: &[u8]) -> Result<Vec<String>, InputFault>
-    ensures { IfOk result (λ all. map string_bytes all.items ≡ lines bytes.now) }
-{
-    let Ok(text) = str::from_utf8(bytes) else {
-        return Err(InputFault::NotUtf8);
-    };
-    match lines_of(alloc, text) {
-        Ok(lines) => Ok(lines),
-        Err(_) => Err(InputFault::NoMemory),
+fn lines_of(alloc: Global, text: &str) -> Result<Vec<String>, AllocError> {
+    let mut lines = Vec::new(alloc);
+    for line in text.lines() {
+        lines.push(String::from_str(alloc, line)?)?;
     }
-}
-
-// The lines of all that a reader gives.
-fn lines_from<I: Read + Drop>(alloc: Global, input: I) -> Result<Vec<String>, InputFault>
-    ensures { IfOk result (λ all. IfSome (I.remaining input) (λ bytes. map string_bytes all.items ≡ lines bytes)) }
-{
-    let mut reader = Reading::new(input);
-    let Ok(input) = read_input(alloc, &mut reader, INPUT_LIMIT) else {
-        return Err(InputFault::NoMemory);
-    };
-    match input.end {
-        InputEnd::Ended => lines_in(alloc, &input.bytes),
-        InputEnd::TooLong => Err(InputFault::TooLong),
-        InputEnd::Failed => Err(InputFault::ReadFailed),
-    }
+    Ok(lines)
 }
 
 // Reads the lines of standard input. An error is the status, when standard error has the reason.
 fn read_lines<R: AllocGlobal + Input + Eprint>(rt: &R) -> Result<Vec<String>, u8> {
-    let what = match lines_from(rt.alloc(), rt.reader()) {
-        Ok(lines) => return Ok(lines),
-        Err(InputFault::NotUtf8) => "it is not UTF-8",
-        Err(InputFault::TooLong) => "over 1048576 bytes",
-        Err(InputFault::ReadFailed) => "a read failed",
-        Err(InputFault::NoMemory) => {
-            return Err(tell_fault(rt, "standard input", &StoreFault::NoMemory));
+    let mut reader = Reading::new(rt.reader());
+    let Ok(input) = read_input(rt.alloc(), &mut reader, INPUT_LIMIT) else {
+        return Err(tell_fault(rt, "standard input", &StoreFault::NoMemory));
+    };
+    let what = match (input.end, str::from_utf8(&input.bytes)) {
+        (InputEnd::Ended, Ok(text)) => {
+            return match lines_of(rt.alloc(), text) {
+                Ok(lines) => Ok(lines),
+                Err(_) => Err(tell_fault(rt, "standard input", &StoreFault::NoMemory)),
+            };
         }
+        (InputEnd::Ended, Err(_)) => "it is not UTF-8",
+        (InputEnd::TooLong, _) => "over 1048576 bytes",
+        (InputEnd::Failed, _) => "a read failed",
     };
     let _reported = eprintln!(rt; "dsheet: standard input: {what}");
     Err(STREAM_FAILED)
