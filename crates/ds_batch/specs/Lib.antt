@@ -1,3 +1,4 @@
+pub mod Openings
 pub mod Refusals
 pub mod Statuses
 pub mod Tables

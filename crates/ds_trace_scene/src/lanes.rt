@@ -1,5 +1,8 @@
 //! The lanes of a picture: what each process does, line by line.
 
+ghost use Rattle.std.specs.Prelude.{◌≡◌};
+ghost use Rattle.ds_trace_scene.specs.Rows.{is_in_lane, step_style, style_by};
+
 use crate::columns::{Passage, end_line};
 use crate::texts::{place_at, row_text, row_title};
 use ds_core::reply::Reply;
@@ -139,7 +142,9 @@ fn names(
     Ok(names)
 }
 
-fn step_style(access: Access<Place>) -> Style {
+fn step_style(access: Access<Place>) -> Style
+    ensures { result ≡ step_style access }
+{
     match access {
         Access::Nothing => Style::Inner,
         Access::Load(_) => Style::Read,
@@ -153,7 +158,9 @@ fn step_style(access: Access<Place>) -> Style {
     }
 }
 
-fn style_of(row: &TraceRow) -> Style {
+fn style_of(row: &TraceRow) -> Style
+    ensures { result ≡ style_by row.now.what row.now.reply }
+{
     match (row.what, row.reply) {
         (Happening::Begins(_, _), Reply::Begun(_) | Reply::Entered) => Style::Begin,
         (Happening::Steps(_, access), Reply::Stepped) => step_style(access),
@@ -164,11 +171,14 @@ fn style_of(row: &TraceRow) -> Style {
 }
 
 // Whether the row is one of this process's lane.
-fn is_of(row: &TraceRow, process: usize) -> bool {
+fn is_of(row: &TraceRow, process: usize) -> bool
+    ensures { result ≡ is_in_lane process row.now.what row.now.reply }
+{
     match row.what {
         Happening::Begins(by, _) | Happening::Steps(by, _) => by == process,
         Happening::TakesEntry(by) => by == process,
-        Happening::Stops(by) => by == process && row.reply != Reply::Stopped,
+        Happening::Stops(_) if row.reply == Reply::Stopped => false,
+        Happening::Stops(by) => by == process,
         Happening::Evicts(_) | Happening::Crashes => false,
     }
 }

@@ -3,6 +3,7 @@
 ghost use Rattle.std.specs.Prelude.{◌≡◌, IfOk, string_bytes};
 ghost use Rattle.ds_formula.specs.Cells.{cell_at};
 ghost use Rattle.ds_formula.specs.Names.{cell_text};
+ghost use Rattle.ds_trace_scene.specs.PlaceNames.{name_by_cell, name_of};
 
 use ds_layout::layout::Layout;
 use ds_layout::place::{Edition, Place};
@@ -18,13 +19,17 @@ pub fn cell_name(alloc: Global, layout: Layout, cell: usize) -> Result<String, A
 }
 
 // A place of a cell: its kind, and the cell.
-fn of_cell(alloc: Global, layout: Layout, kind: &str, cell: usize) -> Result<String, AllocError> {
+fn of_cell(alloc: Global, layout: Layout, kind: &str, cell: usize) -> Result<String, AllocError>
+    ensures { IfOk result (λ text. string_bytes text ≡ name_by_cell layout kind.now cell) }
+{
     let cell = cell_at(layout.shape, cell);
     format!(in alloc; "{kind} {cell}")
 }
 
 /// The place as scripts write it: `head A1`, `announce 0`.
-pub fn place_name(alloc: Global, layout: Layout, place: Place) -> Result<String, AllocError> {
+pub fn place_name(alloc: Global, layout: Layout, place: Place) -> Result<String, AllocError>
+    ensures { IfOk result (λ text. string_bytes text ≡ name_of layout place) }
+{
     match place {
         Place::Version => format!(in alloc; "version"),
         Place::Head(cell) => of_cell(alloc, layout, "head", cell),
