@@ -7,7 +7,7 @@ use Rattle.ds_explore.specs.Judging.{texts_of}
 use Rattle.ds_explore.specs.Starts.{allowed_by}
 use Rattle.ds_explore.specs.Whole.{IsAmong}
 use Rattle.ds_explore.proofs.Ways.{gone_or_on_way}
-use Rattle.ds_explore.proofs.way.Meeting.are_gone_through.Goals as goal
+use Rattle.ds_explore.proofs.met.Meeting.are_gone_through.Goals as goal
 
 pub returns : goal.returns
 returns c = λ yes.
