@@ -4,3 +4,4 @@ pub mod Valued
 pub mod Going
 pub mod Leading
 mod Meeting
+mod Ways

@@ -1,5 +1,5 @@
 -- The states that an exploration went through, and what is written of the orders that end in them.
-use Rattle.std.specs.Prelude.{ℕ, ◌≡◌, ◌<◌, ◌≤◌, ◌+◌, ◌-◌, ◌^◌, Bool, true, false, IsFalse, IsTrue, List, [], Some, length, slice_get, slice_index_or}
+use Rattle.std.specs.Prelude.{ℕ, ◌≡◌, ◌<◌, ◌≤◌, ◌+◌, ◌++◌, ◌-◌, ◌⊎◌, ◌^◌, Bool, true, false, IsFalse, IsTrue, List, [], Some, length, slice_get, slice_index_or}
 use Rattle.ds_formula.specs.Limits.{INPUT_MOST}
 use Rattle.ds_script_stops.specs.StopBlocks.{BreaksBefore}
 use Rattle.ds_script_stops.specs.declared.reach.Short.{Short}
@@ -11,7 +11,7 @@ use Rattle.ds_paths.specs.Paths.{IsCount}
 use Rattle.ds_explore_state.specs.declared.choices.Choice.{Choice}
 use Rattle.ds_explore_state.specs.Closed.{HasNumber, Order, keys_of}
 use Rattle.ds_explore_state.specs.Orders.{IsBusy}
-use Rattle.ds_explore_state.specs.Drawn.{IsGraph, IsPath}
+use Rattle.ds_explore_state.specs.Drawn.{IsDrawn, IsGraph, IsPath}
 use Rattle.ds_explore_state.specs.Following.{KnowsBuffers}
 use Rattle.ds_explore_state.specs.declared.position.Move.{Move}
 use Rattle.ds_explore_state.specs.declared.position.Position.{Position}
@@ -26,7 +26,7 @@ use Rattle.ds_explore.specs.declared.options.Options.{Options}
 use Rattle.ds_explore.specs.declared.outcomes.Finding.{Finding}
 use Rattle.ds_explore.specs.declared.search.Start.{Start}
 use Rattle.ds_explore.specs.Judging.{ComesTo}
-use Rattle.ds_explore.specs.Starts.{ComesAgain, IsLedTo, IsStart, allowed_by}
+use Rattle.ds_explore.specs.Starts.{ComesAgain, IsLedTo, IsOrderTo, IsStart, allowed_by}
 use Rattle.ds_explore.specs.Explored.{AreOutcomes, exploration_text, key_text, wrong_in}
 
 -- what an order comes to that ends at a position, with a crash there or without one, is the outcome with this number, of those
@@ -70,12 +70,33 @@ pub record IsMet (start : Start) (keys : List (List ℕ)) (states : States) (num
   pub has : HasNumber states (groups_of start.touched) position number
   pub rests : ((p : ℕ) → IsBusy position p → ⊥) → (outcome : ℕ) × IsAmong start.judge keys position false outcome
 
+-- the state with this number was gone through: all that may come next there leads to one of the states, and what orders come
+-- to that end there, with a crash or without one, is one of the outcomes with these keys
+abbrev pub IsGoneThrough : Start → List (List ℕ) → States → List (Edge Choice) → ℕ → Type 0
+IsGoneThrough start keys states edges number = IsDrawn states (groups_of start.touched) (IsAmong start.judge keys) (allowed_by start.options) start.touched.places.items start.first edges number
+
+-- the state with this number is on the way: it is that of a position to which the first events of this order lead
+pub record IsOnWay (start : Start) (states : States) (way : List Move) (number : ℕ) : Type 0 where
+  pub before : List Move
+  pub after : List Move
+  pub parts : way ≡ before ++ after
+  pub position : Position
+  pub leads : IsOrderTo start before position
+  pub has : HasNumber states (groups_of start.touched) position number
+
+-- each state was gone through, but for those on one way
+pub record AreGoneThrough (start : Start) (keys : List (List ℕ)) (states : States) : Type 0 where
+  pub edges : List (Edge Choice)
+  pub way : List Move
+  pub each : (number : ℕ) → number < length (keys_of states) → IsGoneThrough start keys states edges number ⊎ IsOnWay start states way number
+
 -- there were as many states as may be gone through: orders come to each of them, and of each in which they end the outcome is
--- one of those with these keys
+-- one of those with these keys; and each was gone through, but for those on one way
 pub record IsCut (start : Start) (keys : List (List ℕ)) (exploration : Exploration) : Type 0 where
   pub states : States
   pub counted : exploration.states ≡ length (keys_of states)
   pub met : (number : ℕ) → number < exploration.states → IsMet start keys states number
+  pub gone : AreGoneThrough start keys states
 
 -- ---- explorations
 

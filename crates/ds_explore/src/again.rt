@@ -59,8 +59,13 @@ impl Start {
         }
     }
 
-    // What has this number happens, if it may. An error is also that it may not.
-    fn go_on(&self, alloc: Global, position: &mut Position, by: u32) -> Result<(), AllocError>
+    /// What has this number happens, if it may. An error is also that it may not.
+    pub(crate) fn go_on(
+        &self,
+        alloc: Global,
+        position: &mut Position,
+        by: u32,
+    ) -> Result<(), AllocError>
         ensures { (moves : List Move) → IsOrderTo self.now moves position.old → OnOk result ((move : Move) × IsOrderTo self.now (moves ++ move ∷ []) position.new) }
     {
         let next = match self.moves.get(by as usize) {

@@ -309,7 +309,8 @@ fn endless(alloc: Global, start: &Start, search: &Search) -> Result<bool, AllocE
 }
 
 // What was found, where the search was cut, of outcomes with these keys. An error means that an allocation failed, that it was cut
-// before as many states were found as may be gone through, or that an outcome of them is not there.
+// before as many states were found as may be gone through, that an outcome of them is not there, or that more states were not
+// gone through than those on the way on which it was cut.
 fn cut(
     alloc: Global,
     start: &Start,
@@ -333,7 +334,9 @@ fn cut(
         nodes: &found.search.nodes,
         keys,
     };
-    if !meeting.are_met(alloc)? {
+    let met = meeting.are_met(alloc)?;
+    let gone = meeting.are_gone_through(alloc, &found.search.way)?;
+    if !met || !gone {
         return Err(AllocError);
     }
     Ok(Exploration {
@@ -419,7 +422,8 @@ fn explored_from<T: Watcher>(
 /// tried. Where the exploration is not cut, it was checked that nothing that may happen leads out of the states that were
 /// found, that what each order comes to is among the outcomes, and, where no order comes to a state again, that each
 /// outcome has as many orders as come to it; where it is cut, the outcomes that were found until then are there, with as
-/// many orders as were found: the first one also where that is none. An order that comes to a state again was carried out
+/// many orders as were found: the first one also where that is none. Then each state was gone through, but for those on the
+/// way on which it was cut. An order that comes to a state again was carried out
 /// again.
 pub fn explored<T: Watcher>(
     alloc: Global,

@@ -18,3 +18,4 @@ mod outcomes;
 mod script;
 mod search;
 pub mod texts;
+mod way;

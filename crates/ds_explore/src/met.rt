@@ -43,17 +43,6 @@ fn places(alloc: Global, states: usize, nodes: &[Node]) -> Result<Vec<usize>, Al
     Ok(places)
 }
 
-// No state is marked.
-fn unmarked(alloc: Global, states: usize) -> Result<Vec<bool>, AllocError>
-    ensures { IfOk result (λ marks. marks.items ≡ replicate states false) }
-{
-    let mut marks = Vec::new(alloc);
-    for state in 0..states {
-        marks.push(false)?;
-    }
-    Ok(marks)
-}
-
 // Whether all of these are marked.
 fn are_marked(marks: &[bool]) -> bool
     ensures { IsTrue result → (n : ℕ) → n < length marks.now → slice_index_or marks.now n false ≡ true }
@@ -183,7 +172,7 @@ impl Meeting<'_> {
         ensures { IfOk result (λ marks. AreMet self.now.start.now (texts_of self.now.keys.now) self.now.states.now marks.items) }
     {
         let places = places(alloc, self.states.len(), self.nodes)?;
-        let mut marks = unmarked(alloc, self.states.len())?;
+        let mut marks = vec![in alloc; false; self.states.len()]?;
         let position = self.start.led_to(alloc, &[])?;
         self.mark(alloc, &position, 0, &mut marks)?;
         let mut way = Vec::new(alloc);

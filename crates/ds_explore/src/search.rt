@@ -111,6 +111,8 @@ pub(crate) struct Search {
     pub(crate) nodes: Vec<Node>,
     /// Whether there are more states than there may be.
     pub(crate) is_cut: bool,
+    /// What has happened where that was seen, from the first state on.
+    pub(crate) way: Vec<u32>,
     /// The first order that was seen to come to a state again.
     pub(crate) again: Option<Circle>,
 }
@@ -283,6 +285,7 @@ impl Search {
             outcomes,
             nodes: Vec::new(alloc),
             is_cut: false,
+            way: Vec::new(alloc),
             again: None,
         }
     }
@@ -393,15 +396,22 @@ impl Search {
     }
 
     // The number of a state that is found now; none where there are as many states as there may be.
-    fn next_number(&mut self, start: &Start) -> Option<u32> {
+    fn next_number(&self, start: &Start) -> Option<u32> {
         let count = self.left.len();
         match u32::try_from(count) {
             Ok(state) if count < start.options.most => Some(state),
-            _ => {
-                self.is_cut = true;
-                None
-            }
+            _ => None,
         }
+    }
+
+    // There are more states than there may be, which is seen in the last state.
+    fn cut(&mut self) -> Result<(), AllocError> {
+        self.is_cut = true;
+        let before = self.frames.len().saturating_sub(1);
+        for frame in self.frames.iter().take(before) {
+            self.way.push(frame.latest())?;
+        }
+        Ok(())
     }
 
     // The state with this key was found.
@@ -425,6 +435,7 @@ impl Search {
             return Ok(None);
         }
         let Some(state) = self.next_number(start) else {
+            self.cut()?;
             return Ok(None);
         };
         self.keep(alloc, key)?;

@@ -159,11 +159,38 @@ fn all_choices<E: Endings>(
     Ok(Some(edges))
 }
 
-// What was drawn of the graph: the states whose edges were, and all edges.
+// The edges of what may happen at the position, whose state has this number, and leads to a state that was found.
+fn found_edges(
+    alloc: Global,
+    found: Found<'_>,
+    moves: &[Move],
+    position: &Position,
+    number: u32,
+) -> Result<Vec<Edge<Choice>>, AllocError> {
+    let mut edges = Vec::new(alloc);
+    for by in moves {
+        if can_come(found.allowed, position, *by) {
+            if let Some(to) = leads_to(alloc, found.states, found.touched, position, *by)? {
+                edges.push(Edge {
+                    from: number,
+                    by: Choice::Happens(*by),
+                    to,
+                })?;
+            }
+        }
+    }
+    Ok(edges)
+}
+
+/// What was drawn of a graph.
 #[derive(Drop)]
-struct Drawing {
-    marks: Vec<bool>,
-    edges: Vec<Edge<Choice>>,
+pub struct Drawing {
+    // The states that were come to.
+    seen: Vec<bool>,
+    /// The states whose edges were drawn, all of them.
+    pub marks: Vec<bool>,
+    /// The edges that leave these.
+    pub edges: Vec<Edge<Choice>>,
 }
 
 // Whether the state with this number is one of those that were found, and not marked.
@@ -176,6 +203,28 @@ fn is_new(marks: &[bool], number: u32) -> bool
 }
 
 impl Drawing {
+    // The number of the state of a position, where it was not come to before.
+    fn comes_to(
+        &mut self,
+        alloc: Global,
+        found: Found<'_>,
+        position: &Position,
+    ) -> Result<Option<u32>, AllocError>
+        ensures marks { self.new.marks ≡ self.old.marks }
+        ensures edges { self.new.edges ≡ self.old.edges }
+    {
+        let Some(number) = found.states.number_of(alloc, position, found.touched)? else {
+            return Ok(None);
+        };
+        match self.seen.get_mut(number as usize) {
+            Some(seen) if !*seen => {
+                *seen = true;
+                Ok(Some(number))
+            }
+            _ => Ok(None),
+        }
+    }
+
     // The edges that leave the state of a position are drawn, where all that may come next there leads to states that were
     // found, or outcomes that are written: a copy of them. None where they were drawn before, or that is not so.
     fn draw<E: Endings>(
@@ -210,6 +259,36 @@ impl Drawing {
     }
 }
 
+impl Drawing {
+    // The edges that lead on from a position whose state was not come to before. They are drawn, where all that may come next
+    // leads to states that were found, or to outcomes that are written; else they are those that lead to such states. None
+    // where the state was come to before.
+    fn lead_on<E: Endings>(
+        &mut self,
+        alloc: Global,
+        found: Found<'_>,
+        endings: &E,
+        moves: &[Move],
+        position: &Position,
+        crashes: &mut CrashOutcomes,
+    ) -> Result<Option<Vec<Edge<Choice>>>, AllocError>
+        requires drawn { AreDrawn found.states.now (groups_of found.touched.now) (E.numbered endings.now) found.allowed found.touched.now.places.items found.first.now self.old.edges.items self.old.marks.items }
+        requires moves { AreMoves (length found.first.now.seats.items) found.touched.now.places.items moves.now }
+        requires knows { KnowsCrashes found.states.now (groups_of found.touched.now) (E.numbered endings.now) found.allowed found.touched.now.places.items found.first.now crashes.old }
+        requires kept { IsKept (groups_of found.touched.now) found.first.now position.now }
+        ensures drawn { OnOk result (AreDrawn found.entry.states.now (groups_of found.entry.touched.now) (E.numbered endings.now) found.entry.allowed found.entry.touched.now.places.items found.entry.first.now self.new.edges.items self.new.marks.items) }
+        ensures knows { OnOk result (KnowsCrashes found.entry.states.now (groups_of found.entry.touched.now) (E.numbered endings.now) found.entry.allowed found.entry.touched.now.places.items found.entry.first.now crashes.new) }
+    {
+        let Some(number) = self.comes_to(alloc, found, position)? else {
+            return Ok(None);
+        };
+        match self.draw(alloc, found, endings, moves, position, crashes)? {
+            Some(edges) => Ok(Some(edges)),
+            None => Ok(Some(found_edges(alloc, found, moves, position, number)?)),
+        }
+    }
+}
+
 // The position that is there, for what happens next in it: a copy as long as more is to happen.
 fn taken(
     alloc: Global,
@@ -228,21 +307,21 @@ fn taken(
     }
 }
 
-// What happens along an edge to a state that is not marked.
-fn unmarked_by(marks: &[bool], edge: Edge<Choice>) -> Option<Move> {
+// What happens along an edge to a state that was not come to.
+fn unseen_by(seen: &[bool], edge: Edge<Choice>) -> Option<Move> {
     match edge.by {
-        Choice::Happens(by) if marks.get(edge.to as usize) == Some(&false) => Some(by),
+        Choice::Happens(by) if seen.get(edge.to as usize) == Some(&false) => Some(by),
         _ => None,
     }
 }
 
 impl Visit {
-    // The next position whose state is not marked; none where all are.
+    // The next position whose state was not come to; none where all were.
     fn next(
         &mut self,
         alloc: Global,
         touched: &Touched,
-        marks: &[bool],
+        seen: &[bool],
     ) -> Result<Option<Position>, AllocError>
         ensures next { (first : Position) → IfSome self.old.position (IsKept (groups_of touched.now) first) → IfOk result (λ some. IfSome some (IsKept (groups_of touched.now) first)) }
         ensures kept { (first : Position) → IfSome self.old.position (IsKept (groups_of touched.now) first) → IfSome self.new.position (IsKept (groups_of touched.now) first) }
@@ -251,7 +330,7 @@ impl Visit {
             let Some(edge) = self.ahead.pop() else {
                 return Ok(None);
             };
-            if let Some(by) = unmarked_by(marks, edge) {
+            if let Some(by) = unseen_by(seen, edge) {
                 let is_last = self.ahead.is_empty();
                 let Some(mut after) = taken(alloc, &mut self.position, is_last)? else {
                     return Ok(None);
@@ -266,12 +345,12 @@ impl Visit {
     }
 }
 
-// The next position whose state is not marked, of these visits; none where all are.
+// The next position whose state was not come to, of these visits; none where all were.
 fn next(
     alloc: Global,
     touched: &Touched,
     visits: &mut Vec<Visit>,
-    marks: &[bool],
+    seen: &[bool],
 ) -> Result<Option<Position>, AllocError>
     ensures next { (first : Position) → AreKept (groups_of touched.now) first visits.old.items → IfOk result (λ some. IfSome some (IsKept (groups_of touched.now) first)) }
     ensures kept { (first : Position) → AreKept (groups_of touched.now) first visits.old.items → OnOk result (AreKept (groups_of touched.now) first visits.new.items) }
@@ -280,7 +359,7 @@ fn next(
         let Some(mut visit) = visits.pop() else {
             return Ok(None);
         };
-        if let Some(after) = visit.next(alloc, touched, marks)? {
+        if let Some(after) = visit.next(alloc, touched, seen)? {
             visits.push(visit)?;
             return Ok(Some(after));
         }
@@ -288,30 +367,19 @@ fn next(
     Ok(None)
 }
 
-// No mark, of this many states.
-fn unmarked(alloc: Global, count: usize) -> Result<Vec<bool>, AllocError>
-    ensures { IfOk result (λ marks. marks.items ≡ replicate count false) }
-{
-    let mut marks = Vec::with_capacity(alloc, count)?;
-    for state in 0..count {
-        marks.push(false)?;
-    }
-    Ok(marks)
-}
-
 // Nothing was drawn, of this many states.
 fn blank(alloc: Global, count: usize) -> Result<Drawing, AllocError>
     ensures marks { IfOk result (λ drawing. drawing.marks.items ≡ replicate count false) }
     ensures edges { IfOk result (λ drawing. drawing.edges.items ≡ []) }
 {
-    let marks = unmarked(alloc, count)?;
     Ok(Drawing {
-        marks,
+        seen: vec![in alloc; false; count]?,
+        marks: vec![in alloc; false; count]?,
         edges: Vec::new(alloc),
     })
 }
 
-// The graph of the states that are reached from the first one on, as far as all that may come next leads to states that were
+// The graph of the states that are come to from the first one on, as far as all that may come next leads to states that were
 // found, or outcomes that are written.
 fn draw_all<E: Endings>(
     alloc: Global,
@@ -328,13 +396,20 @@ fn draw_all<E: Endings>(
     let mut visits = Vec::new(alloc);
     let mut position = found.first.copy(alloc)?;
     for _ in 0..u64::MAX {
-        if let Some(ahead) = drawing.draw(alloc, found, endings, moves, &position, &mut crashes)? {
+        if let Some(ahead) = drawing.lead_on(
+            alloc,
+            found,
+            endings,
+            moves,
+            &position,
+            &mut crashes,
+        )? {
             visits.push(Visit {
                 position: Some(position),
                 ahead,
             })?;
         }
-        match next(alloc, found.touched, &mut visits, &drawing.marks)? {
+        match next(alloc, found.touched, &mut visits, &drawing.seen)? {
             Some(after) => position = after,
             None => return Ok(drawing),
         }
@@ -371,6 +446,24 @@ fn begins(alloc: Global, found: Found<'_>) -> Result<bool, AllocError>
     }
 }
 
+/// The graph of the states that were found, as far as all that may come next in a state leads to states that were found, or
+/// to outcomes that are written: just the states of which that is so are marked, of those to which found states lead. None where
+/// the first position lacks what one of its processes has. An error means that an allocation failed.
+pub fn draw_part<E: Endings>(
+    alloc: Global,
+    found: Found<'_>,
+    endings: &E,
+) -> Result<Option<Drawing>, AllocError>
+    ensures kept { IfOk result (λ some. IfSome some (λ drawing. IsKept (groups_of found.entry.touched.now) found.entry.first.now found.entry.first.now)) }
+    ensures drawn { IfOk result (λ some. IfSome some (λ drawing. AreDrawn found.entry.states.now (groups_of found.entry.touched.now) (E.numbered endings.now) found.entry.allowed found.entry.touched.now.places.items found.entry.first.now drawing.edges.items drawing.marks.items)) }
+{
+    if !is_whole(found.first) {
+        return Ok(None);
+    }
+    let moves = moves_of(alloc, found.first.seats.len(), &found.touched.places)?;
+    Ok(Some(draw_all(alloc, found, endings, &moves)?))
+}
+
 /// The graph of the states that were found, where these are all: the first one has number 0, nothing that may happen leads
 /// out of them, and it is written what orders come to that end in one of them. Else none. An error means that an allocation
 /// failed.
@@ -382,15 +475,13 @@ pub fn draw_graph<E: Endings>(
     ensures kept { IfOk result (λ some. IfSome some (λ edges. IsKept (groups_of found.entry.touched.now) found.entry.first.now found.entry.first.now)) }
     ensures graph { IfOk result (λ some. IfSome some (λ edges. IsGraph found.entry.states.now (groups_of found.entry.touched.now) (E.numbered endings.now) found.entry.allowed found.entry.touched.now.places.items found.entry.first.now edges.items)) }
 {
-    if !is_whole(found.first) {
-        return Ok(None);
-    }
     let begins = begins(alloc, found)?;
     if !begins {
         return Ok(None);
     }
-    let moves = moves_of(alloc, found.first.seats.len(), &found.touched.places)?;
-    let drawing = draw_all(alloc, found, endings, &moves)?;
+    let Some(drawing) = draw_part(alloc, found, endings)? else {
+        return Ok(None);
+    };
     if are_marked(&drawing.marks, found.states.len()) {
         Ok(Some(drawing.edges))
     } else {

@@ -5,5 +5,6 @@ pub returns-clause-found : goal.returns-clause-found
 returns-clause-found c = record {
   states = c.args.found.now.search.found;
   counted = c.states-states.ensures;
-  met = λ number low. c.in_ok-are_met.ensures c.if-not-branch.false number (subst (λ (n : ℕ). number < n) c.states-states.ensures low);
+  met = λ number low. c.in_ok-met.ensures c.if-not-met.false number (subst (λ (n : ℕ). number < n) c.states-states.ensures low);
+  gone = c.in_ok-gone.ensures c.if-not-gone.false;
 }

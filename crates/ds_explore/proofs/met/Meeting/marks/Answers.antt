@@ -15,7 +15,7 @@ loop-init c =
       way = subst (λ (l : List Stop). AreLedTo start l) (sym c.in_ok-push.ensures.items)
           (All-push (λ (stop : Stop). IsLedTo start stop.position) c.new-way.result.items (record { position = c.in_ok-position.position; state = 0; done = 0 }) (no_stop start c.new-way.result.items c.new-way.ensures.items) c.in_ok-position.ensures);
       marks = c.in_ok-mark.ensures c.in_ok-position.ensures
-          (met_none start (texts_of c.args.self.now.keys.now) c.args.self.now.states.now c.in_ok-marks.marks.items (none_marked c.in_ok-marks.marks.items c.len-2.result c.in_ok-marks.ensures));
+          (met_none start (texts_of c.args.self.now.keys.now) c.args.self.now.states.now c.in_ok-marks.marks.items (none_marked c.in_ok-marks.marks.items c.len-2.result (c.in_ok-marks.ensures.items_if_clones_equal (λ y is. is))));
     }
 
 pub loop-preserved : goal.loop-preserved
