@@ -2,6 +2,7 @@
 
 ghost use Rattle.std.specs.Prelude.{◌≡◌, ◌≢◌, ◌+◌, ◌++◌, ◌∷◌, ◌≤◌, ◌⊎◌, ◌↔◌, [], List, ℕ, Some, if◌then◌else◌, length, IfSome, IsTrue};
 ghost use Rattle.std.specs.Str.{bytes_eq};
+ghost use Rattle.std.specs.Sync.Mutex.{mutex_guard_value};
 ghost use Rattle.ds_store_keys.specs.Tables.{found};
 ghost use Rattle.ds_net_floor.specs.EditLists.{told_as};
 ghost use Rattle.ds_net_floor.specs.Entries.{entries};
@@ -262,7 +263,8 @@ impl Backlog {
 
     // That all is kept, if it is, and no more comes.
     fn drained(&self) -> Option<Drained>
-        ensures { IfSome result (λ d. (d.heard ≡ self.now.heard) × (d.kept ≡ self.now.kept.count)) }
+        ensures all { IfSome result (λ d. (d.heard ≡ self.now.heard) × (d.kept ≡ self.now.kept.count)) }
+        ensures ends { IfSome result (λ _. self.now.phase ≡ Phase.Ends) }
     {
         if self.phase != Phase::Ends || self.heard != self.kept.count {
             return None;
@@ -314,6 +316,13 @@ impl Keeping {
     /// cannot be.
     pub fn wait_for_all<R: Wait>(&self, rt: &R) -> Option<AllKept> {
         let backlog = self.backlog.lock(rt);
+        self.wait_from(rt, backlog)
+    }
+
+    // Waits until all is kept of which the keeper had heard when this turn began.
+    fn wait_from<'a, R: Wait>(&'a self, rt: &R, backlog: MutexGuard<'a, Backlog>) -> Option<AllKept>
+        ensures { IfSome result (λ permit. permit.heard ≡ (mutex_guard_value backlog.entry).heard) }
+    {
         let heard = backlog.heard;
         let backlog = self.done.wait_while(rt, backlog, |backlog| {
             backlog.kept.count < heard && backlog.phase != Phase::Failed
