@@ -18,7 +18,7 @@ returns-clause-leads g c =
 
 pub returns-clause-first : goal.returns-clause-first
 returns-clause-first g c clean held holds =
-    let first = (c.in_ok-lines.ensures clean held holds).0 in
+    let first = (c.in_ok-lines.ensures.first clean held holds).0 in
     let read = c.in_ok-lines.field-0.lines in
     let whole : c.first_fault-fault.result ≡ None → map string_bytes read.items ≡ held = λ none.
     let missing : c.in_ok-lines.field-0.missing ≡ None = let e = c.in_ok-lines.missing-is in let n = c.first_fault-fault.ensures none in cc in
