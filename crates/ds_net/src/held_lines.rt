@@ -26,8 +26,9 @@ impl HeldLines {
         alloc: Global,
         store: &mut Store<S>,
     ) -> Result<HeldLines, StoreFault>
-        ensures { HasCleanDisk (state S.Store store.new.conn) → (held : List (List ℕ)) → Holds held (state S.Store store.old.conn).now
+        ensures all { HasCleanDisk (state S.Store store.new.conn) → (held : List (List ℕ)) → Holds held (state S.Store store.old.conn).now
             → IfOk result (λ it. (map string_bytes it.lines.items ≡ held) × Holds held (state S.Store store.new.conn).now) }
+        ensures clean { HasCleanDisk (state S.Store store.new.conn) → HasCleanDisk (state S.Store store.old.conn) }
     {
         let lines = store.lines(alloc)?;
         Ok(HeldLines { lines })
@@ -44,6 +45,7 @@ impl HeldLines {
         ensures summed { IfOk result (λ next. IsAt store.new.sums (map string_bytes next.lines.items)) }
         ensures holds { IfOk result (λ next. HasCleanDisk (state S.Store store.new.conn) → Holds (map string_bytes self.lines.items) (state S.Store store.old.conn).now
             → Holds (map string_bytes next.lines.items) (state S.Store store.new.conn).now × Holds (map string_bytes next.lines.items) (state S.Store store.new.conn).committed) }
+        ensures clean { HasCleanDisk (state S.Store store.new.conn) → HasCleanDisk (state S.Store store.old.conn) }
     {
         store.go_over(alloc, &self.lines)
     }

@@ -131,9 +131,9 @@ set_process seat new cell text what h = go h.edits where
   go (inr k) = ap (λ (s : Seat). s.pass.process) k.0
 
 -- so does one of which the keeper of a store may hear
-pub stored_process : (before after : Heard) (seat new : Seat) (cell : Cell) (text : List ℕ) (what : Said) → StoredSet before cell text after seat what new → new.pass.process ≡ seat.pass.process
-stored_process before after seat new cell text what (inl h, heard) = set_process seat new cell text what h
-stored_process before after seat new cell text what (inr h, heard) = ap (λ (s : Seat). s.pass.process) h.0
+pub stored_process : (before after : Heard) (seat new : Seat) (cell : Cell) (text : List ℕ) (what plain : Said) → StoredSet before cell text after what seat plain new → new.pass.process ≡ seat.pass.process
+stored_process before after seat new cell text what plain (inl h, heard) = set_process seat new cell text plain h
+stored_process before after seat new cell text what plain (inr h, heard) = ap (λ (s : Seat). s.pass.process) h.0
 
 -- a report leaves the process of a seat
 pub reported_process : (seat new : Seat) (what : Said) → HasReported seat what new → new.pass.process ≡ seat.pass.process

@@ -1,28 +1,21 @@
 -- Of what a keeper hears, by the notes of the session that has the turn to edit.
 use Rattle.std.specs.Prelude.{◌≡◌, ◌⊎◌, ◌++◌, [], ◌∷◌, ℕ, List, Option, Some, if◌then◌else◌, map}
 use Rattle.std.specs.Str.{bytes_eq}
-use Rattle.ds_server.specs.Replies as said
 use Rattle.ds_store_journal.specs.Journals.{KeptEdit}
 use Rattle.ds_store_keys.specs.Tables.{found}
 use Rattle.ds_net_floor.specs.EditLists.{told_as}
 use Rattle.ds_net_floor.specs.Entries.{entries}
 use Rattle.ds_net_floor.specs.declared.keeping.Backlog.{Backlog}
 use Rattle.ds_net_floor.specs.declared.keeping.Phase.TheVariants.{Failed}
-use Rattle.ds_net_desks.specs.Counting.{number_seen}
 use Rattle.ds_net_desks.specs.StoredDesks.{Heard, Keyed}
-use Rattle.ds_net_desks.specs.declared.numbering.Numbering.{Numbering}
 
--- these edits, as they are listed: by the numbers that clients know
-abbrev pub listed_by : List Numbering → Heard → List said.EditEntry
-listed_by numberings heard = map (λ h. told_as (number_seen numberings h.1.process h.1.number, h.1)) heard
-
--- the keeper has heard of just the edits that were noted since: they are to be kept, and they are listed, in their order; or nothing
--- is kept any more
-pub record HearsNoted (numberings : List Numbering) (old : Backlog) (before : Heard) (new : Backlog) (after : Heard) : Type 0 where
+-- the keeper has heard of just the edits that were noted since: they are to be kept, and they are listed, by the numbers with which
+-- they were noted, in their order; or nothing is kept any more
+pub record HearsNoted (old : Backlog) (before : Heard) (new : Backlog) (after : Heard) : Type 0 where
   pub more : Heard
   pub noted : after ≡ before ++ more
   pub kept : (new.edits.items ≡ old.edits.items ++ map (λ h. h.1) more) ⊎ (new.phase ≡ Failed)
-  pub listed : (entries new.list ≡ entries old.list ++ listed_by numberings more) ⊎ (new.phase ≡ Failed)
+  pub listed : (entries new.list ≡ entries old.list ++ map told_as more) ⊎ (new.phase ≡ Failed)
   pub nobody : new.list.nobody ≡ old.list.nobody
 
 -- the keeper has heard of no key

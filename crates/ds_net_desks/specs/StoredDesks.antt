@@ -15,25 +15,32 @@ use Rattle.ds_store_keys.specs.Tables.{found}
 use Rattle.ds_net_floor.specs.EditLists.{HadBefore, HasNoEdit, part_of}
 use Rattle.ds_net_floor.specs.Entries.{entries}
 use Rattle.ds_net_floor.specs.declared.edit_list.EditList.{EditList}
+use Rattle.ds_net_floor.specs.declared.notebook.Notebook.{Notebook}
 use Rattle.ds_net_desks.specs.CellQuestions.{HasAsked, HasComputed, Seen, look}
 use Rattle.ds_net_desks.specs.DeskSeats.{HasNoSeat, HasViewed, SeatDeals, Uses}
 use Rattle.ds_net_desks.specs.SharedDesks.{HasSet}
 use Rattle.ds_net_desks.specs.declared.numbered_seat.NumberedSeat.{NumberedSeat}
 
--- the edits of which the keeper has heard from the session, each with its process
+-- the edits of which the keeper has heard from the session, each with the number by which clients know it
 abbrev pub Heard : Type 0
 Heard = List (ℕ × KeptEdit)
 
--- what the keeper hears of an edit of the process that was answered so: of one that is done, all of it; of another one, nothing
-abbrev pub heard_of : ℕ → Cell → List ℕ → said.Said → Heard
-heard_of process cell text (said.Done number) = (process, record { process = process; number = number; cell = cell; text = text }) ∷ []
-heard_of process cell text what = []
+-- the number of an edit that its client is answered
+abbrev pub number_in : said.Said → ℕ
+number_in (said.Done number) = number
+number_in what = 0
 
--- the seat was used for an edit of this cell to this text, and this is said of it; or an allocation has failed before it, and
--- the seat is as it was. The keeper hears of it just where it is done
-abbrev pub StoredSet : Heard → Cell → List ℕ → Heard → Seat → said.Said → Seat → Type 0
-StoredSet before cell text after seat what new =
-    (HasSet seat cell text what new ⊎ ((new ≡ seat) × (what ≡ said.Refused refusals.NoMemory))) × (after ≡ before ++ heard_of seat.pass.process cell text what)
+-- what the keeper hears of an edit of the process, whose client is answered this, and of which its sheet says that: of one that is
+-- done, all of it, by the number that its client is answered; of another one, nothing
+abbrev pub heard_of : ℕ → Cell → List ℕ → said.Said → said.Said → Heard
+heard_of process cell text what (said.Done number) = (number_in what, record { process = process; number = number; cell = cell; text = text }) ∷ []
+heard_of process cell text what plain = []
+
+-- the seat was used for an edit of this cell to this text, and its sheet says that of it; or an allocation has failed before it, and
+-- the seat is as it was. The keeper hears of it just where it is done, by the number that the client is answered
+abbrev pub StoredSet : Heard → Cell → List ℕ → Heard → said.Said → Seat → said.Said → Seat → Type 0
+StoredSet before cell text after what seat plain new =
+    (HasSet seat cell text plain new ⊎ ((new ≡ seat) × (plain ≡ said.Refused refusals.NoMemory))) × (after ≡ before ++ heard_of seat.pass.process cell text what plain)
 
 -- the keys of which the keeper has heard from the session
 abbrev pub Keyed : Type 0
@@ -48,6 +55,10 @@ pub record Notes : Type 0 where
 -- the notes of these
 abbrev pub notes : Heard → Seen → Keyed → Notes
 notes heard seen keyed = record { heard = heard; seen = seen; keyed = keyed }
+
+-- what a session has noted
+abbrev pub notes_in : Notebook → Notes
+notes_in book = notes book.heard.items book.seen.items book.keyed.items
 
 -- ---- edits with keys
 
@@ -78,7 +89,7 @@ pub record AnswersKnown (cell : Cell) (text : List ℕ) (known : Option KeptEdit
 
 -- the key is not known: the seat was used for an edit, as by a set, and the keeper hears of the key just where the edit is done
 pub record EditsWithKey (cell : Cell) (text key : List ℕ) (old : NumberedSeat) (before : Notes) (what : said.Said) (new : NumberedSeat) (after : Notes) : Type 0 where
-  pub uses : Uses (StoredSet before.heard cell text after.heard) old what new
+  pub uses : Uses (StoredSet before.heard cell text after.heard what) old what new
   pub keyed : after.keyed ≡ before.keyed ++ keyed_of old.seat.pass.process cell text key what
 
 -- an edit with a key, by what the key is of, if it is known
@@ -127,7 +138,7 @@ pub record HasUndone (cell : Cell) (old : NumberedSeat) (before : Notes) (what :
   pub list : EditList
   pub seen : after.seen ≡ before.seen ++ look list
   pub keyed : after.keyed ≡ before.keyed
-  pub does : ((text : List ℕ) × HadBefore list.nobody cell (entries list) text × Uses (StoredSet before.heard cell text after.heard) old what new) ⊎ ((why : CallRefusal) × HasNoText cell list why × (what ≡ said.Refused why) × (new ≡ old) × (after.heard ≡ before.heard))
+  pub does : ((text : List ℕ) × HadBefore list.nobody cell (entries list) text × Uses (StoredSet before.heard cell text after.heard what) old what new) ⊎ ((why : CallRefusal) × HasNoText cell list why × (what ≡ said.Refused why) × (new ≡ old) × (after.heard ≡ before.heard))
 
 -- a part of the list is answered, and how many edits it has; or an allocation has failed
 abbrev pub SaysPart : ℕ → ℕ → EditList → Result History CallRefusal → Type 0
@@ -151,7 +162,7 @@ pub record Lists (from most : ℕ) (before : Seen) (what : said.Said) (after : S
 -- of a set and of an undo, and of nothing else, and of the keys of edits; and that the edits are listed, so that the values are said
 -- from scratch where no process is free to read by
 abbrev pub StoredDeals : Shape → Option NumberedSeat → Notes → Call → said.Said → Option NumberedSeat → Notes → Type 0
-StoredDeals shape (Some old) before (Set p cell text) what (Some new) after = Uses (StoredSet before.heard cell text after.heard) old what new × (after.seen ≡ before.seen) × (after.keyed ≡ before.keyed)
+StoredDeals shape (Some old) before (Set p cell text) what (Some new) after = Uses (StoredSet before.heard cell text after.heard what) old what new × (after.seen ≡ before.seen) × (after.keyed ≡ before.keyed)
 StoredDeals shape old before (Set p cell text) what new after = ⊥
 StoredDeals shape (Some old) before (SetOnce p cell text key) what (Some new) after = HasSetOnce cell text key old before what new after
 StoredDeals shape old before (SetOnce p cell text key) what new after = ⊥

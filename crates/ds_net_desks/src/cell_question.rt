@@ -1,8 +1,8 @@
 //! What a cell is, of a shared sheet whose edits are listed.
 
-ghost use Rattle.std.specs.Prelude.{◌≡◌, ◌++◌, IfSome, None, option_map};
+ghost use Rattle.std.specs.Prelude.{◌≡◌, IfSome, None, option_map};
 ghost use Rattle.ds_server.specs.Replies.{entry_view, got_view, report_view};
-ghost use Rattle.ds_net_desks.specs.CellQuestions.{HasGot, HasLooked, HasTried, SaysLast, got_said, look};
+ghost use Rattle.ds_net_desks.specs.CellQuestions.{HasGot, HasLooked, HasTried, SaysLast, got_said};
 ghost use Rattle.ds_net_desks.specs.DeskSeats.{Uses};
 ghost use Rattle.ds_net_desks.specs.SharedDesks.{HasReported};
 
@@ -11,11 +11,11 @@ use crate::seat_pool::SeatPool;
 use crate::shared_desk::seat_report;
 use ds_formula::cells::Cell;
 use ds_net_floor::edit_list::{EditList, is_same};
-use ds_net_floor::keeping::Keeping;
+use ds_net_floor::keeping::Backlog;
+use ds_net_floor::notebook::Notebook;
 use ds_net_floor::visit::Visit;
 use ds_order::course::Course;
 use ds_server::desk::{CallRefusal, Got, ListedEdit, Reported};
-use http_server::Log;
 use std::alloc::Global;
 use std::sync::Wait;
 use std::time::Clock;
@@ -30,8 +30,6 @@ pub struct CellQuestion<'a, R: Wait + Clock> {
     pub rt: &'a R,
     /// The seats of the sheet.
     pub pool: &'a SeatPool,
-    /// What has the list of the edits.
-    pub keeping: &'a Keeping,
     /// In which order a report works on the cells.
     pub course: &'a Course,
     /// The visit of the session.
@@ -63,17 +61,10 @@ pub(crate) fn got_of(
     }
 }
 
-// Looks at the last edit of the cell in the list.
-fn last_in(
-    alloc: Global,
-    list: &EditList,
-    seen: &mut Log<usize, EditList>,
-    cell: Cell,
-) -> Result<Option<ListedEdit>, CallRefusal>
-    ensures seen { seen.new.items ≡ seen.old.items ++ look list.now }
-    ensures says { SaysLast cell list.now result }
+// The last edit of the cell in the list.
+fn last_in(alloc: Global, list: &EditList, cell: Cell) -> Result<Option<ListedEdit>, CallRefusal>
+    ensures { SaysLast cell list.now result }
 {
-    *seen = seen.and(&0, list);
     match list.last(alloc, cell) {
         Ok(edit) => Ok(edit),
         Err(_) => Err(CallRefusal::NoMemory),
@@ -85,12 +76,13 @@ impl<'a, R: Wait + Clock> CellQuestion<'a, R> {
     fn last(
         &self,
         alloc: Global,
-        seen: &mut Log<usize, EditList>,
+        notebook: &mut Notebook<'_>,
     ) -> Result<Option<ListedEdit>, CallRefusal>
-        ensures { HasLooked self.now.cell seen.old.items result seen.new.items }
+        ensures looked { HasLooked self.now.cell notebook.old.seen.items result notebook.new.seen.items }
+        ensures notes { (notebook.new.heard ≡ notebook.old.heard) × (notebook.new.keyed ≡ notebook.old.keyed) }
     {
-        let backlog = self.keeping.take_turn(self.rt);
-        last_in(alloc, &backlog.list, seen, self.cell)
+        let backlog = notebook.take_turn(self.rt);
+        last_in(alloc, backlog.show(notebook), self.cell)
     }
 
     // A report by the seat.
@@ -107,19 +99,20 @@ impl<'a, R: Wait + Clock> CellQuestion<'a, R> {
     fn tried(
         &self,
         alloc: Global,
-        seen: &mut Log<usize, EditList>,
+        notebook: &mut Notebook<'_>,
         numbered: &mut NumberedSeat,
     ) -> Option<Result<Got, CallRefusal>>
-        ensures some { IfSome result (λ got. HasGot self.now.cell self.now.number numbered.old seen.old.items (got_view self.now.cell got) numbered.new seen.new.items) }
-        ensures none { result ≡ None → HasTried numbered.old seen.old.items numbered.new seen.new.items }
+        ensures some { IfSome result (λ got. HasGot self.now.cell self.now.number numbered.old notebook.old.seen.items (got_view self.now.cell got) numbered.new notebook.new.seen.items) }
+        ensures none { result ≡ None → HasTried numbered.old notebook.old.seen.items numbered.new notebook.new.seen.items }
+        ensures notes { (notebook.new.heard ≡ notebook.old.heard) × (notebook.new.keyed ≡ notebook.old.keyed) }
         ensures process { numbered.new.seat.pass.process ≡ numbered.old.seat.pass.process }
     {
-        let first = match self.last(alloc, seen) {
+        let first = match self.last(alloc, notebook) {
             Ok(first) => first,
             Err(why) => return Some(Err(why)),
         };
         let end = self.report(alloc, numbered);
-        let later = match self.last(alloc, seen) {
+        let later = match self.last(alloc, notebook) {
             Ok(later) => later,
             Err(why) => return Some(Err(why)),
         };
@@ -134,31 +127,33 @@ impl<'a, R: Wait + Clock> CellQuestion<'a, R> {
     fn tried_alone(
         &self,
         alloc: Global,
-        seen: &mut Log<usize, EditList>,
+        notebook: &mut Notebook<'_>,
         numbered: &mut NumberedSeat,
     ) -> Result<Got, CallRefusal>
-        ensures got { HasGot self.now.cell self.now.number numbered.old seen.old.items (got_view self.now.cell result) numbered.new seen.new.items }
+        ensures got { HasGot self.now.cell self.now.number numbered.old notebook.old.seen.items (got_view self.now.cell result) numbered.new notebook.new.seen.items }
+        ensures notes { (notebook.new.heard ≡ notebook.old.heard) × (notebook.new.keyed ≡ notebook.old.keyed) }
         ensures process { numbered.new.seat.pass.process ≡ numbered.old.seat.pass.process }
     {
-        let backlog = self.keeping.take_turn(self.rt);
-        self.tried_with(alloc, &backlog.list, seen, numbered)
+        let backlog = notebook.take_turn(self.rt);
+        self.tried_with(alloc, &backlog, notebook, numbered)
     }
 
-    // A try with this list, which does not change meanwhile.
+    // A try with the list, which does not change meanwhile.
     fn tried_with(
         &self,
         alloc: Global,
-        list: &EditList,
-        seen: &mut Log<usize, EditList>,
+        backlog: &Backlog,
+        notebook: &mut Notebook<'_>,
         numbered: &mut NumberedSeat,
     ) -> Result<Got, CallRefusal>
-        ensures got { HasGot self.now.cell self.now.number numbered.old seen.old.items (got_view self.now.cell result) numbered.new seen.new.items }
+        ensures got { HasGot self.now.cell self.now.number numbered.old notebook.old.seen.items (got_view self.now.cell result) numbered.new notebook.new.seen.items }
+        ensures notes { (notebook.new.heard ≡ notebook.old.heard) × (notebook.new.keyed ≡ notebook.old.keyed) }
         ensures process { numbered.new.seat.pass.process ≡ numbered.old.seat.pass.process }
     {
-        match last_in(alloc, list, seen, self.cell) {
+        match last_in(alloc, backlog.show(notebook), self.cell) {
             Ok(edit) => {
                 let end = self.report(alloc, numbered);
-                *seen = seen.and(&0, list);
+                backlog.show(notebook);
                 got_of(end, self.number, edit)
             }
             Err(why) => Err(why),
@@ -169,17 +164,18 @@ impl<'a, R: Wait + Clock> CellQuestion<'a, R> {
     pub fn answer(
         &self,
         alloc: Global,
-        seen: &mut Log<usize, EditList>,
+        notebook: &mut Notebook<'_>,
         numbered: &mut NumberedSeat,
     ) -> Result<Got, CallRefusal>
-        ensures got { HasGot self.now.cell self.now.number numbered.old seen.old.items (got_view self.now.cell result) numbered.new seen.new.items }
+        ensures got { HasGot self.now.cell self.now.number numbered.old notebook.old.seen.items (got_view self.now.cell result) numbered.new notebook.new.seen.items }
+        ensures notes { (notebook.new.heard ≡ notebook.old.heard) × (notebook.new.keyed ≡ notebook.old.keyed) }
         ensures process { numbered.new.seat.pass.process ≡ numbered.old.seat.pass.process }
     {
         for _ in 0..TRIES {
-            if let Some(got) = self.tried(alloc, seen, numbered) {
+            if let Some(got) = self.tried(alloc, notebook, numbered) {
                 return got;
             }
         }
-        self.tried_alone(alloc, seen, numbered)
+        self.tried_alone(alloc, notebook, numbered)
     }
 }

@@ -1,28 +1,27 @@
 //! Edits with keys, over a shared sheet whose edits are kept in a store.
 
-ghost use Rattle.std.specs.Prelude.{◌≡◌, ◌++◌, ◌∷◌, ◌⊎◌, [], Option, IfOk, IfSome, None, Some};
+ghost use Rattle.std.specs.Prelude.{◌≡◌, ◌++◌, ◌⊎◌, Option, IfOk, IfSome, None, Some};
 ghost use Rattle.ds_server.specs.Replies.{resolved_view, set_view};
 ghost use Rattle.ds_store_journal.specs.Journals.{KeptEdit};
 ghost use Rattle.ds_store_keys.specs.Keys.{edit_of};
 ghost use Rattle.ds_store_keys.specs.Tables.{found};
 ghost use Rattle.ds_net_floor.specs.Entries.{entries};
-ghost use Rattle.ds_net_desks.specs.CellQuestions.{Seen, look};
 ghost use Rattle.ds_net_desks.specs.DeskSeats.{Uses};
 ghost use Rattle.ds_net_desks.specs.Hearing.{HearsNoted, HearsNotedKeys};
 ghost use Rattle.ds_net_desks.specs.Keyings.{AreCopies, SaysKnowing, SaysUse, once_view};
-ghost use Rattle.ds_net_desks.specs.StoredDesks.{EditsWithKey, HasResolved, HasSetOnce, Heard, Resolves, StoredSet, keyed_of, notes};
+ghost use Rattle.ds_net_desks.specs.StoredDesks.{EditsWithKey, HasResolved, HasSetOnce, Resolves, StoredSet, keyed_of, notes_in};
 
 use crate::numbered_seat::NumberedSeat;
 use crate::seat_pool::SeatPool;
 use crate::stored_desk::edited_as;
 use ds_formula::cells::Cell;
 use ds_net_floor::edit_list::EditList;
-use ds_net_floor::keeping::{Backlog, Keeping};
+use ds_net_floor::keeping::Backlog;
+use ds_net_floor::notebook::Notebook;
 use ds_server::desk::{CallRefusal, ListedEdit};
 use ds_state::answer::EditEnd;
 use ds_store_journal::edit::AnsweredEdit;
 use ds_store_keys::note::{KeyNote, KeyUse};
-use http_server::Log;
 use std::alloc::{AllocError, Global};
 use std::sync::Wait;
 
@@ -117,18 +116,10 @@ fn known_as(of: &KeyUse, cell: Cell, text: &[u8]) -> Knowing
     }
 }
 
-// Looks for the key in the list.
-fn known_in(
-    list: &EditList,
-    seen: &mut Log<usize, EditList>,
-    cell: Cell,
-    text: &[u8],
-    key: &[u8],
-) -> Knowing
-    ensures seen { seen.new.items ≡ seen.old.items ++ look list.now }
-    ensures says { SaysKnowing cell text.now (found list.now.keys key.now) result }
+// What is known of the key in the list, for an edit of the cell to the text.
+fn known_in(list: &EditList, cell: Cell, text: &[u8], key: &[u8]) -> Knowing
+    ensures { SaysKnowing cell text.now (found list.now.keys key.now) result }
 {
-    *seen = seen.and(&0, list);
     match list.use_of(key) {
         Some(of) => known_as(of, cell, text),
         None => Knowing::New,
@@ -139,28 +130,28 @@ fn known_in(
 fn edited_keyed(
     alloc: Global,
     backlog: &mut Backlog,
-    heard: &mut Log<usize, AnsweredEdit>,
-    keyed: &mut Log<usize, KeyNote>,
+    notebook: &mut Notebook<'_>,
     numbered: &mut NumberedSeat,
     cell: Cell,
     text: &[u8],
     key: &[u8],
 ) -> Result<EditEnd, CallRefusal>
-    ensures uses { Uses (StoredSet heard.old.items cell text.now heard.new.items) numbered.old (set_view result) numbered.new }
-    ensures keyed { keyed.new.items ≡ keyed.old.items ++ keyed_of numbered.old.seat.pass.process cell text.now key.now (set_view result) }
+    ensures uses { Uses (StoredSet notebook.old.heard.items cell text.now notebook.new.heard.items (set_view result)) numbered.old (set_view result) numbered.new }
+    ensures keyed { notebook.new.keyed.items ≡ notebook.old.keyed.items ++ keyed_of numbered.old.seat.pass.process cell text.now key.now (set_view result) }
+    ensures seen { notebook.new.seen ≡ notebook.old.seen }
     ensures process { numbered.new.seat.pass.process ≡ numbered.old.seat.pass.process }
-    ensures hears { HearsNoted numbered.old.numberings.items backlog.old heard.old.items backlog.new heard.new.items }
-    ensures hears_keys { HearsNotedKeys backlog.old keyed.old.items backlog.new keyed.new.items }
+    ensures hears { HearsNoted backlog.old notebook.old.heard.items backlog.new notebook.new.heard.items }
+    ensures hears_keys { HearsNotedKeys backlog.old notebook.old.keyed.items backlog.new notebook.new.keyed.items }
 {
     let Ok((kept, known)) = copies(alloc, key, text) else {
         return Err(CallRefusal::NoMemory);
     };
     let process = numbered.process();
-    let end = edited_as(alloc, backlog, heard, numbered, cell, text);
+    let end = edited_as(alloc, backlog, notebook, numbered, cell, text);
     if let Ok(EditEnd::Done(number)) = end {
         let note = kept.note(process, number, cell);
         let copy = known.note(process, number, cell);
-        backlog.hear_key(keyed, note, copy);
+        backlog.hear_key(notebook, note, copy);
     }
     end
 }
@@ -171,18 +162,20 @@ fn edited_once<R: Wait>(
     alloc: Global,
     pool: &SeatPool,
     backlog: &mut Backlog,
-    heard: &mut Log<usize, AnsweredEdit>,
-    keyed: &mut Log<usize, KeyNote>,
+    notebook: &mut Notebook<'_>,
     numbered: &mut NumberedSeat,
     cell: Cell,
     text: &[u8],
     key: &[u8],
 ) -> Result<EditEnd, CallRefusal>
-    ensures edits { (seen later : Seen) → EditsWithKey cell text.now key.now numbered.old (notes heard.old.items seen keyed.old.items) (set_view result) numbered.new (notes heard.new.items later keyed.new.items) }
+    ensures edits { EditsWithKey cell text.now key.now numbered.old (notes_in notebook.old) (set_view result) numbered.new (notes_in notebook.new) }
+    ensures seen { notebook.new.seen ≡ notebook.old.seen }
     ensures process { numbered.new.seat.pass.process ≡ numbered.old.seat.pass.process }
+    ensures hears { HearsNoted backlog.old notebook.old.heard.items backlog.new notebook.new.heard.items }
+    ensures hears_keys { HearsNotedKeys backlog.old notebook.old.keyed.items backlog.new notebook.new.keyed.items }
 {
     pool.catch_up(rt, numbered);
-    edited_keyed(alloc, backlog, heard, keyed, numbered, cell, text, key)
+    edited_keyed(alloc, backlog, notebook, numbered, cell, text, key)
 }
 
 /// A whole edit by the seat, in the newest sheet, which nobody else's overlaps, with this key: where the key is known, nothing is
@@ -192,20 +185,17 @@ pub fn seat_edit_once<R: Wait>(
     rt: &R,
     alloc: Global,
     pool: &SeatPool,
-    keeping: &Keeping,
-    heard: &mut Log<usize, AnsweredEdit>,
-    seen: &mut Log<usize, EditList>,
-    keyed: &mut Log<usize, KeyNote>,
+    notebook: &mut Notebook<'_>,
     numbered: &mut NumberedSeat,
     cell: Cell,
     text: &[u8],
     key: &[u8],
 ) -> Once
-    ensures once { HasSetOnce cell text.now key.now numbered.old (notes heard.old.items seen.old.items keyed.old.items) (once_view result) numbered.new (notes heard.new.items seen.new.items keyed.new.items) }
+    ensures once { HasSetOnce cell text.now key.now numbered.old (notes_in notebook.old) (once_view result) numbered.new (notes_in notebook.new) }
     ensures process { numbered.new.seat.pass.process ≡ numbered.old.seat.pass.process }
 {
-    let mut backlog = keeping.take_turn(rt);
-    match known_in(&backlog.list, seen, cell, text, key) {
+    let mut backlog = notebook.take_turn(rt);
+    match known_in(backlog.show(notebook), cell, text, key) {
         Knowing::Same(number) => Once::Known(number),
         Knowing::Other => Once::Reused,
         Knowing::New => {
@@ -214,14 +204,13 @@ pub fn seat_edit_once<R: Wait>(
                 alloc,
                 pool,
                 &mut backlog,
-                heard,
-                keyed,
+                notebook,
                 numbered,
                 cell,
                 text,
                 key,
             );
-            keeping.wake();
+            notebook.wake();
             Once::Made(end)
         }
     }
@@ -271,11 +260,12 @@ fn spent(alloc: Global, key: &[u8]) -> Result<(KeyNote, KeyNote), AllocError>
 fn spend(
     alloc: Global,
     backlog: &mut Backlog,
-    keyed: &mut Log<usize, KeyNote>,
+    notebook: &mut Notebook<'_>,
     key: &[u8],
 ) -> Result<Option<ListedEdit>, CallRefusal>
-    ensures resolves { Resolves key.now None keyed.old.items (resolved_view result) keyed.new.items ⊎ ((result ≡ Err CallRefusal.NoMemory) × (keyed.new.items ≡ keyed.old.items)) }
-    ensures hears_keys { HearsNotedKeys backlog.old keyed.old.items backlog.new keyed.new.items }
+    ensures resolves { Resolves key.now None notebook.old.keyed.items (resolved_view result) notebook.new.keyed.items ⊎ ((result ≡ Err CallRefusal.NoMemory) × (notebook.new.keyed.items ≡ notebook.old.keyed.items)) }
+    ensures notes { (notebook.new.heard ≡ notebook.old.heard) × (notebook.new.seen ≡ notebook.old.seen) }
+    ensures hears_keys { HearsNotedKeys backlog.old notebook.old.keyed.items backlog.new notebook.new.keyed.items }
     ensures edits { (backlog.new.edits.items ≡ backlog.old.edits.items) × (entries backlog.new.list ≡ entries backlog.old.list) × (backlog.new.list.nobody ≡ backlog.old.list.nobody) }
 {
     let Ok((note, copy)) = spent(alloc, key) else {
@@ -284,7 +274,7 @@ fn spend(
     if backlog.make_room().is_err() {
         return Err(CallRefusal::NoMemory);
     }
-    backlog.hear_key(keyed, note, copy);
+    backlog.hear_key(notebook, note, copy);
     Ok(None)
 }
 
@@ -292,14 +282,11 @@ fn spend(
 fn use_in(
     alloc: Global,
     list: &EditList,
-    seen: &mut Log<usize, EditList>,
     key: &[u8],
 ) -> Result<Option<Option<ListedEdit>>, AllocError>
-    ensures seen { seen.new.items ≡ seen.old.items ++ look list.now }
     ensures none { IfOk result (λ of. of ≡ None → found list.now.keys key.now ≡ None) }
     ensures some { IfOk result (λ of. IfSome of (λ edit. (kept : Option KeptEdit) × (found list.now.keys key.now ≡ Some kept) × SaysUse kept edit)) }
 {
-    *seen = seen.and(&0, list);
     match list.use_of(key) {
         Some(of) => Ok(Some(edit_listed(alloc, of)?)),
         None => Ok(None),
@@ -311,19 +298,18 @@ fn use_in(
 pub fn resolved<R: Wait>(
     rt: &R,
     alloc: Global,
-    keeping: &Keeping,
-    seen: &mut Log<usize, EditList>,
-    keyed: &mut Log<usize, KeyNote>,
+    notebook: &mut Notebook<'_>,
     key: &[u8],
 ) -> Result<Option<ListedEdit>, CallRefusal>
-    ensures { (heard : Heard) → HasResolved key.now (notes heard seen.old.items keyed.old.items) (resolved_view result) (notes heard seen.new.items keyed.new.items) }
+    ensures resolved { HasResolved key.now (notes_in notebook.old) (resolved_view result) (notes_in notebook.new) }
+    ensures heard { notebook.new.heard ≡ notebook.old.heard }
 {
-    let mut backlog = keeping.take_turn(rt);
-    match use_in(alloc, &backlog.list, seen, key) {
+    let mut backlog = notebook.take_turn(rt);
+    match use_in(alloc, backlog.show(notebook), key) {
         Ok(Some(edit)) => Ok(edit),
         Ok(None) => {
-            let end = spend(alloc, &mut backlog, keyed, key);
-            keeping.wake();
+            let end = spend(alloc, &mut backlog, notebook, key);
+            notebook.wake();
             end
         }
         Err(_) => Err(CallRefusal::NoMemory),

@@ -15,8 +15,7 @@ use crate::numbered_seat::NumberedSeat;
 use crate::seat_pool::{NoneFree, SeatPool};
 use crate::shared_settle::{STEPS_MOST, shared_settle};
 use ds_formula::cells::{Cell, Shape};
-use ds_net_floor::edit_list::EditList;
-use ds_net_floor::keeping::Keeping;
+use ds_net_floor::notebook::Notebook;
 use ds_net_floor::visit::Visit;
 use ds_order::course::Course;
 use ds_order::known::KnownReferences;
@@ -26,7 +25,6 @@ use ds_shared_seats::seat::Seat;
 use ds_state::answer::EditEnd;
 use ds_state::recovery::{LastEdit, RecoveryEnd};
 use ds_state::show::ShowEnd;
-use http_server::Log;
 use std::alloc::Global;
 use std::sync::Wait;
 use std::time::Clock;
@@ -146,12 +144,12 @@ impl<'a, R: Wait + Clock> SharedDesk<'a, R> {
     pub fn got(
         &mut self,
         alloc: Global,
-        keeping: &Keeping,
-        seen: &mut Log<usize, EditList>,
+        notebook: &mut Notebook<'_>,
         cell: Cell,
     ) -> Result<Got, CallRefusal>
         requires { IsInside self.old.shape cell }
-        ensures asked { HasAsked self.old.shape cell self.old.numbered seen.old.items (got_view cell result) self.new.numbered seen.new.items }
+        ensures asked { HasAsked self.old.shape cell self.old.numbered notebook.old.seen.items (got_view cell result) self.new.numbered notebook.new.seen.items }
+        ensures notes { (notebook.new.heard ≡ notebook.old.heard) × (notebook.new.keyed ≡ notebook.old.keyed) }
         ensures process { (process : ℕ) → IsSeatedAt self.old.numbered process → IsSeatedAt self.new.numbered process }
         ensures rest { (self.new.shape ≡ self.old.shape) × (self.new.pool ≡ self.old.pool) × (self.new.token ≡ self.old.token) }
     {
@@ -160,20 +158,19 @@ impl<'a, R: Wait + Clock> SharedDesk<'a, R> {
         let question = CellQuestion {
             rt,
             pool,
-            keeping,
             course: &self.course,
             visit: self.visit,
             cell,
             number: self.shape.index(cell),
         };
         if let Some(numbered) = &mut self.numbered {
-            return question.answer(alloc, seen, numbered);
+            return question.answer(alloc, notebook, numbered);
         }
         let mut numbered = match pool.take_any(rt, joins) {
             Ok(numbered) => numbered,
-            Err(none) => return computed_cell(rt, alloc, self.shape, keeping, seen, cell, &none),
+            Err(none) => return computed_cell(rt, alloc, self.shape, notebook, cell, &none),
         };
-        let got = question.answer(alloc, seen, &mut numbered);
+        let got = question.answer(alloc, notebook, &mut numbered);
         pool.put_back(rt, numbered);
         got
     }

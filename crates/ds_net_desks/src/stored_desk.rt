@@ -2,10 +2,10 @@
 
 ghost use Rattle.std.specs.Prelude.{◌≡◌, ◌++◌, ◌∷◌, [], IfOk};
 ghost use Rattle.ds_server.specs.Replies.{set_view};
+ghost use Rattle.ds_net_desks.specs.Counting.{number_seen, seen_by};
 ghost use Rattle.ds_net_desks.specs.DeskSeats.{Uses};
 ghost use Rattle.ds_net_desks.specs.Hearing.{HearsNoKey, HearsNoted};
-ghost use Rattle.ds_net_desks.specs.StoredDesks.{HasListed, HasUndone, Keyed, SaysBefore, SaysPart, StoredSet, notes};
-ghost use Rattle.ds_net_desks.specs.CellQuestions.{look};
+ghost use Rattle.ds_net_desks.specs.StoredDesks.{HasListed, HasUndone, SaysBefore, SaysPart, StoredSet, notes_in};
 
 use crate::computed::computed_values;
 use crate::keyed::{Once, resolved, seat_edit_once};
@@ -16,27 +16,22 @@ use crate::shared_desk::{SharedDesk, edited};
 use ds_formula::cells::{Cell, Shape};
 use ds_net_floor::edit_list::EditList;
 use ds_net_floor::keeping::{Backlog, Keeping};
+use ds_net_floor::notebook::Notebook;
 use ds_server::desk::{CallRefusal, Desk, Got, History, ListedEdit, Reported};
 use ds_shared_seats::seat::Seat;
 use ds_state::answer::EditEnd;
 use ds_state::recovery::LastEdit;
 use ds_store_journal::edit::AnsweredEdit;
-use ds_store_keys::note::KeyNote;
-use http_server::Log;
 use std::alloc::{AllocError, Global};
 use std::sync::Wait;
 use std::time::Clock;
 
-/// What one session sees of a shared sheet with a store: what it sees of the sheet, what is shared with the keeper of the
-/// store, and, for proofs alone, each edit and each key of which the keeper has heard and each list of edits that the session was
-/// shown.
+/// What one session sees of a shared sheet with a store: what it sees of the sheet, and a notebook, which has the keeper of the store
+/// and what the session has to do with it.
 #[derive(Drop)]
 pub struct StoredDesk<'a, R: Wait + Clock> {
     shared: SharedDesk<'a, R>,
-    keeping: &'a Keeping,
-    heard: Log<usize, AnsweredEdit>,
-    seen: Log<usize, EditList>,
-    keyed: Log<usize, KeyNote>,
+    notebook: Notebook<'a>,
 }
 
 impl<'a, R: Wait + Clock> StoredDesk<'a, R> {
@@ -44,10 +39,7 @@ impl<'a, R: Wait + Clock> StoredDesk<'a, R> {
     pub fn new(shared: SharedDesk<'a, R>, keeping: &'a Keeping) -> StoredDesk<'a, R> {
         StoredDesk {
             shared,
-            keeping,
-            heard: Log::new(),
-            seen: Log::new(),
-            keyed: Log::new(),
+            notebook: Notebook::new(keeping),
         }
     }
 }
@@ -56,18 +48,19 @@ impl<'a, R: Wait + Clock> StoredDesk<'a, R> {
 #[tactic(auto, using(crate::proofs::Hears::hears_one))]
 fn hear(
     backlog: &mut Backlog,
-    heard: &mut Log<usize, AnsweredEdit>,
+    notebook: &mut Notebook<'_>,
     numberings: &[Numbering],
     edit: AnsweredEdit,
     copy: Vec<u8>,
 )
     requires { copy.items ≡ edit.text }
-    ensures log { heard.new.items ≡ heard.old.items ++ (edit.process, edit) ∷ [] }
-    ensures hears { HearsNoted numberings.now backlog.old heard.old.items backlog.new heard.new.items }
+    ensures noted { notebook.new.heard.items ≡ notebook.old.heard.items ++ (number_seen numberings.now edit.process edit.number, edit) ∷ [] }
+    ensures notes { (notebook.new.seen ≡ notebook.old.seen) × (notebook.new.keyed ≡ notebook.old.keyed) }
+    ensures hears { HearsNoted backlog.old notebook.old.heard.items backlog.new notebook.new.heard.items }
     ensures keys { HearsNoKey backlog.old backlog.new }
 {
     let known = number_seen(numberings, edit.process, edit.number);
-    backlog.hear(heard, edit, known, copy);
+    backlog.hear(notebook, edit, known, copy);
 }
 
 // An edit by the seat, which nobody else's overlaps, with room for the keeper to hear of it and for the list, by this text and a
@@ -76,7 +69,7 @@ fn hear(
 fn edited_alone(
     alloc: Global,
     backlog: &mut Backlog,
-    heard: &mut Log<usize, AnsweredEdit>,
+    notebook: &mut Notebook<'_>,
     numberings: &[Numbering],
     seat: &mut Seat,
     cell: Cell,
@@ -84,8 +77,9 @@ fn edited_alone(
     copy: Vec<u8>,
 ) -> Result<EditEnd, CallRefusal>
     requires { copy.items ≡ text.items }
-    ensures set { StoredSet heard.old.items cell text.items heard.new.items seat.old (set_view result) seat.new }
-    ensures hears { HearsNoted numberings.now backlog.old heard.old.items backlog.new heard.new.items }
+    ensures set { StoredSet notebook.old.heard.items cell text.items notebook.new.heard.items (seen_by numberings.now seat.old.pass.process (set_view result)) seat.old (set_view result) seat.new }
+    ensures notes { (notebook.new.seen ≡ notebook.old.seen) × (notebook.new.keyed ≡ notebook.old.keyed) }
+    ensures hears { HearsNoted backlog.old notebook.old.heard.items backlog.new notebook.new.heard.items }
     ensures keys { HearsNoKey backlog.old backlog.new }
 {
     if backlog.make_room().is_err() {
@@ -100,7 +94,7 @@ fn edited_alone(
                 cell,
                 text,
             };
-            hear(backlog, heard, numberings, edit, copy);
+            hear(backlog, notebook, numberings, edit, copy);
             Ok(EditEnd::Done(number))
         }
         other => other,
@@ -111,22 +105,23 @@ fn edited_alone(
 fn edited_seen(
     alloc: Global,
     backlog: &mut Backlog,
-    heard: &mut Log<usize, AnsweredEdit>,
+    notebook: &mut Notebook<'_>,
     numbered: &mut NumberedSeat,
     cell: Cell,
     text: Vec<u8>,
     copy: Vec<u8>,
 ) -> Result<EditEnd, CallRefusal>
     requires { copy.items ≡ text.items }
-    ensures uses { Uses (StoredSet heard.old.items cell text.items heard.new.items) numbered.old (set_view result) numbered.new }
+    ensures uses { Uses (StoredSet notebook.old.heard.items cell text.items notebook.new.heard.items (set_view result)) numbered.old (set_view result) numbered.new }
     ensures process { numbered.new.seat.pass.process ≡ numbered.old.seat.pass.process }
-    ensures hears { HearsNoted numbered.old.numberings.items backlog.old heard.old.items backlog.new heard.new.items }
+    ensures notes { (notebook.new.seen ≡ notebook.old.seen) × (notebook.new.keyed ≡ notebook.old.keyed) }
+    ensures hears { HearsNoted backlog.old notebook.old.heard.items backlog.new notebook.new.heard.items }
     ensures keys { HearsNoKey backlog.old backlog.new }
 {
     let end = edited_alone(
         alloc,
         backlog,
-        heard,
+        notebook,
         &numbered.numberings,
         &mut numbered.seat,
         cell,
@@ -149,18 +144,19 @@ fn copies(alloc: Global, text: &[u8]) -> Result<(Vec<u8>, Vec<u8>), AllocError>
 pub(crate) fn edited_as(
     alloc: Global,
     backlog: &mut Backlog,
-    heard: &mut Log<usize, AnsweredEdit>,
+    notebook: &mut Notebook<'_>,
     numbered: &mut NumberedSeat,
     cell: Cell,
     text: &[u8],
 ) -> Result<EditEnd, CallRefusal>
-    ensures uses { Uses (StoredSet heard.old.items cell text.now heard.new.items) numbered.old (set_view result) numbered.new }
+    ensures uses { Uses (StoredSet notebook.old.heard.items cell text.now notebook.new.heard.items (set_view result)) numbered.old (set_view result) numbered.new }
     ensures process { numbered.new.seat.pass.process ≡ numbered.old.seat.pass.process }
-    ensures hears { HearsNoted numbered.old.numberings.items backlog.old heard.old.items backlog.new heard.new.items }
+    ensures notes { (notebook.new.seen ≡ notebook.old.seen) × (notebook.new.keyed ≡ notebook.old.keyed) }
+    ensures hears { HearsNoted backlog.old notebook.old.heard.items backlog.new notebook.new.heard.items }
     ensures keys { HearsNoKey backlog.old backlog.new }
 {
     match copies(alloc, text) {
-        Ok((kept, listed)) => edited_seen(alloc, backlog, heard, numbered, cell, kept, listed),
+        Ok((kept, listed)) => edited_seen(alloc, backlog, notebook, numbered, cell, kept, listed),
         Err(_) => Err(CallRefusal::NoMemory),
     }
 }
@@ -171,33 +167,26 @@ fn seat_edit<R: Wait>(
     rt: &R,
     alloc: Global,
     pool: &SeatPool,
-    keeping: &Keeping,
-    heard: &mut Log<usize, AnsweredEdit>,
+    notebook: &mut Notebook<'_>,
     numbered: &mut NumberedSeat,
     cell: Cell,
     text: &[u8],
 ) -> Result<EditEnd, CallRefusal>
-    ensures uses { Uses (StoredSet heard.old.items cell text.now heard.new.items) numbered.old (set_view result) numbered.new }
+    ensures uses { Uses (StoredSet notebook.old.heard.items cell text.now notebook.new.heard.items (set_view result)) numbered.old (set_view result) numbered.new }
     ensures process { numbered.new.seat.pass.process ≡ numbered.old.seat.pass.process }
+    ensures notes { (notebook.new.seen ≡ notebook.old.seen) × (notebook.new.keyed ≡ notebook.old.keyed) }
 {
-    let mut backlog = keeping.take_turn(rt);
+    let mut backlog = notebook.take_turn(rt);
     pool.catch_up(rt, numbered);
-    let end = edited_as(alloc, &mut backlog, heard, numbered, cell, text);
-    keeping.wake();
+    let end = edited_as(alloc, &mut backlog, notebook, numbered, cell, text);
+    notebook.wake();
     end
 }
 
-// Looks for the text that the cell had before its last edit in the list.
-fn text_before(
-    alloc: Global,
-    list: &EditList,
-    seen: &mut Log<usize, EditList>,
-    cell: Cell,
-) -> Result<Vec<u8>, CallRefusal>
-    ensures seen { seen.new.items ≡ seen.old.items ++ look list.now }
-    ensures says { SaysBefore cell list.now result }
+// The text that the cell had before its last edit in the list.
+fn text_before(alloc: Global, list: &EditList, cell: Cell) -> Result<Vec<u8>, CallRefusal>
+    ensures { SaysBefore cell list.now result }
 {
-    *seen = seen.and(&0, list);
     match list.text_before(alloc, cell) {
         Ok(Some(text)) => Ok(text),
         Ok(None) => Err(CallRefusal::NoEdit),
@@ -210,38 +199,35 @@ fn seat_undo<R: Wait>(
     rt: &R,
     alloc: Global,
     pool: &SeatPool,
-    keeping: &Keeping,
-    heard: &mut Log<usize, AnsweredEdit>,
-    seen: &mut Log<usize, EditList>,
+    notebook: &mut Notebook<'_>,
     numbered: &mut NumberedSeat,
     cell: Cell,
 ) -> (Result<EditEnd, CallRefusal>, Vec<u8>)
-    ensures undone { (keyed : Keyed) → HasUndone cell numbered.old (notes heard.old.items seen.old.items keyed) (set_view result.0) numbered.new (notes heard.new.items seen.new.items keyed) }
+    ensures undone { HasUndone cell numbered.old (notes_in notebook.old) (set_view result.0) numbered.new (notes_in notebook.new) }
     ensures process { numbered.new.seat.pass.process ≡ numbered.old.seat.pass.process }
 {
-    let mut backlog = keeping.take_turn(rt);
-    let text = match text_before(alloc, &backlog.list, seen, cell) {
+    let mut backlog = notebook.take_turn(rt);
+    let text = match text_before(alloc, backlog.show(notebook), cell) {
         Ok(text) => text,
         Err(why) => return (Err(why), Vec::new(alloc)),
     };
     pool.catch_up(rt, numbered);
-    let end = edited_as(alloc, &mut backlog, heard, numbered, cell, text.as_slice());
-    keeping.wake();
+    let end = edited_as(
+        alloc,
+        &mut backlog,
+        notebook,
+        numbered,
+        cell,
+        text.as_slice(),
+    );
+    notebook.wake();
     (end, text)
 }
 
 // A part of this list.
-fn part_of(
-    alloc: Global,
-    list: &EditList,
-    seen: &mut Log<usize, EditList>,
-    from: usize,
-    most: usize,
-) -> Result<History, CallRefusal>
-    ensures seen { seen.new.items ≡ seen.old.items ++ look list.now }
-    ensures says { SaysPart from most list.now result }
+fn part_of(alloc: Global, list: &EditList, from: usize, most: usize) -> Result<History, CallRefusal>
+    ensures { SaysPart from most list.now result }
 {
-    *seen = seen.and(&0, list);
     match list.part(alloc, from, most) {
         Ok(history) => Ok(history),
         Err(_) => Err(CallRefusal::NoMemory),
@@ -252,15 +238,15 @@ fn part_of(
 fn listed_part<R: Wait>(
     rt: &R,
     alloc: Global,
-    keeping: &Keeping,
-    seen: &mut Log<usize, EditList>,
+    notebook: &mut Notebook<'_>,
     from: usize,
     most: usize,
 ) -> Result<History, CallRefusal>
-    ensures { HasListed from most seen.old.items result seen.new.items }
+    ensures listed { HasListed from most notebook.old.seen.items result notebook.new.seen.items }
+    ensures notes { (notebook.new.heard ≡ notebook.old.heard) × (notebook.new.keyed ≡ notebook.old.keyed) }
 {
-    let backlog = keeping.take_turn(rt);
-    part_of(alloc, &backlog.list, seen, from, most)
+    let backlog = notebook.take_turn(rt);
+    part_of(alloc, backlog.show(notebook), from, most)
 }
 
 /// As the shared sheet's desk; and the keeper of the store hears of each edit that is answered Done, of no other, and in
@@ -269,14 +255,14 @@ impl<'a, R: Wait + Clock> Desk for StoredDesk<'a, R> {
     ghost use Rattle.ds_net_desks.specs.DeskSeats.{IsSeatedAt};
     ghost use Rattle.ds_net_desks.specs.PoolSizes.{count_of};
     ghost use Rattle.std.specs.Prelude.{option_map};
-    ghost use Rattle.ds_net_desks.specs.StoredDesks.{StoredDeals, notes};
+    ghost use Rattle.ds_net_desks.specs.StoredDesks.{StoredDeals, notes_in};
 
     ghost rules = { record {
       shape = λ d. d.shared.shape;
       processes = λ d. count_of d.shared.pool.now;
       token = λ d. option_map (λ t. t.now) d.shared.token;
       sits = λ d p. IsSeatedAt d.shared.numbered p;
-      does = λ old call said new. StoredDeals old.shared.shape old.shared.numbered (notes old.heard.items old.seen.items old.keyed.items) call said new.shared.numbered (notes new.heard.items new.seen.items new.keyed.items);
+      does = λ old call said new. StoredDeals old.shared.shape old.shared.numbered (notes_in old.notebook) call said new.shared.numbered (notes_in new.notebook);
     } };
 
     fn shape(&self) -> Shape {
@@ -306,20 +292,11 @@ impl<'a, R: Wait + Clock> Desk for StoredDesk<'a, R> {
         cell: Cell,
         text: &[u8],
     ) -> Result<EditEnd, CallRefusal> {
-        let (rt, pool, keeping) = (self.shared.rt, self.shared.pool, self.keeping);
+        let (rt, pool) = (self.shared.rt, self.shared.pool);
         let Some(numbered) = &mut self.shared.numbered else {
             return Err(CallRefusal::ProcessTaken);
         };
-        let end = seat_edit(
-            rt,
-            alloc,
-            pool,
-            keeping,
-            &mut self.heard,
-            numbered,
-            cell,
-            text,
-        );
+        let end = seat_edit(rt, alloc, pool, &mut self.notebook, numbered, cell, text);
         self.shared.noted(alloc, cell, text, &end);
         end
     }
@@ -332,7 +309,7 @@ impl<'a, R: Wait + Clock> Desk for StoredDesk<'a, R> {
         text: &[u8],
         key: &[u8],
     ) -> Result<EditEnd, CallRefusal> {
-        let (rt, pool, keeping) = (self.shared.rt, self.shared.pool, self.keeping);
+        let (rt, pool) = (self.shared.rt, self.shared.pool);
         let Some(numbered) = &mut self.shared.numbered else {
             return Err(CallRefusal::ProcessTaken);
         };
@@ -340,10 +317,7 @@ impl<'a, R: Wait + Clock> Desk for StoredDesk<'a, R> {
             rt,
             alloc,
             pool,
-            keeping,
-            &mut self.heard,
-            &mut self.seen,
-            &mut self.keyed,
+            &mut self.notebook,
             numbered,
             cell,
             text,
@@ -356,20 +330,11 @@ impl<'a, R: Wait + Clock> Desk for StoredDesk<'a, R> {
     }
 
     fn undo(&mut self, alloc: Global, _process: usize, cell: Cell) -> Result<EditEnd, CallRefusal> {
-        let (rt, pool, keeping) = (self.shared.rt, self.shared.pool, self.keeping);
+        let (rt, pool) = (self.shared.rt, self.shared.pool);
         let Some(numbered) = &mut self.shared.numbered else {
             return Err(CallRefusal::ProcessTaken);
         };
-        let (end, text) = seat_undo(
-            rt,
-            alloc,
-            pool,
-            keeping,
-            &mut self.heard,
-            &mut self.seen,
-            numbered,
-            cell,
-        );
+        let (end, text) = seat_undo(rt, alloc, pool, &mut self.notebook, numbered, cell);
         self.shared.noted(alloc, cell, text.as_slice(), &end);
         end
     }
@@ -385,8 +350,7 @@ impl<'a, R: Wait + Clock> Desk for StoredDesk<'a, R> {
                 self.shared.rt,
                 alloc,
                 self.shared.shape,
-                self.keeping,
-                &mut self.seen,
+                &mut self.notebook,
                 &none,
             ),
         };
@@ -400,29 +364,15 @@ impl<'a, R: Wait + Clock> Desk for StoredDesk<'a, R> {
         _joined: Option<usize>,
         cell: Cell,
     ) -> Result<Got, CallRefusal> {
-        self.shared.got(alloc, self.keeping, &mut self.seen, cell)
+        self.shared.got(alloc, &mut self.notebook, cell)
     }
 
     fn history(&mut self, alloc: Global, from: usize, most: usize) -> Result<History, CallRefusal> {
-        listed_part(
-            self.shared.rt,
-            alloc,
-            self.keeping,
-            &mut self.seen,
-            from,
-            most,
-        )
+        listed_part(self.shared.rt, alloc, &mut self.notebook, from, most)
     }
 
     fn resolve(&mut self, alloc: Global, key: &[u8]) -> Result<Option<ListedEdit>, CallRefusal> {
-        resolved(
-            self.shared.rt,
-            alloc,
-            self.keeping,
-            &mut self.seen,
-            &mut self.keyed,
-            key,
-        )
+        resolved(self.shared.rt, alloc, &mut self.notebook, key)
     }
 
     fn last(&mut self, alloc: Global, process: usize) -> Result<Option<LastEdit>, CallRefusal> {

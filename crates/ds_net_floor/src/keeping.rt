@@ -2,15 +2,16 @@
 
 ghost use Rattle.std.specs.Prelude.{◌≡◌, ◌≢◌, ◌+◌, ◌++◌, ◌∷◌, ◌≤◌, ◌⊎◌, ◌↔◌, [], List, ℕ, Some, if◌then◌else◌, length, IfSome, IsTrue};
 ghost use Rattle.std.specs.Str.{bytes_eq};
+ghost use Rattle.std.specs.Sync.Mutex.{mutex_guard_value};
 ghost use Rattle.ds_store_keys.specs.Tables.{found};
 ghost use Rattle.ds_net_floor.specs.EditLists.{told_as};
 ghost use Rattle.ds_net_floor.specs.Entries.{entries};
 
 use crate::edit_list::EditList;
+use crate::notebook::Notebook;
 use ds_store::committed::Committed;
 use ds_store_journal::edit::AnsweredEdit;
 use ds_store_keys::note::KeyNote;
-use http_server::Log;
 use std::alloc::{AllocError, Global};
 use std::mem;
 use std::sync::{Condvar, Mutex, MutexGuard, Wait};
@@ -106,11 +107,12 @@ impl KeptCount {
     }
 }
 
-/// What the keeper has heard of, what of it is kept, and the edits that count in the newest sheet, with their keys.
+/// What the keeper has heard of, what of it is kept, and the edits that count in the newest sheet, with their keys. A session makes
+/// room, tells the keeper, and looks at the list. The rest needs what no session has: the keeping, a new list or a commit.
 #[derive(Drop)]
 pub struct Backlog {
-    /// The edits that count.
-    pub list: EditList,
+    // The edits that count.
+    list: EditList,
     // The edits and the keys that the keeper has not taken yet, in the order in which they were made.
     edits: Vec<AnsweredEdit>,
     keys: Vec<KeyNote>,
@@ -151,23 +153,33 @@ impl Backlog {
         self.edits.reserve(1)
     }
 
-    /// The keeper hears of an edit that was answered Done, which stands then in this history of what it has heard, too, and
-    /// in the list, by the number by which clients know it; with a copy of its text. Where there is no room for it nothing is
-    /// kept any more.
+    /// The list of the edits that count, for a session, which notes that it was shown it.
+    pub fn show(&self, notebook: &mut Notebook<'_>) -> &EditList
+        ensures list { result.now ≡ self.now.list }
+        ensures seen { notebook.new.seen.items ≡ notebook.old.seen.items ++ (0, result.now) ∷ [] }
+        ensures notes { (notebook.new.heard ≡ notebook.old.heard) × (notebook.new.keyed ≡ notebook.old.keyed) }
+    {
+        notebook.note_list(&self.list);
+        &self.list
+    }
+
+    /// The keeper hears of an edit that was answered Done, which the session notes then, and which stands in the list, by the
+    /// number by which clients know it; with a copy of its text. Where there is no room for it nothing is kept any more.
     pub fn hear(
         &mut self,
-        heard: &mut Log<usize, AnsweredEdit>,
+        notebook: &mut Notebook<'_>,
         edit: AnsweredEdit,
         number: usize,
         text: Vec<u8>,
     )
         requires { text.items ≡ edit.text }
-        ensures log { heard.new.items ≡ heard.old.items ++ (edit.process, edit) ∷ [] }
+        ensures noted { notebook.new.heard.items ≡ notebook.old.heard.items ++ (number, edit) ∷ [] }
+        ensures notes { (notebook.new.seen ≡ notebook.old.seen) × (notebook.new.keyed ≡ notebook.old.keyed) }
         ensures heard { (self.new.edits.items ≡ self.old.edits.items ++ edit ∷ []) ⊎ (self.new.phase ≡ Phase.Failed) }
         ensures listed { (entries self.new.list ≡ entries self.old.list ++ told_as (number, edit) ∷ []) ⊎ (self.new.phase ≡ Phase.Failed) }
         ensures rest { (self.new.keys ≡ self.old.keys) × (self.new.list.keys ≡ self.old.list.keys) × (self.new.list.nobody ≡ self.old.list.nobody) }
     {
-        *heard = heard.and(&edit.process, &edit);
+        notebook.note_edit(number, &edit);
         let Some(count) = self.heard.checked_add(1) else {
             self.phase = Phase::Failed;
             return;
@@ -182,17 +194,18 @@ impl Backlog {
         }
     }
 
-    /// The keeper hears of a key, which stands then in this history of what it has heard, too, and is known from then on, by a
-    /// copy of it. Where there is no room for it, or it is known already, nothing is kept any more.
-    pub fn hear_key(&mut self, keyed: &mut Log<usize, KeyNote>, note: KeyNote, copy: KeyNote)
+    /// The keeper hears of a key, which the session notes then, and which is known from then on, by a copy of it. Where there is
+    /// no room for it, or it is known already, nothing is kept any more.
+    pub fn hear_key(&mut self, notebook: &mut Notebook<'_>, note: KeyNote, copy: KeyNote)
         requires { copy ≡ note }
-        ensures log { keyed.new.items ≡ keyed.old.items ++ (0, note) ∷ [] }
+        ensures noted { notebook.new.keyed.items ≡ notebook.old.keyed.items ++ (0, note) ∷ [] }
+        ensures notes { (notebook.new.heard ≡ notebook.old.heard) × (notebook.new.seen ≡ notebook.old.seen) }
         ensures heard { (self.new.keys.items ≡ self.old.keys.items ++ note ∷ []) ⊎ (self.new.phase ≡ Phase.Failed) }
         ensures known { ((key : List ℕ) → found self.new.list.keys key ≡ (if bytes_eq key note.key then Some note.edit else found self.old.list.keys key)) ⊎ (self.new.phase ≡ Phase.Failed) }
         ensures rest { (self.new.edits ≡ self.old.edits) × (entries self.new.list ≡ entries self.old.list) × (self.new.list.nobody ≡ self.old.list.nobody) }
         ensures failed { self.old.phase ≡ Phase.Failed → self.new.phase ≡ Phase.Failed }
     {
-        *keyed = keyed.and(&0, &note);
+        notebook.note_key(&note);
         let Some(more) = self.heard.checked_add(1) else {
             self.phase = Phase::Failed;
             return;
@@ -215,8 +228,8 @@ impl Backlog {
         self.list = list;
     }
 
-    /// All edits and keys that have come, which the keeper has in hand then.
-    pub fn take(&mut self, alloc: Global) -> Batch
+    // All edits and keys that have come, which the keeper has in hand then.
+    fn take(&mut self, alloc: Global) -> Batch
         ensures edits { (result.edits.items ≡ self.old.edits.items) × (result.keys.items ≡ self.old.keys.items) }
         ensures taken { self.new.taken ≡ self.old.taken + (length self.old.edits.items + length self.old.keys.items) }
         ensures heard { (self.new.heard ≡ self.old.heard) × (self.new.kept ≡ self.old.kept) }
@@ -262,7 +275,8 @@ impl Backlog {
 
     // That all is kept, if it is, and no more comes.
     fn drained(&self) -> Option<Drained>
-        ensures { IfSome result (λ d. (d.heard ≡ self.now.heard) × (d.kept ≡ self.now.kept.count)) }
+        ensures all { IfSome result (λ d. (d.heard ≡ self.now.heard) × (d.kept ≡ self.now.kept.count)) }
+        ensures ends { IfSome result (λ _. self.now.phase ≡ Phase.Ends) }
     {
         if self.phase != Phase::Ends || self.heard != self.kept.count {
             return None;
@@ -314,6 +328,13 @@ impl Keeping {
     /// cannot be.
     pub fn wait_for_all<R: Wait>(&self, rt: &R) -> Option<AllKept> {
         let backlog = self.backlog.lock(rt);
+        self.wait_from(rt, backlog)
+    }
+
+    // Waits until all is kept of which the keeper had heard when this turn began.
+    fn wait_from<'a, R: Wait>(&'a self, rt: &R, backlog: MutexGuard<'a, Backlog>) -> Option<AllKept>
+        ensures { IfSome result (λ permit. permit.heard ≡ (mutex_guard_value backlog.entry).heard) }
+    {
         let heard = backlog.heard;
         let backlog = self.done.wait_while(rt, backlog, |backlog| {
             backlog.kept.count < heard && backlog.phase != Phase::Failed
@@ -347,6 +368,15 @@ impl Keeping {
             Phase::Keeps => News::Nothing,
             Phase::Ends | Phase::Failed => News::Over,
         }
+    }
+
+    /// Takes all edits and keys that have come, for a keeper that has the turn to edit. No session can: it has no keeping.
+    pub fn take_rest(&self, alloc: Global, backlog: &mut Backlog) -> Batch
+        ensures edits { (result.edits.items ≡ backlog.old.edits.items) × (result.keys.items ≡ backlog.old.keys.items) }
+        ensures taken { backlog.new.taken ≡ backlog.old.taken + (length backlog.old.edits.items + length backlog.old.keys.items) }
+        ensures heard { (backlog.new.heard ≡ backlog.old.heard) × (backlog.new.kept ≡ backlog.old.kept) }
+    {
+        backlog.take(alloc)
     }
 
     /// What a commit has kept is kept: whoever waits for it may go on. A commit is taken, and cannot be copied: so it counts

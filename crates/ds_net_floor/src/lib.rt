@@ -7,4 +7,5 @@ pub mod edit_list;
 pub mod floor;
 pub mod keeping;
 pub mod listing;
+pub mod notebook;
 pub mod visit;

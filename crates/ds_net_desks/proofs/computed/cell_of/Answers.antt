@@ -8,17 +8,13 @@ pub returns-in-Ok : goal.returns-in-Ok
 returns-in-Ok c =
     let plain = report_view c.values_of-end.result in
     let edit = option_map entry_view c.in-Ok.edit in
-    record {
-      list = c.args.list.now;
-      seen = c.values_of-end.ensures.seen;
-      says = inl (
-        plain,
-        edit,
-        c.values_of-end.ensures.says,
-        c.in-Ok.ensures,
-        subst (λ n. got_view c.args.cell c.got_of.result ≡ got_said c.args.cell n edit plain) c.index.ensures.value (c.got_of.ensures c.args.cell),
-      );
-    }
+    inl (
+      plain,
+      edit,
+      c.values_of-end.ensures,
+      c.in-Ok.ensures,
+      subst (λ n. got_view c.args.cell c.got_of.result ≡ got_said c.args.cell n edit plain) c.index.ensures.value (c.got_of.ensures c.args.cell),
+    )
 
 pub returns-in-Err : goal.returns-in-Err
-returns-in-Err c = record { list = c.args.list.now; seen = c.values_of-end.ensures.seen; says = inr refl }
+returns-in-Err c = inr refl

@@ -10,10 +10,10 @@ returns-in-Err-clause-uses c = record {
   now = c.args.numbered.now;
   plain = Refused NoMemory;
   catches_up = record { process = refl; newer = inl refl };
-  uses = (inr (refl, refl), sym (append-nil c.args.heard.now.items));
+  uses = (inr (refl, refl), sym (append-nil c.args.notebook.now.heard.items));
   seen = refl;
   rest = record { numberings = refl; epoch = refl };
 }
 
 pub returns-in-Err-clause-hears : goal.returns-in-Err-clause-hears
-returns-in-Err-clause-hears c = hears_none c.args.numbered.now.numberings.items c.args.backlog.now c.args.backlog.now c.args.heard.now.items refl refl refl
+returns-in-Err-clause-hears c = hears_none c.args.backlog.now c.args.backlog.now c.args.notebook.now.heard.items refl refl refl

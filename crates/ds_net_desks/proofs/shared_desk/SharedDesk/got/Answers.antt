@@ -7,8 +7,8 @@ pub returns-clause-asked : goal.returns-clause-asked
 returns-clause-asked g c =
     let cell = c.args.cell in
     let what = got_view cell c.answer-got.result in
-    let seen = c.args.seen.now.items in
-    let after = c.answer-got.new.seen.items in
+    let seen = c.args.notebook.now.seen.items in
+    let after = c.answer-got.new.notebook.seen.items in
     let old = c.in-Ok.numbered in
     let new = c.answer-got.new.numbered in
     subst (λ o. HasAsked c.args.self.now.shape cell o seen what o after) (sym c.in_default.is)
