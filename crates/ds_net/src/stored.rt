@@ -179,8 +179,8 @@ struct OpenedSheet {
     list: EditList,
 }
 
-// So of the sheet that the store's edits have made, by these lines. None where an allocation fails.
-fn sheet_with<S: Alter + Drop, R: Wait>(
+// So of the sheet that the store's edits have made. None where an allocation fails.
+fn opened_with<S: Alter + Drop, R: Wait>(
     rt: &R,
     alloc: Global,
     store: &Store<S>,
@@ -203,25 +203,6 @@ fn sheet_with<S: Alter + Drop, R: Wait>(
         references,
         list,
     })
-}
-
-// So of a store that is open, and the store: of its own sheet, by its own lines. None where an allocation fails.
-fn opened_with<S: Alter + Drop, R: Wait>(
-    rt: &R,
-    alloc: Global,
-    opened: Opened<S>,
-) -> (Option<OpenedSheet>, Store<S>)
-    ensures list { IfSome result.0 (λ it. IsListOf opened.store.layout opened.store.joins (map string_bytes opened.lines.items) it.list) }
-    ensures sheet { IfSome result.0 (λ it. it.sheet ≡ opened.sheet.sheet) }
-    ensures store { result.1 ≡ opened.store }
-{
-    let Opened {
-        store,
-        sheet,
-        lines,
-    } = opened;
-    let made = sheet_with(rt, alloc, &store, sheet, lines.as_slice());
-    (made, store)
 }
 
 /// Serves the sheet of an open store, which its threads share, as `serve_floor` says, while the calling thread
@@ -249,7 +230,11 @@ pub fn serve<
     ensures served { IfOk result.0 (λ end. IsServed service.sessions end.taken) }
     ensures lasting { IfErr result.0 IsStoredLasting }
 {
-    let (made, mut store) = opened_with(rt, alloc, opened);
+    let Opened {
+        mut store,
+        sheet,
+        lines,
+    } = opened;
     let Some(
         OpenedSheet {
             sheet,
@@ -257,10 +242,11 @@ pub fn serve<
             references,
             list,
         },
-    ) = made
+    ) = opened_with(rt, alloc, &store, sheet, &lines)
     else {
         return (Err(ServeError::NoMemory), store);
     };
+    drop(lines);
     let mut served_sheet = ServedSheet::new(sheet, &pool);
     let keeping = Keeping::new(alloc, list);
     let floor = StoredFloor::new(
