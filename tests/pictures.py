@@ -159,6 +159,14 @@ def too_long(program):
     yield "a run of more than 1,000 events: the message", b"run too long: more than 1000 events" in ran.stderr
 
 
+def judged(rows):
+    """The rows, and one more, which does not hold, where a picture is no XML."""
+    try:
+        yield from rows
+    except xml.etree.ElementTree.ParseError as why:
+        yield f"it is XML: {why}", False
+
+
 def main(program):
     program, passed, failed = os.path.realpath(program), 0, 0
     parts = [("a long run", too_long(program))]
@@ -173,7 +181,7 @@ def main(program):
                 ran.append(subprocess.run([program, *words], stdin=script, capture_output=True, timeout=SECONDS).stdout)
         parts.append((f"examples/{name}, brief", brief_of(name, *ran)))
     for name, rows in parts:
-        for what, holds in rows:
+        for what, holds in judged(rows):
             passed, failed = passed + bool(holds), failed + (not holds)
             if not holds:
                 print(f"{name}: not so: {what}", file=sys.stderr)
