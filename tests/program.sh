@@ -329,6 +329,15 @@ echo 5 >"$room/wanted"
 answers "log --cell --at --values" "$room/wanted" /dev/null log "$room/log.db" --at 2 --cell A1 --values
 on /dev/null log "$room/log.db" --cell A2
 expect "log of a cell that is none" "$status" 2 "dsheet: --cell: no cell of 2 columns and 1 rows, as A1"
+# What a check tells of each process; a compacted store begins with the texts, has no edit beside them, and counts as many.
+printf 'sheet 2 1 2\nprocess 0: 1 edits of 256\nprocess 1: 3 edits of 256\n4 edits count, none is in doubt\n' >"$room/wanted"
+answers "check" "$room/wanted" /dev/null check "$room/log.db"
+on /dev/null compact "$room/log.db" "$room/compacted.db"
+expect "compact" "$status" 0 ""
+printf '# 1 texts that the sheet began with, and then its edits: what was before is not kept\n1 - - B1 6\n' >"$room/wanted"
+answers "log of a compacted store" "$room/wanted" /dev/null log "$room/compacted.db"
+printf 'sheet 2 1 2\nprocess 0: 1 edits of 256\nprocess 1: 0 edits of 256\n4 edits count, none is in doubt\n' >"$room/wanted"
+answers "check of a compacted store" "$room/wanted" /dev/null check "$room/compacted.db"
 on /dev/null log "$room/log.db" --values
 expect "log --values of the list" "$status" 2 "dsheet: --values: .*"
 on /dev/null log "$room/nothing.db"

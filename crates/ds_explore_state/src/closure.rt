@@ -447,8 +447,8 @@ fn begins(alloc: Global, found: Found<'_>) -> Result<bool, AllocError>
 }
 
 /// The graph of the states that were found, as far as all that may come next in a state leads to states that were found, or
-/// to outcomes that are written: just the states of which that is so are marked, of those to which found states lead. None where
-/// the first position lacks what one of its processes has. An error means that an allocation failed.
+/// to outcomes that are written: of each state that is marked that is so. None where the first position lacks what one of its
+/// processes has. An error means that an allocation failed.
 pub fn draw_part<E: Endings>(
     alloc: Global,
     found: Found<'_>,
