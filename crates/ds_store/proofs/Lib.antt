@@ -5,3 +5,5 @@ mod Keying
 pub mod Lasting
 mod Taking
 mod Texting
+mod Told
+mod Unkept
