@@ -7,3 +7,4 @@ mod Taking
 mod Texting
 mod Told
 mod Unkept
+mod Unsound

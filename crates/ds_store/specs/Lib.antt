@@ -7,3 +7,4 @@ pub mod Replays
 pub mod Summing
 pub mod Keeping
 pub mod Told
+pub mod Unsound

@@ -3,6 +3,7 @@
 ghost use Rattle.std.specs.Prelude.{◌≡◌};
 ghost use Rattle.ds_store.specs.Opened.{fault_at};
 ghost use Rattle.ds_store.specs.Told.{IsOfLines, edit_told, lines_told, told_of};
+ghost use Rattle.ds_store.specs.Unsound.{before_of};
 ghost use Rattle.ds_store.specs.declared.fault.StoreFault.TheVariants.{NoMemory};
 
 use ds_store_journal::fault::JournalFault;
@@ -114,7 +115,9 @@ impl StoreFault {
     }
 
     /// How many lines are before the one that it is of; 0 where it is of none.
-    pub fn before(&self) -> usize {
+    pub fn before(&self) -> usize
+        ensures { result ≡ before_of self.now }
+    {
         match self {
             StoreFault::Missing(number)
             | StoreFault::Line { number, .. }

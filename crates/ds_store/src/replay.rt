@@ -87,6 +87,7 @@ fn follow_rest(alloc: Global, replay: &mut Replay, rest: &[String]) -> Result<()
     ensures of_lines { IfErr result IsOfLines }
     ensures leads { OnOk result ((before : List (List ℕ)) → Leads replay.old.layout replay.old.counts.counts.items replay.old.sheet before
         → Leads replay.new.layout replay.new.counts.counts.items replay.new.sheet (before ++ map string_bytes rest.now)) }
+    ensures counts { OnOk result (length replay.old.counts.counts.items ≡ replay.old.layout.processes → length replay.new.counts.counts.items ≡ replay.new.layout.processes) }
 {
     let mut number = 1usize;
     for line in rest {
@@ -102,6 +103,7 @@ fn follow_rest(alloc: Global, replay: &mut Replay, rest: &[String]) -> Result<()
 /// followed.
 pub(crate) fn replayed(alloc: Global, lines: &[String]) -> Result<Replay, StoreFault>
     ensures leads { IfOk result (λ r. Leads r.layout r.counts.counts.items r.sheet (map string_bytes lines.now)) }
+    ensures counts { IfOk result (λ r. length r.counts.counts.items ≡ r.layout.processes) }
     ensures nowhere { IfErr result (LeadsNowhere (map string_bytes lines.now)) }
     ensures of_lines { IfErr result IsOfLines }
 {

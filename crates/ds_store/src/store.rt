@@ -1,7 +1,7 @@
 //! A store: a journal in a database.
 
 ghost use Rattle.std.specs.List.{list_any};
-ghost use Rattle.std.specs.Prelude.{◌≡◌, ◌++◌, ◌∷◌, [], ℕ, List, false, nat_le, true, length, IfErr, IfOk, IsErr, IsTrue, None, OnErr, OnOk, map, option_map};
+ghost use Rattle.std.specs.Prelude.{◌≡◌, ◌⊎◌, ◌++◌, ◌∷◌, [], ℕ, List, false, nat_le, true, length, IfErr, IfOk, IsErr, IsTrue, None, OnErr, OnOk, map, option_map};
 ghost use Rattle.std.specs.String.{string_bytes};
 ghost use Rattle.sqlite.specs.Held.{state};
 ghost use Rattle.sqlite.specs.State.{HasCleanDisk, Survives};
@@ -18,6 +18,9 @@ ghost use Rattle.ds_store.specs.GoingOver.{GoesOver, MayGoOver};
 ghost use Rattle.ds_store.specs.Keeping.{FailsToGive, FailsToGoOver, FailsToKeepAll, HaveNoLines, MayBeNext, MayFollow};
 ghost use Rattle.ds_store.specs.Stores.{GoesOn, MayKeep, size_seen};
 ghost use Rattle.ds_store.specs.Summing.{HaveNoSums};
+ghost use Rattle.ds_store.specs.Told.{told_of};
+ghost use Rattle.ds_store.specs.Unsound.{AreUnsound};
+ghost use Rattle.sqlite.specs.declared.error.Error.{Error};
 
 use crate::committed::Committed;
 use crate::fault::StoreFault;
@@ -150,8 +153,9 @@ fn with_lines<S: Alter + Drop>(
     conn: Connection<S>,
     lines: &[String],
 ) -> Result<Connection<S>, StoreFault>
-    ensures { IfOk result (λ made. HasCleanDisk (state S.Store made) → IsBare (state S.Store conn).now
+    ensures holds { IfOk result (λ made. HasCleanDisk (state S.Store made) → IsBare (state S.Store conn).now
         → Holds (map string_bytes lines.now) (state S.Store made).now × Holds (map string_bytes lines.now) (state S.Store made).committed) }
+    ensures err { IfErr result (λ fault. (e : Error) × (fault ≡ told_of e)) }
 {
     let mut conn = conn;
     lines::make(&mut conn, lines)?;
@@ -167,7 +171,9 @@ impl<S: Alter + Drop> Store<S> {
         lines: Vec<String>,
     ) -> Result<Opened<S>, StoreFault>
         ensures lines { IfOk result (λ opened. opened.lines ≡ lines) }
+        ensures err { IfErr result (λ fault. AreUnsound (map string_bytes lines.items) fault ⊎ ((e : Error) × (fault ≡ told_of e))) }
         ensures leads { IfOk result (λ opened. Leads opened.store.layout opened.store.counts.counts.items opened.sheet (map string_bytes opened.lines.items)) }
+        ensures counts { IfOk result (λ opened. length opened.store.counts.counts.items ≡ opened.store.layout.processes) }
         ensures summed { IfOk result (λ opened. IsAt opened.store.sums (map string_bytes opened.lines.items)) }
         ensures joins { IfOk result (λ opened. opened.store.joins ≡ joins_of opened.store.layout (map string_bytes opened.lines.items)) }
         ensures keys { IfOk result (λ opened. AreKeys opened.store.keys (keys_of opened.store.layout (map string_bytes opened.lines.items))) }
@@ -201,6 +207,7 @@ impl<S: Alter + Drop> Store<S> {
     /// the database has something it is an error.
     pub fn make(alloc: Global, conn: Connection<S>, layout: Layout) -> Result<Opened<S>, StoreFault>
         ensures leads { IfOk result (λ opened. Leads opened.store.layout opened.store.counts.counts.items opened.sheet (map string_bytes opened.lines.items)) }
+        ensures counts { IfOk result (λ opened. length opened.store.counts.counts.items ≡ opened.store.layout.processes) }
         ensures asked { IfOk result (λ opened. size_seen opened.store.layout opened.store.joins ≡ size_of layout) }
         ensures one { IfOk result (λ opened. length opened.lines.items ≡ 1) }
         ensures joins { IfOk result (λ opened. opened.store.joins ≡ joins_of opened.store.layout (map string_bytes opened.lines.items)) }
@@ -223,6 +230,7 @@ impl<S: Alter + Drop> Store<S> {
     /// is missing, cannot be followed, or has another sum than that of the lines before it.
     pub fn open(alloc: Global, conn: Connection<S>) -> Result<Opened<S>, StoreFault>
         ensures leads { IfOk result (λ opened. Leads opened.store.layout opened.store.counts.counts.items opened.sheet (map string_bytes opened.lines.items)) }
+        ensures counts { IfOk result (λ opened. length opened.store.counts.counts.items ≡ opened.store.layout.processes) }
         ensures summed { IfOk result (λ opened. IsAt opened.store.sums (map string_bytes opened.lines.items)) }
         ensures joins { IfOk result (λ opened. opened.store.joins ≡ joins_of opened.store.layout (map string_bytes opened.lines.items)) }
         ensures keys { IfOk result (λ opened. AreKeys opened.store.keys (keys_of opened.store.layout (map string_bytes opened.lines.items))) }
@@ -320,6 +328,7 @@ impl<S: Alter + Drop> Store<S> {
     /// keys are of what they were. After an error the database holds what it held, where the connection is still open.
     pub fn go_over(&mut self, alloc: Global, held: &[String]) -> Result<NextSheet, StoreFault>
         ensures leads { IfOk result (λ next. Leads self.new.layout self.new.counts.counts.items next.sheet (map string_bytes next.lines.items)) }
+        ensures counts { OnOk result (length self.new.counts.counts.items ≡ self.new.layout.processes) }
         ensures summed { IfOk result (λ next. IsAt self.new.sums (map string_bytes next.lines.items)) }
         ensures joins { IfOk result (λ next. self.new.joins ≡ joins_of self.new.layout (map string_bytes next.lines.items)) }
         ensures keys { IfOk result (λ next. AreKeys self.new.keys (keys_of self.new.layout (map string_bytes next.lines.items))) }
@@ -422,6 +431,7 @@ pub fn open_or_make<S: Alter + Drop>(
 ) -> Result<Opened<S>, StoreFault>
     ensures asked { IfOk result (λ opened. size_seen opened.store.layout opened.store.joins ≡ size_of layout) }
     ensures leads { IfOk result (λ opened. Leads opened.store.layout opened.store.counts.counts.items opened.sheet (map string_bytes opened.lines.items)) }
+    ensures counts { IfOk result (λ opened. length opened.store.counts.counts.items ≡ opened.store.layout.processes) }
     ensures joins { IfOk result (λ opened. opened.store.joins ≡ joins_of opened.store.layout (map string_bytes opened.lines.items)) }
     ensures keys { IfOk result (λ opened. AreKeys opened.store.keys (keys_of opened.store.layout (map string_bytes opened.lines.items))) }
     ensures opens { IfOk result (λ opened. HasCleanDisk (state S.Store opened.store.conn) → (held : List (List ℕ)) → Holds held (state S.Store conn).now

@@ -1,12 +1,13 @@
 //! The lines of a journal are seen to have their sums.
 
-ghost use Rattle.std.specs.Prelude.{◌≡◌, ◌≢◌, ◌⊎◌, ◌++◌, ◌∷◌, [], List, ℕ, true, IfErr, IfOk, map};
+ghost use Rattle.std.specs.Prelude.{◌≡◌, ◌≢◌, ◌++◌, ◌∷◌, [], List, ℕ, true, IfErr, IfOk, map};
 ghost use Rattle.std.specs.String.{string_bytes};
 ghost use Rattle.ds_script_io.specs.Fields.{is_skipped};
-ghost use Rattle.ds_store_sums.specs.Sums.{AreSummed, sum_of};
+ghost use Rattle.ds_store_sums.specs.Sums.{sum_of};
 ghost use Rattle.ds_store_sums.specs.Taken.{IsAt};
 ghost use Rattle.ds_store.specs.Summing.{AreNotAdded, HaveNoSums, summed_anew};
 ghost use Rattle.ds_store.specs.Told.{IsOfLines};
+ghost use Rattle.ds_store.specs.Unsound.{AreUnsummed};
 
 use crate::fault::StoreFault;
 use ds_store_sums::sums::{LineSums, SumFault, Tail, is_sum};
@@ -43,7 +44,7 @@ pub(crate) fn add_all(
 pub(crate) fn summed(alloc: Global, lines: &[String]) -> Result<LineSums, StoreFault>
     ensures sums { IfOk result (λ s. IsAt s (map string_bytes lines.now)) }
     ensures tail { IfOk result (λ s. s.tail ≢ Tail.Loose) }
-    ensures wrong { IfErr result (λ fault. AreNotAdded [] (map string_bytes lines.now) fault ⊎ ((number : ℕ) × (fault ≡ StoreFault.NoSum number) × AreSummed (map string_bytes lines.now) Tail.Loose)) }
+    ensures wrong { IfErr result (AreUnsummed (map string_bytes lines.now)) }
     ensures of_lines { IfErr result IsOfLines }
 {
     let mut sums = LineSums::new();
