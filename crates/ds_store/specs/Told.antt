@@ -1,4 +1,4 @@
--- What is told of why a store fails.
+-- What a store answers for why it fails.
 use Rattle.std.specs.Prelude.{⊤}
 use Rattle.ds_store.specs.declared.fault.StoreFault.{StoreFault}
 use Rattle.ds_store.specs.declared.fault.StoreFault.TheVariants.{Busy, Database, Edit, Foreign, Missing, NoMemory, OtherSheet}
@@ -10,20 +10,20 @@ use Rattle.sqlite.specs.declared.error.Error.{Error}
 use Rattle.sqlite.specs.declared.error.Error.TheVariants.{SqlInputError, SqliteFailure}
 use Rattle.sqlite.specs.declared.error.ErrorCode.TheVariants.{DatabaseBusy, OutOfMemory}
 
--- what is told of a database's error
+-- the answer for an error of a database
 abbrev pub told_of : Error → StoreFault
 told_of (SqliteFailure OutOfMemory) = NoMemory
 told_of (SqliteFailure DatabaseBusy) = Busy
 told_of (SqlInputError why) = Foreign
 told_of e = Database e
 
--- what is told of why lines are not read
+-- the answer for why lines are not read
 abbrev pub lines_told : LinesFault → StoreFault
 lines_told (lines.Database e) = told_of e
 lines_told (lines.Missing number) = Missing number
 lines_told lines.NoMemory = NoMemory
 
--- what is told of why an edit or a key has no line
+-- the answer for why an edit or a key has no line
 abbrev pub edit_told : JournalFault → StoreFault
 edit_told journal.NoMemory = NoMemory
 edit_told why = Edit why

@@ -22,7 +22,7 @@ pub record StandsAgain (layout : Layout) (lines : List (List ℕ)) (number : ℕ
   pub once : StandOnce (keys_of layout (take (number - 1) lines))
   pub again : StandOnce (keys_of layout (take number lines)) → ⊥
 
--- a key of the lines stands again, and that is told
+-- the fault is that a key of the lines stands again
 abbrev pub HaveKeyAgain : List (List ℕ) → StoreFault → Type 0
 HaveKeyAgain lines fault = (layout : Layout) × (number : ℕ) × (fault ≡ Line number KeyAgain) × StandsAgain layout lines number
 

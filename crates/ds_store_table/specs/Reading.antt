@@ -10,12 +10,12 @@ use Rattle.sqlite.specs.declared.error.Error.TheVariants.{SqliteFailure, Utf8Err
 use Rattle.sqlite.specs.declared.error.ErrorCode.TheVariants.{OutOfMemory}
 use Rattle.sqlite.specs.State.{FailsToQuery, IsUnchanged, State}
 
--- what is told of a database's error
+-- the fault for an error of a database
 abbrev pub fault_of : Error → LinesFault
 fault_of (SqliteFailure OutOfMemory) = NoMemory
 fault_of e = Database e
 
--- the line is no text, and that is told
+-- the fault is that the line is no text
 abbrev pub IsNoText : LinesFault → Numbered → Type 0
 IsNoText fault it = (fault ≡ Database (Utf8Error 1)) × ¬ IsUtf8 it.line
 
@@ -28,6 +28,6 @@ abbrev pub FailsToRead : List Numbered → State → State → LinesFault → Ty
 FailsToRead all old new fault =
     ((e : Error) × FailsToQuery select_text [] old new e × (fault ≡ fault_of e)) ⊎ (IsUnchanged old new × FailsToTell all fault)
 
--- this number is the first that is missing, and that is told
+-- the fault is that this number is missing, the first one that is
 abbrev pub TellsMissing : List Numbered → LinesFault → Type 0
 TellsMissing all fault = (n : ℕ) × (lines : List (List ℕ)) × (fault ≡ Missing n) × BreakAt n lines all
