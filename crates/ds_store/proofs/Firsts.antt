@@ -26,3 +26,12 @@ as_asked f (suc n) (suc most) (a ∷ all) (line ∷ held) is few =
     let first : f a ≡ line = cc in
     let rest : map f all ≡ held = cc in
     rw first (ap (λ ls. line ∷ ls) (as_asked f n most all held rest (omega (arith, few))))
+
+-- all of the lines are the first of them
+pub all_begin : {A : Type 0} (f : A → List ℕ) (all : List A) (held : List (List ℕ)) → map f all ≡ held → map f all ≡ take (length all) held
+all_begin f [] held is = refl
+all_begin f (a ∷ all) [] is = absurd cc
+all_begin f (a ∷ all) (line ∷ held) is =
+    let first : f a ≡ line = cc in
+    let rest : map f all ≡ held = cc in
+    rw first (ap (λ ls. line ∷ ls) (all_begin f all held rest))

@@ -5,3 +5,6 @@ mod Keying
 pub mod Lasting
 mod Taking
 mod Texting
+mod Told
+mod Unkept
+mod Unsound

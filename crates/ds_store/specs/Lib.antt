@@ -5,3 +5,6 @@ pub mod Texts
 pub mod GoingOver
 pub mod Replays
 pub mod Summing
+pub mod Keeping
+pub mod Told
+pub mod Unsound

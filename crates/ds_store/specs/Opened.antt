@@ -1,5 +1,5 @@
 -- What the lines of a store lead to, and why some lead to nothing.
-use Rattle.std.specs.Prelude.{ℕ, ◌≡◌, ◌⊎◌, ◌+◌, ◌++◌, ◌∷◌, [], List, None, length}
+use Rattle.std.specs.Prelude.{ℕ, ◌≡◌, ◌⊎◌, ◌++◌, ◌∷◌, [], List, None, length, suc}
 use Rattle.std.specs.Arc.{arc_value}
 use Rattle.ds_layout.specs.declared.layout.Layout.{Layout}
 use Rattle.ds_shared_seats.specs.declared.seat.Seat.{Seat}
@@ -26,12 +26,13 @@ fault_at number faults.NotDone = Line number faults.NotDone
 fault_at number faults.Other = Line number faults.Other
 fault_at number faults.KeyAgain = Line number faults.KeyAgain
 
--- one of the lines is not followed, for this fault, where those before it lead to a sheet
-pub record Stops (lines : List (List ℕ)) (why : JournalFault) : Type 0 where
+-- the line of this number, from 1, is not followed, for this fault, where those before it lead to a sheet
+pub record Stops (lines : List (List ℕ)) (number : ℕ) (why : JournalFault) : Type 0 where
   pub before : List (List ℕ)
   pub line : List ℕ
   pub after : List (List ℕ)
   pub are : lines ≡ before ++ line ∷ after
+  pub at : number ≡ suc (length before)
   pub layout : Layout
   pub counts : List ℕ
   pub sheet : SeatedSheet
@@ -44,4 +45,4 @@ pub record Stops (lines : List (List ℕ)) (why : JournalFault) : Type 0 where
 abbrev pub LeadsNowhere : List (List ℕ) → StoreFault → Type 0
 LeadsNowhere [] fault = fault ≡ Missing 1
 LeadsNowhere (first ∷ rest) fault =
-    (fault ≡ NoMemory) ⊎ (((fault ≡ Line 1 faults.NoSheet) × (sheet_in first ≡ None)) ⊎ ((number : ℕ) × (why : JournalFault) × (fault ≡ fault_at number why) × Stops (first ∷ rest) why))
+    (fault ≡ NoMemory) ⊎ (((fault ≡ Line 1 faults.NoSheet) × (sheet_in first ≡ None)) ⊎ ((number : ℕ) × (why : JournalFault) × (fault ≡ fault_at number why) × Stops (first ∷ rest) number why))

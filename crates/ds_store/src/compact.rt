@@ -1,6 +1,6 @@
 //! A new store of what an old one has come to.
 
-ghost use Rattle.std.specs.Prelude.{IfOk, map};
+ghost use Rattle.std.specs.Prelude.{◌≡◌, IfOk, length, map};
 ghost use Rattle.std.specs.String.{string_bytes};
 ghost use Rattle.sqlite.specs.Held.{state};
 ghost use Rattle.sqlite.specs.State.{HasCleanDisk};
@@ -27,6 +27,7 @@ pub fn compact<S: Alter + Drop>(
 ) -> Result<Opened<S>, StoreFault>
     ensures over { IfOk result (λ opened. GoesOver (map string_bytes lines.now) (map string_bytes opened.lines.items)) }
     ensures leads { IfOk result (λ opened. Leads opened.store.layout opened.store.counts.counts.items opened.sheet (map string_bytes opened.lines.items)) }
+    ensures counts { IfOk result (λ opened. length opened.store.counts.counts.items ≡ opened.store.layout.processes) }
     ensures keys { IfOk result (λ opened. AreKeys opened.store.keys (keys_of opened.store.layout (map string_bytes opened.lines.items))) }
     ensures holds { IfOk result (λ opened. HasCleanDisk (state S.Store opened.store.conn) → IsBare (state S.Store conn).now → Holds (map string_bytes opened.lines.items) (state S.Store opened.store.conn).committed) }
 {

@@ -2,6 +2,9 @@
 
 ghost use Rattle.std.specs.Prelude.{◌≡◌};
 ghost use Rattle.ds_store.specs.Opened.{fault_at};
+ghost use Rattle.ds_store.specs.Told.{IsOfLines, edit_told, lines_told, told_of};
+ghost use Rattle.ds_store.specs.Unsound.{before_of};
+ghost use Rattle.ds_store.specs.declared.fault.StoreFault.TheVariants.{NoMemory};
 
 use ds_store_journal::fault::JournalFault;
 use ds_store_keys::fault::KeyLineFault;
@@ -48,6 +51,8 @@ pub enum StoreFault {
 }
 
 impl From<Error> for StoreFault {
+    ghost from_gives = { λ error fault. fault ≡ told_of error };
+
     fn from(error: Error) -> StoreFault {
         match error {
             Error::SqliteFailure(ErrorCode::OutOfMemory) => StoreFault::NoMemory,
@@ -59,6 +64,8 @@ impl From<Error> for StoreFault {
 }
 
 impl From<LinesFault> for StoreFault {
+    ghost from_gives = { λ why fault. fault ≡ lines_told why };
+
     fn from(fault: LinesFault) -> StoreFault {
         match fault {
             LinesFault::Database(error) => StoreFault::from(error),
@@ -69,6 +76,8 @@ impl From<LinesFault> for StoreFault {
 }
 
 impl From<JournalFault> for StoreFault {
+    ghost from_gives = { λ why fault. fault ≡ edit_told why };
+
     fn from(fault: JournalFault) -> StoreFault {
         match fault {
             JournalFault::NoMemory => StoreFault::NoMemory,
@@ -78,12 +87,16 @@ impl From<JournalFault> for StoreFault {
 }
 
 impl From<KeyLineFault> for StoreFault {
+    ghost from_gives = { λ why fault. fault ≡ fault_at why.number why.fault };
+
     fn from(fault: KeyLineFault) -> StoreFault {
         StoreFault::at_line(fault.number, fault.fault)
     }
 }
 
 impl From<AllocError> for StoreFault {
+    ghost from_gives = { λ _ fault. fault ≡ NoMemory };
+
     fn from(_error: AllocError) -> StoreFault {
         StoreFault::NoMemory
     }
@@ -92,7 +105,8 @@ impl From<AllocError> for StoreFault {
 impl StoreFault {
     /// That the line of this number, from 1, cannot be followed for this fault.
     pub fn at_line(number: usize, fault: JournalFault) -> StoreFault
-        ensures { result ≡ fault_at number fault }
+        ensures is { result ≡ fault_at number fault }
+        ensures of_lines { IsOfLines result }
     {
         match fault {
             JournalFault::NoMemory => StoreFault::NoMemory,
@@ -101,7 +115,9 @@ impl StoreFault {
     }
 
     /// How many lines are before the one that it is of; 0 where it is of none.
-    pub fn before(&self) -> usize {
+    pub fn before(&self) -> usize
+        ensures { result ≡ before_of self.now }
+    {
         match self {
             StoreFault::Missing(number)
             | StoreFault::Line { number, .. }

@@ -1,9 +1,10 @@
 //! The lines with which a store goes over to a new sheet.
 
-ghost use Rattle.std.specs.Prelude.{◌≡◌, ◌<◌, ◌≤◌, List, ℕ, IfOk, length, map, slice_index_or, true};
+ghost use Rattle.std.specs.Prelude.{◌≡◌, ◌<◌, ◌≤◌, List, ℕ, IfErr, IfOk, length, map, slice_index_or, true};
 ghost use Rattle.std.specs.String.{string_bytes};
 ghost use Rattle.ds_store_journal.specs.declared.standing.Standing.{Standing};
 ghost use Rattle.ds_store.specs.GoingOver.{GoesOver, HasRead};
+ghost use Rattle.ds_store.specs.Told.{IsOfLines};
 
 use crate::fault::StoreFault;
 use crate::summing::with_sum;
@@ -34,7 +35,9 @@ struct ReadJournal {
 }
 
 // Adds a line to the others.
-fn put(lines: &mut Vec<String>, line: String) -> Result<(), StoreFault> {
+fn put(lines: &mut Vec<String>, line: String) -> Result<(), StoreFault>
+    ensures of_lines { IfErr result IsOfLines }
+{
     match lines.push(line) {
         Ok(()) => Ok(()),
         Err(_) => Err(StoreFault::NoMemory),
@@ -68,7 +71,9 @@ fn cell_line(
     texts: &JournalTexts,
     process: usize,
     cell: Cell,
-) -> Result<Option<String>, StoreFault> {
+) -> Result<Option<String>, StoreFault>
+    ensures of_lines { IfErr result IsOfLines }
+{
     let text = texts.text_of(cell);
     if text.is_empty() {
         return Ok(None);
@@ -85,7 +90,9 @@ fn put_texts(
     texts: &JournalTexts,
     layout: &Layout,
     lines: &mut Vec<String>,
-) -> Result<(), StoreFault> {
+) -> Result<(), StoreFault>
+    ensures of_lines { IfErr result IsOfLines }
+{
     let mut process = 0;
     for number in 0..layout.shape.count() {
         if let Some(line) = cell_line(alloc, texts, process, layout.shape.cell(number))? {
@@ -106,7 +113,9 @@ fn put_standings(
     layout: &Layout,
     read: &ReadJournal,
     lines: &mut Vec<String>,
-) -> Result<(), StoreFault> {
+) -> Result<(), StoreFault>
+    ensures of_lines { IfErr result IsOfLines }
+{
     for process in 0..read.joins {
         if let Some(standing) = read.standings.get(process) {
             let mention = Mention {
@@ -125,7 +134,9 @@ fn put_keys(
     layout: &Layout,
     read: &ReadJournal,
     lines: &mut Vec<String>,
-) -> Result<(), StoreFault> {
+) -> Result<(), StoreFault>
+    ensures of_lines { IfErr result IsOfLines }
+{
     for note in carried(&read.keys) {
         put(lines, key_line(alloc, layout, note)?)?;
     }
@@ -133,7 +144,9 @@ fn put_keys(
 }
 
 // Lines that are to go on from those that were read. Whether they do is seen when they are read.
-fn drafted(alloc: Global, read: &ReadJournal, origin: &str) -> Result<Vec<String>, StoreFault> {
+fn drafted(alloc: Global, read: &ReadJournal, origin: &str) -> Result<Vec<String>, StoreFault>
+    ensures of_lines { IfErr result IsOfLines }
+{
     let layout = roomy(read);
     let mut lines = Vec::new(alloc);
     put(&mut lines, sheet_line(alloc, &layout)?)?;
@@ -164,7 +177,8 @@ fn stand_alike(joins: usize, before: &[Standing], after: &[Standing]) -> bool
 impl ReadJournal {
     // Reads the lines of a journal.
     fn of(alloc: Global, lines: &[String]) -> Result<ReadJournal, StoreFault>
-        ensures { IfOk result (λ read. HasRead read (map string_bytes lines.now)) }
+        ensures read { IfOk result (λ read. HasRead read (map string_bytes lines.now)) }
+        ensures of_lines { IfErr result IsOfLines }
     {
         let texts = texts_of(alloc, lines)?;
         let layout = texts.layout();
@@ -195,7 +209,8 @@ impl ReadJournal {
 /// joined, and each of those stands as it stood; and the last 65536 keys, of what they were. A comment says of what the texts are. The fault is of a line that is none
 /// of a journal, or of a sheet with more texts than its processes can set; or an allocation failed.
 pub fn next_lines(alloc: Global, lines: &[String], origin: &str) -> Result<Vec<String>, StoreFault>
-    ensures { IfOk result (λ next. GoesOver (map string_bytes lines.now) (map string_bytes next.items)) }
+    ensures over { IfOk result (λ next. GoesOver (map string_bytes lines.now) (map string_bytes next.items)) }
+    ensures of_lines { IfErr result IsOfLines }
 {
     let read = ReadJournal::of(alloc, lines)?;
     let next = with_sum(alloc, drafted(alloc, &read, origin)?)?;

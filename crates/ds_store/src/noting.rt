@@ -1,11 +1,13 @@
 //! The lines of keys that are to be kept.
 
-ghost use Rattle.std.specs.Prelude.{◌≡◌, ◌++◌, ◌∷◌, [], ℕ, List, OnOk, map};
+ghost use Rattle.std.specs.Prelude.{◌≡◌, ◌++◌, ◌∷◌, [], ℕ, IfErr, List, OnOk, map};
 ghost use Rattle.std.specs.String.{string_bytes};
 ghost use Rattle.ds_store_journal.specs.Journals.{KeptEdit};
 ghost use Rattle.ds_store_keys.specs.Keys.{KeptKey, keys_of};
 ghost use Rattle.ds_store_keys.specs.Tables.{AreKeys};
+ghost use Rattle.ds_store.specs.Keeping.{KeysHaveNoLines};
 ghost use Rattle.ds_store.specs.Stores.{GoesOn};
+ghost use Rattle.ds_store.specs.Summing.{HaveNoSums};
 
 use ds_layout::layout::Layout;
 use ds_store_journal::fault::JournalFault;
@@ -16,7 +18,8 @@ use std::alloc::Global;
 
 // Adds a line to the others. The fault is that an allocation failed.
 fn put_text(texts: &mut Vec<String>, line: String) -> Result<(), JournalFault>
-    ensures { OnOk result (texts.new.items ≡ texts.old.items ++ line ∷ []) }
+    ensures put { OnOk result (texts.new.items ≡ texts.old.items ++ line ∷ []) }
+    ensures fault { IfErr result (λ why. why ≡ JournalFault.NoMemory) }
 {
     match texts.push(line) {
         Ok(()) => Ok(()),
@@ -36,6 +39,8 @@ fn put_note(
         → GoesOn layout.now counts (held ++ map string_bytes texts.new.items) edits) }
     ensures keys { OnOk result (keys_of layout.now (map string_bytes texts.new.items) ≡ keys_of layout.now (map string_bytes texts.old.items) ++ note.now ∷ []) }
     ensures table { OnOk result ((before : List KeptKey) → AreKeys table.old before → AreKeys table.new (before ++ note.now ∷ [])) }
+    ensures plain { OnOk result (HaveNoSums (map string_bytes texts.old.items) → HaveNoSums (map string_bytes texts.new.items)) }
+    ensures unkept { (known : List KeptKey) → AreKeys table.old known → IfErr result (KeysHaveNoLines layout.now known (note.now ∷ [])) }
 {
     let line = key_line(alloc, layout, note)?;
     table.add(note.copied(alloc)?)?;
@@ -55,6 +60,8 @@ pub(crate) fn put_notes(
         → GoesOn layout.now counts (held ++ map string_bytes texts.new.items) edits) }
     ensures keys { OnOk result (keys_of layout.now (map string_bytes texts.new.items) ≡ keys_of layout.now (map string_bytes texts.old.items) ++ notes.now) }
     ensures table { OnOk result ((before : List KeptKey) → AreKeys table.old before → AreKeys table.new (before ++ notes.now)) }
+    ensures plain { OnOk result (HaveNoSums (map string_bytes texts.old.items) → HaveNoSums (map string_bytes texts.new.items)) }
+    ensures unkept { (known : List KeptKey) → AreKeys table.old known → IfErr result (KeysHaveNoLines layout.now known notes.now) }
 {
     for note in notes {
         put_note(alloc, layout, table, note, texts)?;

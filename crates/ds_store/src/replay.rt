@@ -8,6 +8,7 @@ ghost use Rattle.ds_formula.specs.Cells.{IsInside};
 ghost use Rattle.ds_store_journal.specs.Journals.{asked_view, edit_in, sheet_in};
 ghost use Rattle.ds_store.specs.Replays.{IsUnfollowed, IsUnmade};
 ghost use Rattle.ds_store.specs.Opened.{Leads, LeadsNowhere, Stops, fault_at};
+ghost use Rattle.ds_store.specs.Told.{IsOfLines};
 ghost use Rattle.ds_store_journal.specs.declared.fault.JournalFault.{JournalFault};
 
 use crate::fault::StoreFault;
@@ -82,9 +83,11 @@ impl Replay {
 // Follows the lines after the first one, each in its turn.
 fn follow_rest(alloc: Global, replay: &mut Replay, rest: &[String]) -> Result<(), StoreFault>
     ensures stops { (before : List (List ℕ)) → Leads replay.old.layout replay.old.counts.counts.items replay.old.sheet before → length replay.old.counts.counts.items ≡ replay.old.layout.processes
-        → IfErr result (λ fault. (number : ℕ) × (why : JournalFault) × (fault ≡ fault_at number why) × Stops (before ++ map string_bytes rest.now) why) }
+        → length before ≡ 1 → IfErr result (λ fault. (number : ℕ) × (why : JournalFault) × (fault ≡ fault_at number why) × Stops (before ++ map string_bytes rest.now) number why) }
+    ensures of_lines { IfErr result IsOfLines }
     ensures leads { OnOk result ((before : List (List ℕ)) → Leads replay.old.layout replay.old.counts.counts.items replay.old.sheet before
         → Leads replay.new.layout replay.new.counts.counts.items replay.new.sheet (before ++ map string_bytes rest.now)) }
+    ensures counts { OnOk result (length replay.old.counts.counts.items ≡ replay.old.layout.processes → length replay.new.counts.counts.items ≡ replay.new.layout.processes) }
 {
     let mut number = 1usize;
     for line in rest {
@@ -100,7 +103,9 @@ fn follow_rest(alloc: Global, replay: &mut Replay, rest: &[String]) -> Result<()
 /// followed.
 pub(crate) fn replayed(alloc: Global, lines: &[String]) -> Result<Replay, StoreFault>
     ensures leads { IfOk result (λ r. Leads r.layout r.counts.counts.items r.sheet (map string_bytes lines.now)) }
+    ensures counts { IfOk result (λ r. length r.counts.counts.items ≡ r.layout.processes) }
     ensures nowhere { IfErr result (LeadsNowhere (map string_bytes lines.now)) }
+    ensures of_lines { IfErr result IsOfLines }
 {
     let Some((first, rest)) = lines.split_first() else {
         return Err(StoreFault::Missing(1));

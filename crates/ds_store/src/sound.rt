@@ -1,6 +1,6 @@
 //! The first lines of a journal, as far as they are sound.
 
-ghost use Rattle.std.specs.Prelude.{◌≡◌, ◌≤◌, List, ℕ, None, length, IfOk, map};
+ghost use Rattle.std.specs.Prelude.{◌≡◌, ◌≤◌, ◌⊎◌, [], List, ℕ, None, length, IfOk, IfSome, map, min, take};
 ghost use Rattle.std.specs.String.{string_bytes};
 ghost use Rattle.sqlite.specs.Held.{state};
 ghost use Rattle.sqlite.specs.State.{HasCleanDisk};
@@ -11,6 +11,8 @@ ghost use Rattle.ds_store_sums.specs.declared.sums.Tail.{Tail};
 ghost use Rattle.ds_store_table.specs.Tables.{Holds};
 ghost use Rattle.ds_store.specs.Opened.{Leads};
 ghost use Rattle.ds_store.specs.Sound.{AreFirst};
+ghost use Rattle.ds_store.specs.Summing.{AreNotAdded};
+ghost use Rattle.ds_store.specs.Unsound.{AreUnsound, HaveKeyAgain, before_of, sound_before};
 ghost use Rattle.ds_store.specs.declared.seated.SeatedSheet.{SeatedSheet};
 
 use crate::fault::StoreFault;
@@ -35,7 +37,9 @@ pub struct SoundLines {
 }
 
 // That the key of a line stands in one before it, where one does.
-fn key_fault(alloc: Global, lines: &[String]) -> Option<StoreFault> {
+fn key_fault(alloc: Global, lines: &[String]) -> Option<StoreFault>
+    ensures { IfSome result (λ fault. (fault ≡ StoreFault.NoMemory) ⊎ HaveKeyAgain (map string_bytes lines.now) fault) }
+{
     let Ok(layout) = read_sheet(lines.first()?.as_bytes()) else {
         return None;
     };
@@ -47,7 +51,9 @@ fn key_fault(alloc: Global, lines: &[String]) -> Option<StoreFault> {
 
 // What is wrong with the first line that is not sound, where this is wrong with that of its number: a sum before it may
 // be wrong, or a key may stand again.
-fn earlier(alloc: Global, lines: &[String], fault: StoreFault) -> StoreFault {
+fn earlier(alloc: Global, lines: &[String], fault: StoreFault) -> StoreFault
+    ensures { (result ≡ fault) ⊎ (HaveKeyAgain (map string_bytes lines.now) result ⊎ AreNotAdded [] (map string_bytes lines.now) result) }
+{
     let before = fault.before().min(lines.len());
     let fault = match add_all(alloc, &mut LineSums::new(), &lines[..before]) {
         Ok(_) => fault,
@@ -63,7 +69,8 @@ fn earlier(alloc: Global, lines: &[String], fault: StoreFault) -> StoreFault {
 // What is wrong with the first line that is not sound, where any is: of these, or that of the number that is missing after
 // them.
 fn first_fault(alloc: Global, lines: &[String], missing: Option<usize>) -> Option<StoreFault>
-    ensures { result ≡ None → missing ≡ None }
+    ensures none { result ≡ None → missing ≡ None }
+    ensures cause { missing ≡ None → IfSome result (AreUnsound (map string_bytes lines.now)) }
 {
     if let Err(fault) = replayed(alloc, lines) {
         return Some(earlier(alloc, lines, fault));
@@ -79,7 +86,7 @@ fn first_fault(alloc: Global, lines: &[String], missing: Option<usize>) -> Optio
 
 // How many lines are sound, of as many as these. An error is that none is.
 fn before_fault(fault: &Option<StoreFault>, all: usize) -> Result<usize, StoreFault>
-    ensures { IfOk result (λ sound. fault.now ≡ None → sound ≡ all) }
+    ensures { IfOk result (λ sound. sound ≡ sound_before fault.now all) }
 {
     match fault {
         Some(fault) if fault.before() == 0 => Err(*fault),
@@ -100,6 +107,9 @@ pub fn first_sound<S: Alter>(
     ensures leads { IfOk result (λ s. (layout : Layout) × (counts : List ℕ) × (sheet : SeatedSheet) × Leads layout counts sheet (map string_bytes s.lines.items) × StandOnce (keys_of layout (map string_bytes s.lines.items))) }
     ensures summed { IfOk result (λ s. (tail : Tail) × AreSummed (map string_bytes s.lines.items) tail) }
     ensures first { HasCleanDisk (state S.Store conn.new) → (held : List (List ℕ)) → Holds held (state S.Store conn.old).now → IfOk result (AreFirst most held) }
+    ensures cause { HasCleanDisk (state S.Store conn.new) → (held : List (List ℕ)) → Holds held (state S.Store conn.old).now → IfOk result (λ s. IfSome s.fault (AreUnsound held)) }
+    ensures sound { HasCleanDisk (state S.Store conn.new) → (held : List (List ℕ)) → Holds held (state S.Store conn.old).now
+        → IfOk result (λ s. IfSome s.fault (λ fault. map string_bytes s.lines.items ≡ take (min (before_of fault) most) held)) }
 {
     let FirstLines { mut lines, missing } = lines::read_first(alloc, conn)?;
     let all = lines.len();

@@ -1,7 +1,7 @@
 //! A store: a journal in a database.
 
 ghost use Rattle.std.specs.List.{list_any};
-ghost use Rattle.std.specs.Prelude.{◌≡◌, ◌++◌, ◌∷◌, [], ℕ, List, nat_le, true, length, IfOk, IsErr, IsTrue, None, OnErr, OnOk, map, option_map};
+ghost use Rattle.std.specs.Prelude.{◌≡◌, ◌⊎◌, ◌++◌, ◌∷◌, [], ℕ, List, false, nat_le, true, length, IfErr, IfOk, IsErr, IsTrue, None, OnErr, OnOk, map, option_map};
 ghost use Rattle.std.specs.String.{string_bytes};
 ghost use Rattle.sqlite.specs.Held.{state};
 ghost use Rattle.sqlite.specs.State.{HasCleanDisk, Survives};
@@ -9,11 +9,18 @@ ghost use Rattle.ds_store_journal.specs.Joining.{joins_of};
 ghost use Rattle.ds_store_journal.specs.Journals.{KeptEdit, edits_by, size_of};
 ghost use Rattle.ds_store_keys.specs.Keys.{KeptKey, StandOnce, edit_of, key_in, keys_of};
 ghost use Rattle.ds_store_keys.specs.Tables.{AreKeys, found};
+ghost use Rattle.ds_store_journal.specs.Faults.{IsUnwritten};
+ghost use Rattle.ds_store_sums.specs.Sums.{is_sum};
 ghost use Rattle.ds_store_sums.specs.Taken.{IsAt};
 ghost use Rattle.ds_store_table.specs.Tables.{Holds, IsBare};
 ghost use Rattle.ds_store.specs.Opened.{Leads};
 ghost use Rattle.ds_store.specs.GoingOver.{GoesOver, MayGoOver};
+ghost use Rattle.ds_store.specs.Keeping.{FailsToGive, FailsToGoOver, FailsToKeepAll, HaveNoLines, MayBeNext, MayFollow};
 ghost use Rattle.ds_store.specs.Stores.{GoesOn, MayKeep, size_seen};
+ghost use Rattle.ds_store.specs.Summing.{HaveNoSums};
+ghost use Rattle.ds_store.specs.Told.{told_of};
+ghost use Rattle.ds_store.specs.Unsound.{AreUnsound};
+ghost use Rattle.sqlite.specs.declared.error.Error.{Error};
 
 use crate::committed::Committed;
 use crate::fault::StoreFault;
@@ -83,6 +90,10 @@ fn kept(
     ensures journal { IfOk result (λ line. (lines : List (List ℕ)) (edits : List KeptEdit) → GoesOn layout.now counts.old.counts.items lines edits
         → GoesOn layout.now counts.new.counts.items (lines ++ string_bytes line ∷ []) (edits ++ edit.now ∷ [])) }
     ensures keyless { IfOk result (λ line. key_in layout.now (string_bytes line) ≡ None) }
+    ensures plain { IfOk result (λ line. is_sum (string_bytes line) ≡ false) }
+    ensures each { length counts.new.counts.items ≡ length counts.old.counts.items }
+    ensures unkept { (lines : List (List ℕ)) (edits : List KeptEdit) → GoesOn layout.now counts.old.counts.items lines edits → length counts.old.counts.items ≡ layout.now.processes
+        → IfErr result (IsUnwritten (MayBeNext layout.now edits edit.now)) }
 {
     if counts.count(edit.process) == Some(edit.number) {
         edit_line(alloc, layout, edit)
@@ -101,6 +112,10 @@ fn kept_all(
     ensures journal { IfOk result (λ texts. (lines : List (List ℕ)) (before : List KeptEdit) → GoesOn layout.now counts.old.counts.items lines before
         → GoesOn layout.now counts.new.counts.items (lines ++ map string_bytes texts.items) (before ++ edits.now)) }
     ensures keyless { IfOk result (λ texts. keys_of layout.now (map string_bytes texts.items) ≡ []) }
+    ensures plain { IfOk result (λ texts. HaveNoSums (map string_bytes texts.items)) }
+    ensures each { length counts.new.counts.items ≡ length counts.old.counts.items }
+    ensures unkept { (lines : List (List ℕ)) (before : List KeptEdit) → GoesOn layout.now counts.old.counts.items lines before → length counts.old.counts.items ≡ layout.now.processes
+        → IfErr result (IsUnwritten (MayFollow layout.now before edits.now)) }
 {
     let mut texts = Vec::with_capacity(alloc, edits.len())?;
     for edit in edits {
@@ -123,6 +138,10 @@ fn lines_to_keep(
         → GoesOn layout.now counts.new.counts.items (lines ++ map string_bytes texts.items) (before ++ edits.now)) }
     ensures keys { IfOk result (λ texts. keys_of layout.now (map string_bytes texts.items) ≡ keys.now) }
     ensures table { OnOk result ((before : List KeptKey) → AreKeys table.old before → AreKeys table.new (before ++ keys.now)) }
+    ensures plain { IfOk result (λ texts. HaveNoSums (map string_bytes texts.items)) }
+    ensures each { length counts.new.counts.items ≡ length counts.old.counts.items }
+    ensures unkept { (lines : List (List ℕ)) (before : List KeptEdit) (known : List KeptKey) → GoesOn layout.now counts.old.counts.items lines before → length counts.old.counts.items ≡ layout.now.processes
+        → AreKeys table.old known → IfErr result (HaveNoLines layout.now before edits.now known keys.now) }
 {
     let mut texts = kept_all(alloc, layout, counts, edits)?;
     put_notes(alloc, layout, table, keys, &mut texts)?;
@@ -134,8 +153,9 @@ fn with_lines<S: Alter + Drop>(
     conn: Connection<S>,
     lines: &[String],
 ) -> Result<Connection<S>, StoreFault>
-    ensures { IfOk result (λ made. HasCleanDisk (state S.Store made) → IsBare (state S.Store conn).now
+    ensures holds { IfOk result (λ made. HasCleanDisk (state S.Store made) → IsBare (state S.Store conn).now
         → Holds (map string_bytes lines.now) (state S.Store made).now × Holds (map string_bytes lines.now) (state S.Store made).committed) }
+    ensures err { IfErr result (λ fault. (e : Error) × (fault ≡ told_of e)) }
 {
     let mut conn = conn;
     lines::make(&mut conn, lines)?;
@@ -151,7 +171,9 @@ impl<S: Alter + Drop> Store<S> {
         lines: Vec<String>,
     ) -> Result<Opened<S>, StoreFault>
         ensures lines { IfOk result (λ opened. opened.lines ≡ lines) }
+        ensures err { IfErr result (λ fault. AreUnsound (map string_bytes lines.items) fault ⊎ ((e : Error) × (fault ≡ told_of e))) }
         ensures leads { IfOk result (λ opened. Leads opened.store.layout opened.store.counts.counts.items opened.sheet (map string_bytes opened.lines.items)) }
+        ensures counts { IfOk result (λ opened. length opened.store.counts.counts.items ≡ opened.store.layout.processes) }
         ensures summed { IfOk result (λ opened. IsAt opened.store.sums (map string_bytes opened.lines.items)) }
         ensures joins { IfOk result (λ opened. opened.store.joins ≡ joins_of opened.store.layout (map string_bytes opened.lines.items)) }
         ensures keys { IfOk result (λ opened. AreKeys opened.store.keys (keys_of opened.store.layout (map string_bytes opened.lines.items))) }
@@ -185,6 +207,7 @@ impl<S: Alter + Drop> Store<S> {
     /// the database has something it is an error.
     pub fn make(alloc: Global, conn: Connection<S>, layout: Layout) -> Result<Opened<S>, StoreFault>
         ensures leads { IfOk result (λ opened. Leads opened.store.layout opened.store.counts.counts.items opened.sheet (map string_bytes opened.lines.items)) }
+        ensures counts { IfOk result (λ opened. length opened.store.counts.counts.items ≡ opened.store.layout.processes) }
         ensures asked { IfOk result (λ opened. size_seen opened.store.layout opened.store.joins ≡ size_of layout) }
         ensures one { IfOk result (λ opened. length opened.lines.items ≡ 1) }
         ensures joins { IfOk result (λ opened. opened.store.joins ≡ joins_of opened.store.layout (map string_bytes opened.lines.items)) }
@@ -207,6 +230,7 @@ impl<S: Alter + Drop> Store<S> {
     /// is missing, cannot be followed, or has another sum than that of the lines before it.
     pub fn open(alloc: Global, conn: Connection<S>) -> Result<Opened<S>, StoreFault>
         ensures leads { IfOk result (λ opened. Leads opened.store.layout opened.store.counts.counts.items opened.sheet (map string_bytes opened.lines.items)) }
+        ensures counts { IfOk result (λ opened. length opened.store.counts.counts.items ≡ opened.store.layout.processes) }
         ensures summed { IfOk result (λ opened. IsAt opened.store.sums (map string_bytes opened.lines.items)) }
         ensures joins { IfOk result (λ opened. opened.store.joins ≡ joins_of opened.store.layout (map string_bytes opened.lines.items)) }
         ensures keys { IfOk result (λ opened. AreKeys opened.store.keys (keys_of opened.store.layout (map string_bytes opened.lines.items))) }
@@ -260,6 +284,10 @@ impl<S: Alter + Drop> Store<S> {
         ensures crash { (held : List (List ℕ)) (before : List KeptEdit) → GoesOn self.old.layout self.old.counts.counts.items held before → IsAt self.old.sums held → Holds held (state S.Store self.old.conn).now
             → Survives (state S.Store self.old.conn) (state S.Store self.new.conn) (MayKeep self.old.layout held before edits.items keys.items) }
         ensures clean { HasCleanDisk (state S.Store self.new.conn) → HasCleanDisk (state S.Store self.old.conn) }
+        ensures each { length self.new.counts.counts.items ≡ length self.old.counts.counts.items }
+        ensures err { HasCleanDisk (state S.Store self.new.conn) → (held : List (List ℕ)) (before : List KeptEdit) → GoesOn self.old.layout self.old.counts.counts.items held before
+            → length self.old.counts.counts.items ≡ self.old.layout.processes → IsAt self.old.sums held → AreKeys self.old.keys (keys_of self.old.layout held)
+            → IfErr result (FailsToKeepAll S.Store self.old.layout held before edits.items keys.items self.old.conn self.new.conn) }
         ensures undone { HasCleanDisk (state S.Store self.new.conn) → OnErr result (IsTrue (state S.Store self.new.conn).is_open → (state S.Store self.new.conn).now ≡ (state S.Store self.old.conn).now) }
     {
         let texts = lines_to_keep(
@@ -280,6 +308,8 @@ impl<S: Alter + Drop> Store<S> {
         ensures lines { HasCleanDisk (state S.Store self.new.conn) → (held : List (List ℕ)) → Holds held (state S.Store self.old.conn).now
             → IfOk result (λ lines. (map string_bytes lines.items ≡ held) × Holds held (state S.Store self.new.conn).now) }
         ensures rest { (self.new.layout ≡ self.old.layout) × (self.new.joins ≡ self.old.joins) × (self.new.counts ≡ self.old.counts) × (self.new.sums ≡ self.old.sums) × (self.new.keys ≡ self.old.keys) }
+        ensures err { HasCleanDisk (state S.Store self.new.conn) → (held : List (List ℕ)) → Holds held (state S.Store self.old.conn).now
+            → IfErr result (FailsToGive held (state S.Store self.old.conn) (state S.Store self.new.conn)) }
         ensures clean { HasCleanDisk (state S.Store self.new.conn) → HasCleanDisk (state S.Store self.old.conn) }
     {
         let lines = lines::read(alloc, &mut self.conn)?;
@@ -298,6 +328,7 @@ impl<S: Alter + Drop> Store<S> {
     /// keys are of what they were. After an error the database holds what it held, where the connection is still open.
     pub fn go_over(&mut self, alloc: Global, held: &[String]) -> Result<NextSheet, StoreFault>
         ensures leads { IfOk result (λ next. Leads self.new.layout self.new.counts.counts.items next.sheet (map string_bytes next.lines.items)) }
+        ensures counts { OnOk result (length self.new.counts.counts.items ≡ self.new.layout.processes) }
         ensures summed { IfOk result (λ next. IsAt self.new.sums (map string_bytes next.lines.items)) }
         ensures joins { IfOk result (λ next. self.new.joins ≡ joins_of self.new.layout (map string_bytes next.lines.items)) }
         ensures keys { IfOk result (λ next. AreKeys self.new.keys (keys_of self.new.layout (map string_bytes next.lines.items))) }
@@ -306,6 +337,7 @@ impl<S: Alter + Drop> Store<S> {
             → Holds (map string_bytes next.lines.items) (state S.Store self.new.conn).now × Holds (map string_bytes next.lines.items) (state S.Store self.new.conn).committed) }
         ensures crash { Holds (map string_bytes held.now) (state S.Store self.old.conn).now → Survives (state S.Store self.old.conn) (state S.Store self.new.conn) (MayGoOver (map string_bytes held.now)) }
         ensures clean { HasCleanDisk (state S.Store self.new.conn) → HasCleanDisk (state S.Store self.old.conn) }
+        ensures err { HasCleanDisk (state S.Store self.new.conn) → IfErr result (FailsToGoOver S.Store (map string_bytes held.now) self.old.conn self.new.conn) }
         ensures undone { HasCleanDisk (state S.Store self.new.conn) → OnErr result (IsTrue (state S.Store self.new.conn).is_open → (state S.Store self.new.conn).now ≡ (state S.Store self.old.conn).now) }
     {
         let lines = next_lines(alloc, held, "the sheet before")?;
@@ -399,6 +431,7 @@ pub fn open_or_make<S: Alter + Drop>(
 ) -> Result<Opened<S>, StoreFault>
     ensures asked { IfOk result (λ opened. size_seen opened.store.layout opened.store.joins ≡ size_of layout) }
     ensures leads { IfOk result (λ opened. Leads opened.store.layout opened.store.counts.counts.items opened.sheet (map string_bytes opened.lines.items)) }
+    ensures counts { IfOk result (λ opened. length opened.store.counts.counts.items ≡ opened.store.layout.processes) }
     ensures joins { IfOk result (λ opened. opened.store.joins ≡ joins_of opened.store.layout (map string_bytes opened.lines.items)) }
     ensures keys { IfOk result (λ opened. AreKeys opened.store.keys (keys_of opened.store.layout (map string_bytes opened.lines.items))) }
     ensures opens { IfOk result (λ opened. HasCleanDisk (state S.Store opened.store.conn) → (held : List (List ℕ)) → Holds held (state S.Store conn).now

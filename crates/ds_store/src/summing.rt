@@ -1,11 +1,13 @@
 //! The lines of a journal are seen to have their sums.
 
-ghost use Rattle.std.specs.Prelude.{◌≡◌, ◌≢◌, ◌++◌, ◌∷◌, [], List, ℕ, true, IfOk, map};
+ghost use Rattle.std.specs.Prelude.{◌≡◌, ◌≢◌, ◌++◌, ◌∷◌, [], List, ℕ, true, IfErr, IfOk, map};
 ghost use Rattle.std.specs.String.{string_bytes};
 ghost use Rattle.ds_script_io.specs.Fields.{is_skipped};
 ghost use Rattle.ds_store_sums.specs.Sums.{sum_of};
 ghost use Rattle.ds_store_sums.specs.Taken.{IsAt};
-ghost use Rattle.ds_store.specs.Summing.{summed_anew};
+ghost use Rattle.ds_store.specs.Summing.{AreNotAdded, HaveNoSums, summed_anew};
+ghost use Rattle.ds_store.specs.Told.{IsOfLines};
+ghost use Rattle.ds_store.specs.Unsound.{AreUnsummed};
 
 use crate::fault::StoreFault;
 use ds_store_sums::sums::{LineSums, SumFault, Tail, is_sum};
@@ -17,7 +19,9 @@ pub(crate) fn add_all(
     sums: &mut LineSums,
     lines: &[String],
 ) -> Result<usize, StoreFault>
-    ensures { IfOk result (λ _. (before : List (List ℕ)) → IsAt sums.old before → IsAt sums.new (before ++ map string_bytes lines.now)) }
+    ensures added { IfOk result (λ _. (before : List (List ℕ)) → IsAt sums.old before → IsAt sums.new (before ++ map string_bytes lines.now)) }
+    ensures wrong { (before : List (List ℕ)) → IsAt sums.old before → IfErr result (AreNotAdded before (map string_bytes lines.now)) }
+    ensures of_lines { IfErr result IsOfLines }
 {
     let mut number = 0usize;
     let mut last = 0usize;
@@ -40,6 +44,8 @@ pub(crate) fn add_all(
 pub(crate) fn summed(alloc: Global, lines: &[String]) -> Result<LineSums, StoreFault>
     ensures sums { IfOk result (λ s. IsAt s (map string_bytes lines.now)) }
     ensures tail { IfOk result (λ s. s.tail ≢ Tail.Loose) }
+    ensures wrong { IfErr result (AreUnsummed (map string_bytes lines.now)) }
+    ensures of_lines { IfErr result IsOfLines }
 {
     let mut sums = LineSums::new();
     let last = add_all(alloc, &mut sums, lines)?;
@@ -55,8 +61,10 @@ pub(crate) fn sum_up(
     sums: &mut LineSums,
     lines: Vec<String>,
 ) -> Result<Vec<String>, StoreFault>
-    ensures { IfOk result (λ all. (before : List (List ℕ)) → IsAt sums.old before → IsAt sums.new (before ++ map string_bytes all.items)
+    ensures summed { IfOk result (λ all. (before : List (List ℕ)) → IsAt sums.old before → IsAt sums.new (before ++ map string_bytes all.items)
         × ((sum : List ℕ) × (map string_bytes all.items ≡ map string_bytes lines.items ++ sum ∷ []) × (is_skipped sum ≡ true) × (sum ≡ sum_of (before ++ map string_bytes lines.items)))) }
+    ensures plain { (before : List (List ℕ)) → IsAt sums.old before → HaveNoSums (map string_bytes lines.items) → IfErr result (λ fault. fault ≡ StoreFault.NoMemory) }
+    ensures of_lines { IfErr result IsOfLines }
 {
     let mut lines = lines;
     add_all(alloc, sums, &lines)?;
@@ -72,7 +80,8 @@ pub(crate) fn sum_up(
 
 /// Lines without their sums, and after them one that has the sum of all: as they are to be committed first.
 pub fn with_sum(alloc: Global, lines: Vec<String>) -> Result<Vec<String>, StoreFault>
-    ensures { IfOk result (λ all. map string_bytes all.items ≡ summed_anew (map string_bytes lines.items)) }
+    ensures anew { IfOk result (λ all. map string_bytes all.items ≡ summed_anew (map string_bytes lines.items)) }
+    ensures of_lines { IfErr result IsOfLines }
 {
     let mut plain = lines;
     plain.retain(|line| !is_sum(line));

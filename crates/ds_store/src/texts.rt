@@ -1,6 +1,6 @@
 //! The texts that the edits of a journal lead to.
 
-ghost use Rattle.std.specs.Prelude.{◌≡◌, ◌<◌, ◌++◌, ◌∷◌, [], List, ℕ, Some, Vec, length, slice_index_or, false, true, IfOk, OnOk, map};
+ghost use Rattle.std.specs.Prelude.{◌≡◌, ◌<◌, ◌++◌, ◌∷◌, [], List, ℕ, Some, Vec, length, slice_index_or, false, true, IfErr, IfOk, OnOk, map};
 ghost use Rattle.std.specs.Global.{Global};
 ghost use Rattle.std.specs.String.{string_bytes};
 ghost use Rattle.ds_formula.specs.declared.cells.Cell.{Cell};
@@ -8,6 +8,7 @@ ghost use Rattle.ds_formula.specs.Cells.{IsInside, count_of as cells_in, index_o
 ghost use Rattle.ds_script_io.specs.Fields.{is_skipped};
 ghost use Rattle.ds_store_journal.specs.Journals.{asked_view, edit_in};
 ghost use Rattle.ds_store.specs.Texts.{AreTexts, HasTexts, SameTexts};
+ghost use Rattle.ds_store.specs.Told.{IsOfLines};
 
 use crate::fault::StoreFault;
 use ds_formula::cells::{Cell, Shape};
@@ -130,8 +131,9 @@ fn are_same(texts: &[Vec<u8>], others: &[Vec<u8>]) -> bool
 
 // Reads the lines after the first one, each in its turn.
 fn read_rest(alloc: Global, texts: &mut JournalTexts, rest: &[String]) -> Result<(), StoreFault>
-    ensures { OnOk result ((before : List (List ℕ)) → HasTexts texts.old.layout texts.old.counts.counts.items texts.old.texts.items before
+    ensures texts { OnOk result ((before : List (List ℕ)) → HasTexts texts.old.layout texts.old.counts.counts.items texts.old.texts.items before
         → HasTexts texts.new.layout texts.new.counts.counts.items texts.new.texts.items (before ++ map string_bytes rest.now)) }
+    ensures of_lines { IfErr result IsOfLines }
 {
     let mut number = 1usize;
     for line in rest {
@@ -145,7 +147,8 @@ fn read_rest(alloc: Global, texts: &mut JournalTexts, rest: &[String]) -> Result
 
 /// The texts that the lines of a journal lead to. An error says which line is none of a journal.
 pub fn texts_of(alloc: Global, lines: &[String]) -> Result<JournalTexts, StoreFault>
-    ensures { IfOk result (λ t. HasTexts t.layout t.counts.counts.items t.texts.items (map string_bytes lines.now)) }
+    ensures texts { IfOk result (λ t. HasTexts t.layout t.counts.counts.items t.texts.items (map string_bytes lines.now)) }
+    ensures of_lines { IfErr result IsOfLines }
 {
     let Some((first, rest)) = lines.split_first() else {
         return Err(StoreFault::Missing(1));

@@ -3,3 +3,4 @@ mod Finding
 pub mod Listing
 pub mod Plain
 pub mod Tabling
+mod Written

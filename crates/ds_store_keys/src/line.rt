@@ -1,9 +1,12 @@
 //! The lines that have keys are read, and written.
 
-ghost use Rattle.std.specs.Prelude.{◌≡◌, IfOk, IfSome, Some, option_map, true};
+ghost use Rattle.std.specs.Prelude.{◌≡◌, IfErr, IfOk, Some, false, option_map, true};
 ghost use Rattle.std.specs.String.{string_bytes};
 ghost use Rattle.ds_script_io.specs.Fields.{is_skipped};
+ghost use Rattle.ds_layout.specs.declared.layout.Layout.{Layout};
+ghost use Rattle.ds_store_journal.specs.Faults.{IsUnwritten};
 ghost use Rattle.ds_store_keys.specs.Keys.{edit_named, edit_of, edit_view, key_in, named_view, read_view};
+ghost use Rattle.ds_store_keys.specs.Written.{HasKeyLine, key_text};
 
 use crate::note::{KeyNote, KeyUse};
 use ds_formula::cells::Cell;
@@ -77,7 +80,8 @@ pub fn read_key<'a>(layout: &Layout, line: &'a [u8]) -> Option<ReadKey<'a>>
 
 // Whether an edit that was read is this one.
 fn is_edit(read: &NamedEdit<'_>, edit: &AnsweredEdit) -> bool
-    ensures { result ≡ true → named_view read.now ≡ edit.now }
+    ensures same { result ≡ true → named_view read.now ≡ edit.now }
+    ensures other { result ≡ false → named_view read.now ≡ edit.now → ⊥ }
 {
     read.process == edit.process
         && read.number == edit.number
@@ -87,7 +91,8 @@ fn is_edit(read: &NamedEdit<'_>, edit: &AnsweredEdit) -> bool
 
 // Whether what was read that a key is of is this.
 fn is_use(read: &Option<NamedEdit<'_>>, of: &KeyUse) -> bool
-    ensures { result ≡ true → edit_view read.now ≡ edit_of of.now }
+    ensures same { result ≡ true → edit_view read.now ≡ edit_of of.now }
+    ensures other { result ≡ false → edit_view read.now ≡ edit_of of.now → ⊥ }
 {
     match (read, of) {
         (Some(read), KeyUse::Edit(edit)) => is_edit(read, edit),
@@ -98,7 +103,8 @@ fn is_use(read: &Option<NamedEdit<'_>>, of: &KeyUse) -> bool
 
 // Whether a line of a sheet of this layout has the key, and is skipped.
 fn has(layout: &Layout, line: &[u8], note: &KeyNote) -> bool
-    ensures { result ≡ true → (is_skipped line.now ≡ true) × (key_in layout.now line.now ≡ Some note.now) }
+    ensures has { result ≡ true → (is_skipped line.now ≡ true) × (key_in layout.now line.now ≡ Some note.now) }
+    ensures other { result ≡ false → is_skipped line.now ≡ true → key_in layout.now line.now ≡ Some note.now → ⊥ }
 {
     let Some(read) = read_key(layout, line) else {
         return false;
@@ -106,8 +112,11 @@ fn has(layout: &Layout, line: &[u8], note: &KeyNote) -> bool
     is_skipped(line) && read.key == note.key.as_slice() && is_use(&read.edit, &note.of)
 }
 
-// The line of a key, as yet unread. None where a text of it is not UTF-8.
-fn written(alloc: Global, note: &KeyNote) -> Result<String, JournalFault> {
+// The line of a key, as yet unread. The fault is `Other` where a text of it is not UTF-8.
+fn written(alloc: Global, note: &KeyNote) -> Result<String, JournalFault>
+    ensures text { IfOk result (λ line. string_bytes line ≡ key_text note.now) }
+    ensures unwritten { (layout : Layout) → IfErr result (IsUnwritten (HasKeyLine layout note.now)) }
+{
     let Ok(key) = str::from_utf8(&note.key) else {
         return Err(JournalFault::Other);
     };
@@ -130,7 +139,9 @@ fn written(alloc: Global, note: &KeyNote) -> Result<String, JournalFault> {
 /// has not, as of a text that is no key, of a cell that the sheet has not, or of a text that is not UTF-8, and `NoMemory`
 /// where an allocation failed.
 pub fn key_line(alloc: Global, layout: &Layout, note: &KeyNote) -> Result<String, JournalFault>
-    ensures { IfOk result (λ line. (is_skipped (string_bytes line) ≡ true) × (key_in layout.now (string_bytes line) ≡ Some note.now)) }
+    ensures text { IfOk result (λ line. string_bytes line ≡ key_text note.now) }
+    ensures has { IfOk result (λ line. (is_skipped (string_bytes line) ≡ true) × (key_in layout.now (string_bytes line) ≡ Some note.now)) }
+    ensures unwritten { IfErr result (IsUnwritten (HasKeyLine layout.now note.now)) }
 {
     let line = written(alloc, note)?;
     if has(layout, line.as_bytes(), note) {

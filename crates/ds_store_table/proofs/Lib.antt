@@ -1,4 +1,5 @@
 mod Adding
+mod Counting
 mod Crashes
 mod Failing
 mod Lists

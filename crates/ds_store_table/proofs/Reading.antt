@@ -1,54 +1,50 @@
 -- What reads the lines.
-use Rattle.std.proofs.Common.{◌≡◌, ℕ, suc, pos, List, [], ◌∷◌, ◌++◌, length, map, slice_get, flat_map, Some, All, refl, sym, ap, subst, ◌∙◌, arith, append_assoc, length-append, codes}
-use Rattle.std.specs.List.Sorted.{IsPermutation}
+use Rattle.std.proofs.Common.{◌≡◌, inl, inr, ◌<◌, ℕ, suc, pos, List, [], ◌∷◌, map, flat_map, refl, sym, ap, subst, ◌∙◌, arith, codes, Less, IsPermutation}
 use Rattle.std.specs.List.{AllByRecursion}
-use Rattle.std.proofs.lemmas.List.{length-map}
-use Rattle.std.proofs.lemmas.List.Elements.{All-from_recursion}
-use Rattle.std.proofs.lemmas.List.Sorted.{length_permutation}
-use Rattle.std.proofs.lemmas.Map.Views.{All-map-IsPermutation}
-use Rattle.sqlite.specs.declared.types.Value.TheVariants.{Null, Int, Text}
+use Rattle.sqlite.specs.declared.types.Value.TheVariants.{Null, Int}
 use Rattle.sqlite.specs.Order.{Row}
-use Rattle.sqlite.specs.Query.{IsAnswer, output, Output}
+use Rattle.sqlite.specs.Query.{IsAnswer, output, output_cmp, Output}
 use Rattle.sqlite.specs.Term.{Env}
 use Rattle.sqlite.specs.Program.{overlay}
 use Rattle.sqlite.specs.Command.TheVariants.{Select}
-use Rattle.sqlite.specs.State.{State, Shown, ShowsRows, IsUnchanged}
+use Rattle.sqlite.specs.Effect.{Database}
+use Rattle.sqlite.specs.State.{CommitsShowing, IsUnchanged, Shown, ShowsRows, State, Survives}
 use Rattle.sqlite.specs.Listing.{understood}
-use Rattle.sqlite.proofs.Callers.{IsPlain, reads_as}
-use Rattle.ds_store_table.specs.Tables.{AreListed, Holds, IsListed, journal_schema, rows_from}
+use Rattle.sqlite.proofs.Callers.{IsPlain, never_commits, reads_as}
+use Rattle.sqlite_keyed.proofs.SortLemmas.{sorted_unique}
+use Rattle.sqlite_sql.proofs.QueryLemmas.{output_cmp_total}
+use Rattle.sqlite.specs.Tree.{IsAscending}
+use Rattle.ds_store_table.specs.Tables.{AreListed, Holds, HoldsSome, Numbered, RiseFrom, journal_schema, numbered, row_of, rows_from, shown}
+use Rattle.ds_store_table.proofs.Numbered.{lower}
 use Rattle.ds_store_table.proofs.Texts.{query, select_is, select_plain, select_text}
+
+-- the row of a line with its number
+abbrev row : Numbered → Row
+row it = row_of it.number it.line
 
 -- the ways to fill the query from these rows
 abbrev ways : List Row → List Env
 ways = flat_map (λ (r : Row). ([] ∷ r ∷ []) ∷ [])
 
--- what is shown of these lines, numbered from this number on: what they are ordered by, and what is shown
-abbrev outputs : ℕ → List (List ℕ) → List Output
-outputs number [] = []
-outputs number (line ∷ lines) = (Int (pos number) ∷ [], Int (pos number) ∷ Text line ∷ []) ∷ outputs (suc number) lines
+-- what a line is ordered by, and what is shown of it
+abbrev out : Numbered → Output
+out it = (Int (pos it.number) ∷ [], shown it)
 
-shown_of : (number : ℕ) (lines : List (List ℕ)) → map (output query) (ways (rows_from number lines)) ≡ outputs number lines
-shown_of number [] = refl
-shown_of number (line ∷ lines) = ap (λ os. (Int (pos number) ∷ [], Int (pos number) ∷ Text line ∷ []) ∷ os) (shown_of (suc number) lines)
+outs : (all : List Numbered) → map (output query) (ways (map row all)) ≡ map out all
+outs [] = refl
+outs (it ∷ all) = ap (λ os. out it ∷ os) (outs all)
 
--- as many are shown as there are
-many : (number : ℕ) (lines : List (List ℕ)) → length (outputs number lines) ≡ length lines
-many number [] = refl
-many number (line ∷ lines) = ap suc (many (suc number) lines)
+above : (it : Numbered) (least : ℕ) (all : List Numbered) → it.number < least → RiseFrom least all → AllByRecursion (λ o. output_cmp query (out it) o ≡ Less) (map out all)
+above it least [] low rise = tt
+above it least (next ∷ all) low rise = (rw (lower it.number next.number (omega (arith, rise.0))) refl, above it (suc next.number) all (omega (arith, rise.0)) rise.1)
 
--- the line after those before it
-behind : (before lines : List (List ℕ)) (line : List ℕ) → slice_get (before ++ line ∷ lines) (length before) ≡ Some line
-behind [] lines line = refl
-behind (b ∷ before) lines line = behind before lines line
+rises : (least : ℕ) (all : List Numbered) → RiseFrom least all → IsAscending (λ a b. output_cmp query a b ≡ Less) (map out all)
+rises least [] rise = tt
+rises least (it ∷ all) rise = (above it (suc it.number) all (omega arith) rise.1, rises (suc it.number) all rise.1)
 
--- each that is shown is one of the lines
-listed : (before lines : List (List ℕ)) (number : ℕ) → number ≡ suc (length before) → AllByRecursion (IsListed (before ++ lines)) (map (λ (o : Output). o.1) (outputs number lines))
-listed before [] number is = tt
-listed before (line ∷ lines) number is =
-    let first : IsListed (before ++ line ∷ lines) (Int (pos number) ∷ Text line ∷ []) =
-    record { at = length before; line = line; is = behind before lines line; row_is = ap (λ n. Int (pos n) ∷ Text line ∷ []) is } in
-    let rest = listed (before ++ line ∷ []) lines (suc number) (omega (arith, is, length-append before (line ∷ []))) in
-    (first, subst (λ ls. AllByRecursion (IsListed ls) (map (λ (o : Output). o.1) (outputs (suc number) lines))) (append_assoc before (line ∷ []) lines) rest)
+firsts : (all : List Numbered) → map (λ (o : Output). o.1) (map out all) ≡ map shown all
+firsts [] = refl
+firsts (it ∷ all) = ap (λ rs. shown it ∷ rs) (firsts all)
 
 -- a plain query changes nothing
 unchanged_by : (sql : List ℕ) (old new : State) (rows : List Row) → IsPlain (understood old.now.schema sql) → Shown sql [] old new rows → IsUnchanged old new
@@ -57,22 +53,45 @@ unchanged_by sql old new rows plain h =
     let none = (subst IsPlain h.1.is plain).0 in
     (subst (ShowsRows old new sql h.0 _ rows) none h.2).3
 
--- what is shown of a table with these lines is each line with its number, and the table stays
-pub lists : (old new : State) (rows : List Row) (lines : List (List ℕ)) → Holds lines old.now → Shown select_text [] old new rows
-    → AreListed lines rows × Holds lines new.now
-lists old new rows lines has h =
+-- what is shown of a table with these lines is each line with its number, by the numbers, and nothing changes
+pub lists : (old new : State) (rows : List Row) (all : List Numbered) → HoldsSome all old.now → Shown select_text [] old new rows → AreListed all rows × IsUnchanged old new
+lists old new rows all has h =
     let got = reads_as select_text [] old new journal_schema has.schema (Select (record { lets = []; body = query }) (codes "number" ∷ codes "line" ∷ [])) select_is.0 select_plain select_is.1 rows h in
     let a : IsAnswer query (overlay old.now.trees []) [] rows = got.answer Null in
-    let db : overlay old.now.trees [] 0 ≡ rows_from 1 lines = has.rows in
-    let staged : a.staged ≡ ways (rows_from 1 lines) = a.grouped ∙ ap ways db in
-    let kept : a.kept ≡ outputs 1 lines = a.distinct ∙ ap (map (output query)) staged ∙ shown_of 1 lines in
-    let same : IsPermutation (outputs 1 lines) a.ordered = subst (λ k. IsPermutation k a.ordered) kept a.same in
-    let rows_are : rows ≡ map (λ (o : Output). o.1) a.ordered = a.shown in
-    let each : All (IsListed lines) (map (λ (o : Output). o.1) a.ordered) =
-    All-map-IsPermutation (λ (o : Output). o.1) (IsListed lines) (outputs 1 lines) a.ordered same (All-from_recursion (IsListed lines) _ (listed [] lines 1 refl)) in (
-      record {
-        count = ap length rows_are ∙ length-map a.ordered (λ (o : Output). o.1) ∙ length_permutation (outputs 1 lines) a.ordered same ∙ many 1 lines;
-        each = subst (All (IsListed lines)) (sym rows_are) each;
-      },
-      let now = (unchanged_by select_text old new rows (subst (λ s. IsPlain (understood s select_text)) (sym has.schema) select_plain) h).0.now_is in subst (Holds lines) (sym now) has,
+    let db : overlay old.now.trees [] 0 ≡ map row all = has.rows in
+    let staged : a.staged ≡ ways (map row all) = a.grouped ∙ ap ways db in
+    let kept : a.kept ≡ map out all = a.distinct ∙ ap (map (output query)) staged ∙ outs all in
+    let same : IsPermutation (map out all) a.ordered = subst (λ k. IsPermutation k a.ordered) kept a.same in
+    let ordered : a.ordered ≡ map out all = sorted_unique (output_cmp query) (output_cmp_total query) (map out all) a.ordered (rises 1 all has.rise) same a.sorted in
+    let rows_are : rows ≡ map (λ (o : Output). o.1) a.ordered = a.shown in (
+      rows_are ∙ ap (map (λ (o : Output). o.1)) ordered ∙ firsts all,
+      unchanged_by select_text old new rows (subst (λ s. IsPlain (understood s select_text)) (sym has.schema) select_plain) h,
     )
+
+rising : (from : ℕ) (lines : List (List ℕ)) → RiseFrom from (numbered from lines)
+rising from [] = tt
+rising from (line ∷ lines) = (omega arith, rising (suc from) lines)
+
+same_rows : (from : ℕ) (lines : List (List ℕ)) → rows_from from lines ≡ map row (numbered from lines)
+same_rows from [] = refl
+same_rows from (line ∷ lines) = ap (λ rs. row_of from line ∷ rs) (same_rows (suc from) lines)
+
+-- lines of which none is missing
+pub none_missing : (lines : List (List ℕ)) (db : Database) → Holds lines db → HoldsSome (numbered 1 lines) db
+none_missing lines db has = record { schema = has.schema; rows = has.rows ∙ same_rows 1 lines; rise = rising 1 lines }
+
+-- the query commits nothing
+pub reads_only : (old new : State) (all : List Numbered) → HoldsSome all old.now → Survives old new (CommitsShowing select_text [] old) → Survives old new (λ _. ⊥)
+reads_only old new all has s =
+    let plain = subst (λ c. IsPlain (understood c select_text)) (sym has.schema) select_plain in
+    record {
+      clean = s.clean;
+      shield = s.shield;
+      counts = s.counts;
+      limit = s.limit;
+      closes = s.closes;
+      crash = λ clean db left. elim (s.crash clean db left) [
+        | inl before ↦ inl before
+        | inr commits ↦ absurd (never_commits select_text [] old db plain commits)
+      ];
+    }

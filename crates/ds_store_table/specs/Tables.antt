@@ -1,5 +1,5 @@
 -- The table of a journal's lines, as a database has it.
-use Rattle.std.specs.Prelude.{◌≡◌, ℕ, suc, pos, length, slice_get, All, true, false, [], ◌∷◌, List, Some, None, codes, map, take}
+use Rattle.std.specs.Prelude.{◌≡◌, ◌<◌, ◌≤◌, ℕ, suc, pos, length, true, false, [], ◌∷◌, ◌++◌, List, MatchOption, Some, None, codes, map, ⊤}
 use Rattle.std.specs.String.{string_bytes}
 use Rattle.ds_store_table.specs.declared.lines.FirstLines.{FirstLines}
 use Rattle.sqlite.specs.Collation.TheVariants.{Binary}
@@ -56,22 +56,52 @@ pub record Holds (lines : List (List ℕ)) (db : Database) : Type 0 where
 abbrev pub IsBare : Database → Type 0
 IsBare db = db.schema ≡ no_schema
 
--- what is shown of one of these lines: its number, from 1, and its text
-pub record IsListed (lines : List (List ℕ)) (row : Row) : Type 0 where
-  pub at : ℕ
+-- a line with its number
+pub record Numbered : Type 0 where
+  pub number : ℕ
   pub line : List ℕ
-  pub is : slice_get lines at ≡ Some line
-  pub row_is : row ≡ Int (pos (suc at)) ∷ Words line ∷ []
 
--- the rows show as many of these lines as there are
-pub record AreListed (lines : List (List ℕ)) (rows : List Row) : Type 0 where
-  pub count : length rows ≡ length lines
-  pub each : All (IsListed lines) rows
+-- these lines, numbered from this number on
+abbrev pub numbered : ℕ → List (List ℕ) → List Numbered
+numbered number [] = []
+numbered number (line ∷ lines) = record { number = number; line = line } ∷ numbered (suc number) lines
 
--- these are the first of the lines; where none is missing, they are all of them
+-- the first number is at least this, and each is above the one before it
+abbrev pub RiseFrom : ℕ → List Numbered → Type 0
+RiseFrom least [] = ⊤
+RiseFrom least (it ∷ more) = (least ≤ it.number) × RiseFrom (suc it.number) more
+
+-- the database has the table `journal` alone, with lines of these numbers, which rise from 1 on; some may be missing
+pub record HoldsSome (all : List Numbered) (db : Database) : Type 0 where
+  pub schema : db.schema ≡ journal_schema
+  pub rows : db.trees 0 ≡ map (λ (it : Numbered). row_of it.number it.line) all
+  pub rise : RiseFrom 1 all
+
+-- what is shown of a line: its number and its text
+abbrev pub shown : Numbered → Row
+shown it = Int (pos it.number) ∷ Words it.line ∷ []
+
+-- the rows show these lines, in their order
+abbrev pub AreListed : List Numbered → List Row → Type 0
+AreListed all rows = rows ≡ map shown all
+
+-- of all lines these have the numbers from 1 on, and this number is the next: it is missing, though there are higher ones
+pub record BreakAt (missing : ℕ) (lines : List (List ℕ)) (all : List Numbered) : Type 0 where
+  pub after : List Numbered
+  pub parts : all ≡ numbered 1 lines ++ after
+  pub next : missing ≡ suc (length lines)
+  pub more : 0 < length after
+  pub higher : RiseFrom (suc missing) after
+
+-- these are the first lines, up to the first number that is missing
+abbrev pub AreBefore : List Numbered → FirstLines → Type 0
+AreBefore all first =
+    MatchOption first.missing (all ≡ numbered 1 (map string_bytes first.lines.items)) (λ n. BreakAt n (map string_bytes first.lines.items) all)
+
+-- these are all of the lines, and none is missing
 pub record AreFirst (lines : List (List ℕ)) (first : FirstLines) : Type 0 where
-  pub begin : map string_bytes first.lines.items ≡ take (length first.lines.items) lines
-  pub all : first.missing ≡ None → map string_bytes first.lines.items ≡ lines
+  pub all : map string_bytes first.lines.items ≡ lines
+  pub whole : first.missing ≡ None
 
 -- within a transaction the connection sees the table with these lines
 pub record HoldsInside (lines : List (List ℕ)) (s : State) : Type 0 where

@@ -1,11 +1,13 @@
 //! The lines of a journal in a database: made, added to, and read.
 
-ghost use Rattle.std.specs.Prelude.{◌≡◌, ◌-◌, ◌++◌, ◌∷◌, [], ℕ, List, IfErr, IfOk, IfSome, IsTrue, OnErr, OnOk, Some, map, slice_get};
+ghost use Rattle.std.specs.Prelude.{◌≡◌, ◌≢◌, ◌⊎◌, ◌++◌, ◌∷◌, [], ℕ, List, IfErr, IfOk, IsTrue, MatchOption, OnErr, OnOk, map};
 ghost use Rattle.std.specs.String.{string_bytes};
 ghost use Rattle.sqlite.specs.Held.{state};
-ghost use Rattle.sqlite.specs.State.{HasCleanDisk, Survives};
+ghost use Rattle.sqlite.specs.State.{HasCleanDisk, IsUnchanged, Survives};
+ghost use Rattle.ds_store_table.specs.declared.lines.LinesFault.TheVariants.{NoMemory};
+ghost use Rattle.ds_store_table.specs.Reading.{FailsToRead, FailsToTell, IsNoText, TellsMissing, fault_of};
 ghost use Rattle.ds_store_table.specs.Statements.{FailsToKeep, RanInTurn, creation, insertion, removal};
-ghost use Rattle.ds_store_table.specs.Tables.{AreFirst, AreListed, Holds, HoldsInside, IsBare, IsListed, MayHold};
+ghost use Rattle.ds_store_table.specs.Tables.{AreBefore, AreFirst, AreListed, Holds, HoldsInside, HoldsSome, IsBare, MayHold, Numbered, RiseFrom, numbered, shown};
 
 use crate::table;
 use sqlite::{Alter, Connection, Error, ErrorCode, Row, Transaction};
@@ -23,6 +25,8 @@ pub enum LinesFault {
 }
 
 impl From<Error> for LinesFault {
+    ghost from_gives = { λ error fault. fault ≡ fault_of error };
+
     fn from(error: Error) -> LinesFault {
         match error {
             Error::SqliteFailure(ErrorCode::OutOfMemory) => LinesFault::NoMemory,
@@ -32,6 +36,8 @@ impl From<Error> for LinesFault {
 }
 
 impl From<AllocError> for LinesFault {
+    ghost from_gives = { λ _ fault. fault ≡ NoMemory };
+
     fn from(_error: AllocError) -> LinesFault {
         LinesFault::NoMemory
     }
@@ -144,7 +150,8 @@ pub struct FirstLines {
 
 // The text of a row, where it has this number.
 fn text_at(row: &Row, number: usize) -> Result<Option<String>, LinesFault>
-    ensures { IfOk result (λ text. IfSome text (λ it. (lines : List (List ℕ)) → IsListed lines row.now → slice_get lines (number - 1) ≡ Some (string_bytes it))) }
+    ensures is { (it : Numbered) → row.now ≡ shown it → IfOk result (λ text. MatchOption text (it.number ≢ number) (λ t. (it.number ≡ number) × (it.line ≡ string_bytes t))) }
+    ensures err { (it : Numbered) → row.now ≡ shown it → IfErr result (λ fault. (fault ≡ NoMemory) ⊎ IsNoText fault it) }
 {
     let shown: i64 = row.get(0)?;
     if usize::try_from(shown) != Ok(number) {
@@ -159,6 +166,13 @@ fn text_at(row: &Row, number: usize) -> Result<Option<String>, LinesFault>
 pub fn read<S: Alter>(alloc: Global, conn: &mut Connection<S>) -> Result<Vec<String>, LinesFault>
     ensures all { HasCleanDisk (state S.Store conn.new) → (lines : List (List ℕ)) → Holds lines (state S.Store conn.old).now
         → IfOk result (λ texts. (map string_bytes texts.items ≡ lines) × Holds lines (state S.Store conn.new).now) }
+    ensures err { HasCleanDisk (state S.Store conn.new) → (lines : List (List ℕ)) → Holds lines (state S.Store conn.old).now
+        → IfErr result (FailsToRead (numbered 1 lines) (state S.Store conn.old) (state S.Store conn.new)) }
+    ensures some { HasCleanDisk (state S.Store conn.new) → (all : List Numbered) → HoldsSome all (state S.Store conn.old).now
+        → IfOk result (λ texts. (all ≡ numbered 1 (map string_bytes texts.items)) × IsUnchanged (state S.Store conn.old) (state S.Store conn.new)) }
+    ensures missing { HasCleanDisk (state S.Store conn.new) → (all : List Numbered) → HoldsSome all (state S.Store conn.old).now
+        → IfErr result (λ fault. FailsToRead all (state S.Store conn.old) (state S.Store conn.new) fault ⊎ (IsUnchanged (state S.Store conn.old) (state S.Store conn.new) × TellsMissing all fault)) }
+    ensures survives { (all : List Numbered) → HoldsSome all (state S.Store conn.old).now → Survives (state S.Store conn.old) (state S.Store conn.new) (λ _. ⊥) }
     ensures clean { HasCleanDisk (state S.Store conn.new) → HasCleanDisk (state S.Store conn.old) }
 {
     let FirstLines { lines, missing } = read_first(alloc, conn)?;
@@ -175,6 +189,11 @@ pub fn read_first<S: Alter>(
 ) -> Result<FirstLines, LinesFault>
     ensures first { HasCleanDisk (state S.Store conn.new) → (lines : List (List ℕ)) → Holds lines (state S.Store conn.old).now
         → IfOk result (λ first. AreFirst lines first × Holds lines (state S.Store conn.new).now) }
+    ensures before { HasCleanDisk (state S.Store conn.new) → (all : List Numbered) → HoldsSome all (state S.Store conn.old).now
+        → IfOk result (λ first. AreBefore all first × IsUnchanged (state S.Store conn.old) (state S.Store conn.new)) }
+    ensures err { HasCleanDisk (state S.Store conn.new) → (all : List Numbered) → HoldsSome all (state S.Store conn.old).now
+        → IfErr result (FailsToRead all (state S.Store conn.old) (state S.Store conn.new)) }
+    ensures survives { (all : List Numbered) → HoldsSome all (state S.Store conn.old).now → Survives (state S.Store conn.old) (state S.Store conn.new) (λ _. ⊥) }
     ensures clean { HasCleanDisk (state S.Store conn.new) → HasCleanDisk (state S.Store conn.old) }
 {
     let rows = table::rows(conn)?;
@@ -183,7 +202,8 @@ pub fn read_first<S: Alter>(
 
 // The texts of rows, as far as they are numbered from 1 on.
 fn first_of(alloc: Global, rows: &[Row]) -> Result<FirstLines, LinesFault>
-    ensures { IfOk result (λ first. (lines : List (List ℕ)) → AreListed lines rows.now → AreFirst lines first) }
+    ensures before { (all : List Numbered) → RiseFrom 1 all → AreListed all rows.now → IfOk result (AreBefore all) }
+    ensures err { (all : List Numbered) → RiseFrom 1 all → AreListed all rows.now → IfErr result (FailsToTell all) }
 {
     let mut lines = Vec::with_capacity(alloc, rows.len())?;
     for row in rows {

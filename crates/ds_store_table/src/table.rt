@@ -1,10 +1,10 @@
 //! The statements on the table of lines.
 
-ghost use Rattle.std.specs.Prelude.{◌≡◌, ◌++◌, ◌∷◌, [], ℕ, List, IfOk, IsTrue, OnOk};
+ghost use Rattle.std.specs.Prelude.{◌≡◌, ◌++◌, ◌∷◌, [], ℕ, List, IfErr, IfOk, IsTrue, OnOk};
 ghost use Rattle.sqlite.specs.Held.{state};
-ghost use Rattle.sqlite.specs.State.{HasCleanDisk, Survives};
-ghost use Rattle.ds_store_table.specs.Statements.{Ran, creation, insertion, removal};
-ghost use Rattle.ds_store_table.specs.Tables.{AreListed, Holds, HoldsInside, IsBare};
+ghost use Rattle.sqlite.specs.State.{FailsToQuery, HasCleanDisk, IsUnchanged, Survives};
+ghost use Rattle.ds_store_table.specs.Statements.{Ran, creation, insertion, removal, select_text};
+ghost use Rattle.ds_store_table.specs.Tables.{AreListed, HoldsInside, HoldsSome, IsBare, Numbered};
 
 use sqlite::{Alter, Connection, Error, Row, Transaction, params};
 
@@ -46,8 +46,10 @@ pub(crate) fn add<S: Alter>(tx: &mut Transaction<'_, S>, line: &str) -> Result<u
 
 /// All lines, by their numbers: of each its number and its text.
 pub(crate) fn rows<S: Alter>(conn: &mut Connection<S>) -> Result<Vec<Row>, Error>
-    ensures shows { HasCleanDisk (state S.Store conn.new) → (lines : List (List ℕ)) → Holds lines (state S.Store conn.old).now
-        → IfOk result (λ rows. AreListed lines rows.items × Holds lines (state S.Store conn.new).now) }
+    ensures shows { HasCleanDisk (state S.Store conn.new) → (all : List Numbered) → HoldsSome all (state S.Store conn.old).now
+        → IfOk result (λ rows. AreListed all rows.items × IsUnchanged (state S.Store conn.old) (state S.Store conn.new)) }
+    ensures err { HasCleanDisk (state S.Store conn.new) → IfErr result (FailsToQuery select_text [] (state S.Store conn.old) (state S.Store conn.new)) }
+    ensures survives { (all : List Numbered) → HoldsSome all (state S.Store conn.old).now → Survives (state S.Store conn.old) (state S.Store conn.new) (λ _. ⊥) }
     ensures clean { HasCleanDisk (state S.Store conn.new) → HasCleanDisk (state S.Store conn.old) }
 {
     conn.query_all("SELECT number, line FROM journal ORDER BY number", &[])

@@ -3,6 +3,7 @@ use Rattle.std.specs.String.{string_bytes}
 use Rattle.ds_store_journal.specs.Journals.{KeptEdit}
 use Rattle.ds_store_keys.specs.Keys.{keys_of}
 use Rattle.ds_store.specs.Stores.{GoesOn}
+use Rattle.ds_store.specs.Summing.{HaveNoSums}
 use Rattle.ds_store.proofs.store.kept_all.Given as goal
 
 abbrev pub invariant-loop-edit : goal.invariant-loop-edit
@@ -12,3 +13,5 @@ invariant-loop-edit l =
     × (length l.texts.items ≡ l.edit-index)
     × (length l.edits ≤ vec_capacity l.texts)
     × (keys_of l.layout (map string_bytes l.texts.items) ≡ [])
+    × HaveNoSums (map string_bytes l.texts.items)
+    × (length l.counts.counts.items ≡ length l.fn.counts.counts.items)

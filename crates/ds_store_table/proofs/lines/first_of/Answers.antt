@@ -1,8 +1,18 @@
-use Rattle.std.proofs.Common.{◌≡◌, ◌++◌, ◌∷◌, [], map, length, take, slice_get, Some, sym, ap, subst, arith, length-append, rules}
+use Rattle.std.proofs.Common.{◌≡◌, ◌++◌, ◌+◌, ◌∷◌, [], length, ap, arith, length-append, rules}
+use Rattle.std.proofs.lemmas.Result.{err_from_is_err_and}
 use Rattle.std.specs.String.{string_bytes}
-use Rattle.ds_store_table.specs.Tables.{IsListed}
-use Rattle.ds_store_table.proofs.Lists.{grows}
+use Rattle.ds_store_table.proofs.Counting.{one_fails, one_line, one_other}
 use Rattle.ds_store_table.proofs.lines.first_of.Goals as goal
+
+pub returns-in_err-line-clause-err : goal.returns-in_err-line-clause-err
+returns-in_err-line-clause-err c all rise are =
+    let p = err_from_is_err_and c.from_residual-in_err-line.result c.from_residual-in_err-line.ensures.1 in
+    rw (p.1, p.2) (one_fails string_bytes all c.args.rows.now c.loop-row.lines.items c.loop-row.row-index c.row-item.result are (search rules) c.row-item.is c.in_err-line.field-0.0 c.in_err-line.ensures.err)
+
+pub returns-in-None-clause-before : goal.returns-in-None-clause-before
+returns-in-None-clause-before c all rise are =
+    one_other string_bytes all c.args.rows.now c.loop-row.lines.items c.loop-row.row-index c.row-item.result are (search rules) c.row-item.is c.loop-row.invariant.0 (c.len-number.result + 1) (search rules) (c.loop-row.invariant.2 all rise are)
+    (λ it shows. rw c.in-None.is at (c.in_ok-line.ensures.is it shows))
 
 pub loop-row-preserved : goal.loop-row-preserved
 loop-row-preserved c =
@@ -12,8 +22,7 @@ loop-row-preserved c =
     let at : c.loop-row.row-index ≡ length old = c.loop-row.invariant.0 in (
       omega (arith, at, ap length items, length-append old (c.in-Some.line ∷ [])),
       search rules,
-      λ lines all.
-          let row : IsListed lines c.row-item.result = search rules in
-          let shown : slice_get lines (length old) ≡ Some (string_bytes c.in-Some.line) = search rules in
-          subst (λ news. map string_bytes news ≡ take (length news) lines) (sym items) (grows string_bytes old c.in-Some.line lines (c.loop-row.invariant.2 lines all) shown),
+      λ all rise are.
+          rw items (one_line string_bytes all c.args.rows.now old c.loop-row.row-index c.row-item.result are (search rules) c.row-item.is at (c.len-number.result + 1) (search rules) (c.loop-row.invariant.2 all rise are) c.in-Some.line
+          (λ it shows. rw c.in-Some.is at (c.in_ok-line.ensures.is it shows))),
     )
