@@ -1,2 +1,4 @@
+pub mod Before
+mod Laned
 mod Numbered
 pub mod Spans

@@ -2,7 +2,7 @@
 
 ghost use Rattle.std.specs.Prelude.{◌≡◌, ◌<◌, ◌↔◌, IfOk, IsTrue, length, slice_index_or};
 ghost use Rattle.ds_core.specs.declared.reply.Reply.TheVariants as replies;
-ghost use Rattle.ds_trace_scene.specs.Columns.{AreColumns, AreSpans, Changes, IsColumnOf, first_in, side_of, word_in};
+ghost use Rattle.ds_trace_scene.specs.Columns.{AreColumns, AreSpans, Changes, IsColumnOf, first_in, side_of, word_after, word_before, word_in};
 
 use ds_core::reply::Reply;
 use ds_layout::place::Place;
@@ -155,6 +155,28 @@ pub fn first_in(trace: &Trace, number: usize) -> Word
         trace.start[number]
     } else {
         NO_WORD
+    }
+}
+
+/// Both sides of the word with this number after the event, counted from 0; zeros, where there is no such word or event.
+pub fn word_after(trace: &Trace, number: usize, event: usize) -> Word
+    ensures { result ≡ word_after trace.now number event }
+{
+    if event < trace.rows.len() {
+        word_in(&trace.rows[event], number)
+    } else {
+        NO_WORD
+    }
+}
+
+/// Both sides of the word with this number before the event: those after the one before it, or those in the new sheet.
+pub fn word_before(trace: &Trace, number: usize, event: usize) -> Word
+    ensures { result ≡ word_before trace.now number event }
+{
+    if event == 0 {
+        first_in(trace, number)
+    } else {
+        word_after(trace, number, event - 1)
     }
 }
 

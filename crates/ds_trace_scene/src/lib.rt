@@ -6,4 +6,5 @@ pub mod lanes;
 pub mod meaning;
 pub mod names;
 pub mod places;
+pub mod points;
 pub mod texts;
