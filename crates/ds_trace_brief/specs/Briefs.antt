@@ -8,6 +8,7 @@ use Rattle.ds_trace.specs.declared.row.Happening.{Happening}
 use Rattle.ds_trace.specs.declared.row.Happening.TheVariants.{Begins, Steps, TakesEntry, Evicts, Stops, Crashes}
 use Rattle.ds_trace.specs.declared.row.TraceRow.{TraceRow}
 use Rattle.ds_trace.specs.declared.row.Trace.{Trace}
+use Rattle.ds_trace_scene.specs.Buffers.{ArePassages}
 use Rattle.ds_trace_scene.specs.Columns.{word_after}
 use Rattle.ds_trace_scene.specs.PlaceNames.{name_of}
 use Rattle.ds_trace_scene.specs.Points.{course, points_text}
@@ -116,11 +117,13 @@ pub record Fit (room : ℕ) (columns : List BriefColumn) (count used : ℕ) : Ty
 
 -- ---- the scene
 
--- the scene is that of the recording: a row for each event that is kept, in their order; columns for the words that
--- decide, from the first on, as many as the width has room for; and how many of them have none
+-- the scene is that of the recording: a row for each event that is kept, in their order, which says of a write-back what that
+-- takes out of the buffer; columns for the words that decide, from the first on, as many as the width has room for; and how
+-- many of them have none
 pub record IsBriefOf (trace : Trace) (brief : Brief) : Type 0 where
   pub rows_are : map event_of brief.rows.items ≡ kept trace
   pub passages : List Passage
+  pub passages_are : ArePassages trace.rows.items passages
   pub events_are : All (IsRowOf trace passages) brief.rows.items
   pub all : List BriefColumn
   pub all_are : All (IsColumnOf trace (kept trace)) all

@@ -75,13 +75,7 @@ fn told_by(what: Happening, reply: Reply) -> Option<usize>
     match what {
         Happening::Begins(process, _)
         | Happening::Steps(process, _)
-        | Happening::TakesEntry(process) => {
-            if is_step(reply) {
-                Some(process)
-            } else {
-                None
-            }
-        }
+        | Happening::TakesEntry(process) => { if is_step(reply) { Some(process) } else { None } }
         Happening::Evicts(_) | Happening::Stops(_) | Happening::Crashes => None,
     }
 }

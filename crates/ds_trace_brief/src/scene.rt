@@ -8,7 +8,8 @@ use crate::keep::{deciding, kept};
 use crate::rows::{BriefRow, Sign, rows};
 use ds_layout::layout::{Layout, PROCESS_LIMIT};
 use ds_trace::row::Trace;
-use ds_trace_scene::columns::{Passage, passages};
+use ds_trace_scene::buffers::passages;
+use ds_trace_scene::columns::Passage;
 use ds_trace_scene::lanes::{Lane, RailEnd, lane_of};
 use std::alloc::{AllocError, Global};
 
@@ -59,11 +60,7 @@ pub struct Brief {
 }
 
 // The lanes of all processes.
-fn lanes(
-    alloc: Global,
-    trace: &Trace,
-    passages: &[Passage],
-) -> Result<Vec<Lane>, AllocError> {
+fn lanes(alloc: Global, trace: &Trace, passages: &[Passage]) -> Result<Vec<Lane>, AllocError> {
     let mut lanes = Vec::new(alloc);
     for process in 0..trace.layout.processes {
         lanes.push(lane_of(alloc, trace, passages, process)?)?;

@@ -12,10 +12,10 @@ use Rattle.ds_trace.specs.Traces.{place_named}
 use Rattle.ds_trace.specs.declared.row.Begin.{Begin}
 use Rattle.ds_trace.specs.declared.row.Begin.TheVariants as begins
 use Rattle.ds_trace.specs.declared.row.Happening.{Happening}
-use Rattle.ds_trace.specs.declared.row.Happening.TheVariants.{Begins, Steps, TakesEntry, Evicts, Stops, Crashes}
+use Rattle.ds_trace.specs.declared.row.Happening.TheVariants.{Begins, Steps, TakesEntry, Evicts, Crashes}
 use Rattle.ds_trace.specs.declared.row.TraceRow.{TraceRow}
 use Rattle.ds_trace.specs.declared.row.Trace.{Trace}
-use Rattle.ds_trace_scene.specs.Columns.{no_word, word_before, word_after}
+use Rattle.ds_trace_scene.specs.Columns.{no_word, word_before}
 use Rattle.ds_trace_scene.specs.PlaceNames.{name_of}
 use Rattle.ds_trace_scene.specs.declared.columns.Passage.{Passage}
 use Rattle.ds_trace_scene.specs.declared.columns.PassageEnd.{PassageEnd}

@@ -6,8 +6,7 @@ ghost use Rattle.ds_trace_scene.specs.Columns.{AreColumns, AreSpans, Changes, Is
 
 use ds_core::reply::Reply;
 use ds_layout::place::Place;
-use ds_trace::row::{Happening, Trace, TraceRow};
-use ds_words::access::Access;
+use ds_trace::row::{Trace, TraceRow};
 use ds_words::words::Word;
 use std::alloc::{AllocError, Global};
 
@@ -231,56 +230,4 @@ pub fn columns(alloc: Global, trace: &Trace) -> Result<Vec<Column>, AllocError>
         }
     }
     Ok(columns)
-}
-
-// Ends the oldest passage of a process that has not ended.
-fn write_back(passages: &mut Vec<Passage>, process: usize, line: usize) {
-    for i in 0..passages.len() {
-        let passage = passages[i];
-        if passage.process == process && passage.end == PassageEnd::Buffered {
-            passages[i].to = line;
-            passages[i].end = PassageEnd::WrittenBack;
-            return;
-        }
-    }
-}
-
-// Ends those of a process, or of all, that have not ended.
-fn lose(passages: &mut Vec<Passage>, process: Option<usize>, line: usize) {
-    for i in 0..passages.len() {
-        let passage = passages[i];
-        let is_meant = process.is_none() || process == Some(passage.process);
-        if is_meant && passage.end == PassageEnd::Buffered {
-            passages[i].to = line;
-            passages[i].end = PassageEnd::Lost;
-        }
-    }
-}
-
-/// The buffer entries, in the order of their flushes.
-pub fn passages(alloc: Global, trace: &Trace) -> Result<Vec<Passage>, AllocError> {
-    let mut passages = Vec::new(alloc);
-    for (i, row) in trace.rows.iter().enumerate() {
-        let line = i.saturating_add(1);
-        match (row.what, row.reply) {
-            (Happening::Steps(process, Access::Flush(place)), Reply::Stepped) => {
-                passages.push(Passage {
-                    process,
-                    place,
-                    from: line,
-                    to: end_line(trace),
-                    end: PassageEnd::Buffered,
-                })?;
-            }
-            (Happening::Steps(process, Access::Back), Reply::Stepped) => {
-                write_back(&mut passages, process, line);
-            }
-            (Happening::Stops(process), Reply::Stopped) => {
-                lose(&mut passages, Some(process), line);
-            }
-            (Happening::Crashes, _) => lose(&mut passages, None, line),
-            _ => {}
-        }
-    }
-    Ok(passages)
 }

@@ -1,6 +1,7 @@
 //! What stands where in a picture of a recording: lanes, columns, and the texts of both.
 #![tactic(auto)]
 
+pub mod buffers;
 pub mod columns;
 pub mod lanes;
 pub mod meaning;

@@ -1,4 +1,4 @@
-use Rattle.std.proofs.Common.{◌≡◌, take}
+use Rattle.std.proofs.Common.{take}
 use Rattle.std.specs.Prelude.{◌≢◌, All}
 use Rattle.ds_trace_scene.proofs.texts.number_of.Given as goal
 
