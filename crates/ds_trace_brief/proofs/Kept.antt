@@ -1,9 +1,9 @@
 -- No event is left out by which a word turns that decides.
-use Rattle.std.proofs.Common.{ℕ, zero, suc, ◌≡◌, ◌<◌, ◌∙◌, Bool, true, false, List, [], ◌∷◌, ◌++◌, inl, inr, length, refl, sym, ap, subst, arith}
-use Rattle.std.specs.Prelude.{◌||◌, Contains, if◌then◌else◌}
+use Rattle.std.proofs.Common.{ℕ, zero, suc, ◌≡◌, ◌<◌, ◌∙◌, Bool, true, false, List, [], ◌∷◌, ◌++◌, inl, inr, get_or, length, sym, ap, subst, arith}
+use Rattle.std.specs.Prelude.{◌||◌, All, Contains, if◌then◌else◌}
 use Rattle.std.proofs.Math.Bool.{or-true}
 use Rattle.std.proofs.lemmas.Bool.{cases_lt}
-use Rattle.std.proofs.lemmas.List.Elements.{Contains-append_left, Contains-push}
+use Rattle.std.proofs.lemmas.List.Elements.{All-nil, All-push, Contains-append_left, Contains-push}
 use Rattle.ds_trace.specs.declared.row.Trace.{Trace}
 use Rattle.ds_trace_brief.specs.Keeping.{ends_at, keeps, kept, kept_below, turns_at, turns_below}
 
@@ -42,3 +42,17 @@ turning_in trace events number event is lt there h =
     let turned : turns_below trace event (length trace.places.items) ≡ true = turns_in trace event (length trace.places.items) number there h in
     let keep : keeps trace event ≡ true = ap (λ (b : Bool). ends_at trace event || b) turned ∙ or-true (ends_at trace event) in
     subst (λ (l : List ℕ). Contains l event) (sym is) (kept_in trace (length trace.rows.items) event lt keep)
+
+-- one more, if it is kept, of numbers below one
+less_more : (events : List ℕ) (n : ℕ) (is : Bool) → All (λ event. event < n) events → All (λ event. event < suc n) (if is then events ++ n ∷ [] else events)
+less_more events n true h = All-push (λ event. event < suc n) events n (λ k d below. (let lt : get_or events k d < n = h k d below in omega (arith, lt))) (omega arith)
+less_more events n false h = λ k d below. (let lt : get_or events k d < n = h k d below in omega (arith, lt))
+
+-- those that are kept of the first events are below
+kept_less : (trace : Trace) (n : ℕ) → All (λ event. event < n) (kept_below trace n)
+kept_less trace zero = All-nil (λ event. event < 0)
+kept_less trace (suc n) = less_more (kept_below trace n) n (keeps trace n) (kept_less trace n)
+
+-- each event that is kept is one of the recording
+pub kept_within : (trace : Trace) (events : List ℕ) → events ≡ kept trace → All (λ event. event < length trace.rows.items) events
+kept_within trace events is = subst (λ (l : List ℕ). All (λ event. event < length trace.rows.items) l) (sym is) (kept_less trace (length trace.rows.items))

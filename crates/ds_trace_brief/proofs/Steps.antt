@@ -1,18 +1,11 @@
 -- One event more, one word more.
-use Rattle.std.proofs.Common.{ℕ, zero, suc, ◌≡◌, ◌+◌, ◌-◌, ◌∙◌, Bool, true, false, List, [], ◌∷◌, ◌++◌, map, length, slice_index_or, append_assoc, refl, sym, ap, subst, arith}
+use Rattle.std.proofs.Common.{ℕ, suc, ◌≡◌, ◌+◌, ◌∙◌, Bool, true, false, List, [], ◌∷◌, ◌++◌, length, append_assoc, refl, ap, subst, arith}
 use Rattle.std.specs.Prelude.{◌||◌, ◌&&◌, if◌then◌else◌}
-use Rattle.ds_words.specs.declared.words.Word.{Word}
 use Rattle.ds_trace.specs.declared.row.Trace.{Trace}
 use Rattle.ds_trace_brief.specs.declared.keep.Decider.{Decider}
-use Rattle.ds_trace_brief.specs.Keeping.{has_turned, is_of, keeps, kept_below, place_at, sorted_below, turns_at, turns_below, word_after, word_before}
+use Rattle.ds_trace_scene.specs.Columns.{word_after, word_before}
+use Rattle.ds_trace_brief.specs.Keeping.{has_turned, is_of, keeps, kept_below, place_at, sorted_below, turns_at, turns_below}
 use Rattle.ds_trace_brief.specs.Crashing.{joined, taken_below, taken_text}
-
--- before an event that is not the first a word is as after the one before it
-pub later : (trace : Trace) (number event : ℕ) (w : Word) → (event ≡ 0 → ⊥) → w ≡ word_after trace number (event - 1) → w ≡ word_before trace number event
-later trace number zero w ne h = absurd (ne refl)
-later trace number (suc event) w ne h =
-    let less : suc event - 1 ≡ event = omega arith in
-    subst (λ (n : ℕ). w ≡ word_after trace number n) less h
 
 -- a number and one more
 more : (n : ℕ) → suc n ≡ n + 1

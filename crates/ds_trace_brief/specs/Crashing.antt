@@ -10,7 +10,8 @@ use Rattle.ds_layout.specs.declared.layout.Layout.{Layout}
 use Rattle.ds_layout.specs.declared.place.Place.{Place}
 use Rattle.ds_layout.specs.declared.place.Place.TheVariants as place
 use Rattle.ds_trace.specs.declared.row.Trace.{Trace}
-use Rattle.ds_trace_brief.specs.Keeping.{place_at, word_after, word_before}
+use Rattle.ds_trace_scene.specs.Columns.{word_after, word_before}
+use Rattle.ds_trace_brief.specs.Keeping.{place_at}
 
 -- the edit that a cell's head names, if it names one
 abbrev pub edit_text : Layout → ℕ → Option Head → List ℕ

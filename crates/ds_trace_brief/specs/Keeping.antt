@@ -9,7 +9,7 @@ use Rattle.ds_trace.specs.declared.row.Happening.{Happening}
 use Rattle.ds_trace.specs.declared.row.Happening.TheVariants.{Begins, Steps, TakesEntry, Evicts, Stops, Crashes}
 use Rattle.ds_trace.specs.declared.row.TraceRow.{TraceRow}
 use Rattle.ds_trace.specs.declared.row.Trace.{Trace}
-use Rattle.ds_trace_scene.specs.Columns.{no_word, word_in, first_in}
+use Rattle.ds_trace_scene.specs.Columns.{word_after, word_before}
 use Rattle.ds_trace_brief.specs.declared.keep.Decider.{Decider}
 use Rattle.ds_trace_brief.specs.declared.keep.Decider.TheVariants as deciders
 
@@ -18,15 +18,6 @@ use Rattle.ds_trace_brief.specs.declared.keep.Decider.TheVariants as deciders
 -- the place of the word with this number
 abbrev pub place_at : Trace → ℕ → Place
 place_at trace number = slice_index_or trace.places.items number place.Version
-
--- both sides of the word with this number after the event, counted from 0
-abbrev pub word_after : Trace → ℕ → ℕ → Word
-word_after trace number event = slice_index_or (map (word_in number) trace.rows.items) event no_word
-
--- both sides of the word with this number before the event: those after the one before it, or those in the new sheet
-abbrev pub word_before : Trace → ℕ → ℕ → Word
-word_before trace number zero = first_in trace number
-word_before trace number (suc event) = word_after trace number event
 
 -- the word turns from the one to the other: a head by either side, since an edit takes effect on the cached one; an
 -- announcement and a mark by what a crash leaves; other words decide nothing

@@ -3,10 +3,11 @@
 ghost use Rattle.std.specs.Prelude.{◌≡◌, ◌≤◌, ◌*◌, All, IfOk, map};
 ghost use Rattle.ds_trace_brief.specs.Briefs.{Fit, IsColumnOf, number_of, words_after};
 
-use crate::keep::{place_at, word_after};
+use crate::keep::place_at;
 use ds_layout::layout::Layout;
 use ds_layout::place::Place;
 use ds_trace::row::Trace;
+use ds_trace_scene::columns::word_after;
 use ds_trace_scene::meaning::label;
 use ds_trace_scene::names::place_name;
 use ds_words::words::Word;

@@ -4,11 +4,12 @@ ghost use Rattle.std.specs.Prelude.{◌≡◌, IfOk, OnOk, length, string_bytes}
 ghost use Rattle.ds_layout.specs.Head.{head_of};
 ghost use Rattle.ds_trace_brief.specs.Crashing.{crash_text, edit_text, joined, or_none, taken_below, taken_text};
 
-use crate::keep::{place_at, word_after, word_before};
+use crate::keep::place_at;
 use ds_layout::head::Head;
 use ds_layout::layout::Layout;
 use ds_layout::place::Place;
 use ds_trace::row::Trace;
+use ds_trace_scene::columns::{word_after, word_before};
 use ds_trace_scene::names::cell_name;
 use ds_words::words::Word;
 use std::alloc::{AllocError, Global};

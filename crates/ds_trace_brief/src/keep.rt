@@ -1,12 +1,12 @@
 //! Which events are kept, and which words are shown.
 
-ghost use Rattle.std.specs.Prelude.{◌≡◌, ◌++◌, ◌∷◌, ◌&&◌, ◌||◌, ◌<◌, [], ℕ, Contains, IfOk, OnOk, if◌then◌else◌, length, true};
-ghost use Rattle.ds_trace_brief.specs.Keeping.{deciding, ends_at, goes_on, has_turned, is_ending, is_of, keeps, kept, place_at, sorted_below, turns, turns_at, turns_below, word_after, word_before};
+ghost use Rattle.std.specs.Prelude.{◌≡◌, ◌++◌, ◌∷◌, ◌&&◌, ◌||◌, ◌<◌, [], ℕ, All, Contains, IfOk, OnOk, if◌then◌else◌, length, true};
+ghost use Rattle.ds_trace_brief.specs.Keeping.{deciding, ends_at, goes_on, has_turned, is_ending, is_of, keeps, kept, place_at, sorted_below, turns, turns_at, turns_below};
 
 use ds_core::reply::Reply;
 use ds_layout::place::Place;
 use ds_trace::row::{Happening, Trace, TraceRow};
-use ds_trace_scene::columns::{NO_WORD, first_in, word_in};
+use ds_trace_scene::columns::{word_after, word_before};
 use ds_words::words::Word;
 use std::alloc::{AllocError, Global};
 
@@ -29,28 +29,6 @@ pub fn place_at(trace: &Trace, number: usize) -> Place
         trace.places[number]
     } else {
         Place::Version
-    }
-}
-
-/// Both sides of the word with this number after the event, counted from 0; zeros, where there is no such word or event.
-pub fn word_after(trace: &Trace, number: usize, event: usize) -> Word
-    ensures { result ≡ word_after trace.now number event }
-{
-    if event < trace.rows.len() {
-        word_in(&trace.rows[event], number)
-    } else {
-        NO_WORD
-    }
-}
-
-/// Both sides of the word with this number before the event: those after the one before it, or those in the new sheet.
-pub fn word_before(trace: &Trace, number: usize, event: usize) -> Word
-    ensures { result ≡ word_before trace.now number event }
-{
-    if event == 0 {
-        first_in(trace, number)
-    } else {
-        word_after(trace, number, event - 1)
     }
 }
 
@@ -169,6 +147,7 @@ fn add_if(numbers: &mut Vec<usize>, number: usize, is_one: bool) -> Result<(), A
 /// an allocation failed.
 pub fn kept(alloc: Global, trace: &Trace) -> Result<Vec<usize>, AllocError>
     ensures events { IfOk result (λ events. events.items ≡ kept trace.now) }
+    ensures within { IfOk result (λ events. All (λ event. event < length trace.now.rows.items) events.items) }
     ensures none_left_out { (number event : ℕ) → number < length trace.now.places.items → event < length trace.now.rows.items → turns_at trace.now number event ≡ true
         → IfOk result (λ events. Contains events.items event) }
 {

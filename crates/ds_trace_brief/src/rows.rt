@@ -1,16 +1,17 @@
 //! The rows of a brief picture: an event that is kept, its sign and its text.
 
-ghost use Rattle.std.specs.Prelude.{◌≡◌, All, IfOk, map};
-ghost use Rattle.ds_trace_brief.specs.Briefs.{IsRowOf, Stands, event_of, what_at};
-ghost use Rattle.ds_trace_brief.specs.Crashing.{crash_text};
-ghost use Rattle.ds_trace.specs.declared.row.Happening.TheVariants.{Crashes, Stops};
+ghost use Rattle.std.specs.Prelude.{◌≡◌, ◌++◌, ◌<◌, All, IfOk, codes, length, map};
+ghost use Rattle.std.specs.Fmt.{decimal};
+ghost use Rattle.ds_trace_brief.specs.Briefs.{IsRowBy, IsRowOf, IsStepTold, IsTextOf, IsTold, event_of, is_step, sign_by, told, told_by};
+ghost use Rattle.ds_trace_scene.specs.Points.{course as course_of, points_text as points_of};
 
 use crate::crash::crash_text;
 use ds_core::reply::Reply;
 use ds_trace::row::{Happening, Trace, TraceRow};
 use ds_trace_scene::columns::Passage;
-use ds_trace_scene::lanes::{Lane, LaneEntry, Style};
-use ds_trace_scene::texts::{row_text, row_title};
+use ds_trace_scene::lanes::{Style, style_of};
+use ds_trace_scene::points::{course_before, points_text};
+use ds_trace_scene::texts::{place_at, row_text, row_title};
 use std::alloc::{AllocError, Global};
 
 /// Where the sign of a row stands.
@@ -44,156 +45,142 @@ pub struct BriefRow {
     pub title: String,
 }
 
-// What the process does by the event with this number.
-fn entry_of(lanes: &[Lane], process: usize, event: usize) -> Option<&LaneEntry> {
-    let lane = lanes.get(process)?;
-    lane.entries
-        .iter()
-        .find(|entry| entry.line == event.saturating_add(1))
-}
-
-// How the event stands on the rail of the process.
-fn style_of(lanes: &[Lane], process: usize, event: usize) -> Style {
-    match entry_of(lanes, process, event) {
-        Some(entry) => entry.style,
-        None => Style::Refused,
-    }
-}
-
-// The sign of a stop: on the rail, where it is refused.
-fn stop_sign(lanes: &[Lane], process: usize, event: usize) -> Sign
-    ensures { Stands (Stops process) result }
+// The sign of an event.
+fn sign_of(row: &TraceRow) -> Sign
+    ensures { result ≡ sign_by row.now.what row.now.reply }
 {
-    match entry_of(lanes, process, event) {
-        Some(entry) => Sign::Call {
-            process,
-            style: entry.style,
-        },
-        None => Sign::Stop(process),
-    }
-}
-
-// The sign of what happened by the event.
-fn sign_of(lanes: &[Lane], what: Happening, event: usize) -> Sign
-    ensures { Stands what result }
-{
-    match what {
-        Happening::Begins(process, _) => Sign::Call {
-            process,
-            style: style_of(lanes, process, event),
-        },
-        Happening::Steps(process, _) => Sign::Call {
-            process,
-            style: style_of(lanes, process, event),
-        },
-        Happening::TakesEntry(process) => Sign::Call {
-            process,
-            style: style_of(lanes, process, event),
-        },
-        Happening::Stops(process) => stop_sign(lanes, process, event),
+    let style = style_of(row);
+    match row.what {
+        Happening::Begins(process, _)
+        | Happening::Steps(process, _)
+        | Happening::TakesEntry(process) => Sign::Call { process, style },
+        Happening::Stops(process) if row.reply == Reply::Stopped => Sign::Stop(process),
+        Happening::Stops(process) => Sign::Call { process, style },
         Happening::Evicts(_) => Sign::Eviction,
         Happening::Crashes => Sign::Crash,
     }
 }
 
-// The text of a step: the points that the call has passed by it, or else what it does.
-fn step_text(alloc: Global, process: usize, entry: &LaneEntry) -> Result<Vec<u8>, AllocError> {
-    let mut text = format!(in alloc; "{process} ")?.into_bytes();
-    if entry.points.is_empty() {
-        text.extend_from_slice(&entry.text)?;
-    } else {
-        text.extend_from_slice(entry.points.as_bytes())?;
+// Whether the reply is none that is written as an answer, which begins with its process.
+fn is_step(reply: Reply) -> bool
+    ensures { result ≡ is_step reply }
+{
+    matches!(reply, Reply::Begun(_) | Reply::Entered | Reply::Stepped)
+}
+
+// The process that the text of an event names first, where that is no answer.
+fn told_by(what: Happening, reply: Reply) -> Option<usize>
+    ensures { result ≡ told_by what reply }
+{
+    match what {
+        Happening::Begins(process, _)
+        | Happening::Steps(process, _)
+        | Happening::TakesEntry(process) => { if is_step(reply) { Some(process) } else { None } }
+        Happening::Evicts(_) | Happening::Stops(_) | Happening::Crashes => None,
     }
-    Ok(text)
 }
 
-// Whether the text of the event is no answer, which begins with its process.
-fn is_step(row: &TraceRow) -> bool {
-    matches!(row.reply, Reply::Begun(_) | Reply::Entered | Reply::Stepped)
+// A process, and what is told of it.
+fn told(alloc: Global, process: usize, text: &[u8]) -> Result<Vec<u8>, AllocError>
+    ensures { IfOk result (λ line. line.items ≡ told process text.now) }
+{
+    let mut line = format!(in alloc; "{process} ")?.into_bytes();
+    line.extend_from_slice(text)?;
+    Ok(line)
 }
 
-// The text of an event that is no crash.
+// The text of a step: the points that the call has reached by it, or else what it does.
+fn step_text(
+    alloc: Global,
+    trace: &Trace,
+    passages: &[Passage],
+    process: usize,
+    event: usize,
+    row: &TraceRow,
+) -> Result<Vec<u8>, AllocError>
+    requires { event < length trace.now.rows.items }
+    ensures { IfOk result (λ text. IsStepTold trace.now passages.now event row.now text.items process (points_of row.now (course_of process trace.now.rows.items event))) }
+{
+    let names = points_text(alloc, row, course_before(trace, process, event))?;
+    if names.is_empty() {
+        let place = place_at(passages, event + 1, row.what);
+        let text = row_text(alloc, trace, event, place, row)?;
+        return told(alloc, process, &text);
+    }
+    told(alloc, process, names.as_bytes())
+}
+
+// The text of an event that is no crash, by the process that it names first.
+fn text_by(
+    alloc: Global,
+    trace: &Trace,
+    passages: &[Passage],
+    event: usize,
+    row: &TraceRow,
+    process: Option<usize>,
+) -> Result<Vec<u8>, AllocError>
+    requires { event < length trace.now.rows.items }
+    ensures { IfOk result (λ text. IsTold trace.now passages.now event row.now text.items process) }
+{
+    match process {
+        Some(process) => step_text(alloc, trace, passages, process, event, row),
+        None => row_text(alloc, trace, event, None, row),
+    }
+}
+
+// The text of an event.
 fn text_of(
     alloc: Global,
     trace: &Trace,
-    lanes: &[Lane],
+    passages: &[Passage],
     event: usize,
     row: &TraceRow,
-) -> Result<Vec<u8>, AllocError> {
-    let (Happening::Begins(process, _)
-    | Happening::Steps(process, _)
-    | Happening::TakesEntry(process)) = row.what
-    else {
-        return row_text(alloc, trace, event, None, row);
-    };
-    match entry_of(lanes, process, event) {
-        Some(entry) if is_step(row) => step_text(alloc, process, entry),
-        _ => row_text(alloc, trace, event, None, row),
-    }
-}
-
-// What happened by the event; a crash, where there is no such event.
-fn what_at(trace: &Trace, event: usize) -> Happening
-    ensures { result ≡ what_at trace.now event }
-{
-    if event < trace.rows.len() {
-        trace.rows[event].what
-    } else {
-        Happening::Crashes
-    }
-}
-
-// The text of what happened by the event.
-fn text_at(
-    alloc: Global,
-    trace: &Trace,
-    lanes: &[Lane],
-    what: Happening,
-    event: usize,
 ) -> Result<Vec<u8>, AllocError>
-    ensures { what ≡ Crashes → IfOk result (λ text. text.items ≡ crash_text trace.now event) }
+    requires { event < length trace.now.rows.items }
+    ensures { IfOk result (λ text. IsTextOf trace.now passages.now event row.now text.items row.now.what) }
 {
-    if let Happening::Crashes = what {
+    if let Happening::Crashes = row.what {
         return Ok(crash_text(alloc, trace, event)?.into_bytes());
     }
-    match trace.rows.get(event) {
-        Some(row) => text_of(alloc, trace, lanes, event, row),
-        None => Ok(Vec::new(alloc)),
-    }
+    let process = told_by(row.what, row.reply);
+    text_by(alloc, trace, passages, event, row, process)
 }
 
 // The row of an event.
 fn row_of(
     alloc: Global,
     trace: &Trace,
-    lanes: &[Lane],
+    passages: &[Passage],
     event: usize,
 ) -> Result<BriefRow, AllocError>
+    requires { event < length trace.now.rows.items }
     ensures event { IfOk result (λ row. row.event ≡ event) }
-    ensures row { IfOk result (IsRowOf trace.now) }
+    ensures row { IfOk result (IsRowOf trace.now passages.now) }
 {
-    let what = what_at(trace, event);
+    let row = &trace.rows[event];
     Ok(BriefRow {
         event,
-        sign: sign_of(lanes, what, event),
-        text: text_at(alloc, trace, lanes, what, event)?,
+        sign: sign_of(row),
+        text: text_of(alloc, trace, passages, event, row)?,
         title: row_title(alloc, trace, event, None)?,
     })
 }
 
-/// The rows of these events, in their order. An error means that an allocation failed.
+/// The rows of these events, in their order, in a recording with these buffer entries. An error means that an allocation
+/// failed.
 pub fn rows(
     alloc: Global,
     trace: &Trace,
-    lanes: &[Lane],
+    passages: &[Passage],
     events: &[usize],
 ) -> Result<Vec<BriefRow>, AllocError>
+    requires { All (λ event. event < length trace.now.rows.items) events.now }
     ensures events { IfOk result (λ rows. map event_of rows.items ≡ events.now) }
-    ensures rows { IfOk result (λ rows. All (IsRowOf trace.now) rows.items) }
+    ensures rows { IfOk result (λ rows. All (IsRowOf trace.now passages.now) rows.items) }
 {
     let mut rows = Vec::with_capacity(alloc, events.len())?;
-    for event in events {
-        rows.push(row_of(alloc, trace, lanes, *event)?)?;
+    for number in 0..events.len() {
+        rows.push(row_of(alloc, trace, passages, events[number])?)?;
     }
     Ok(rows)
 }

@@ -8,7 +8,8 @@ use crate::keep::{deciding, kept};
 use crate::rows::{BriefRow, Sign, rows};
 use ds_layout::layout::{Layout, PROCESS_LIMIT};
 use ds_trace::row::Trace;
-use ds_trace_scene::columns::passages;
+use ds_trace_scene::buffers::passages;
+use ds_trace_scene::columns::Passage;
 use ds_trace_scene::lanes::{Lane, RailEnd, lane_of};
 use std::alloc::{AllocError, Global};
 
@@ -59,11 +60,10 @@ pub struct Brief {
 }
 
 // The lanes of all processes.
-fn lanes(alloc: Global, trace: &Trace) -> Result<Vec<Lane>, AllocError> {
-    let passages = passages(alloc, trace)?;
+fn lanes(alloc: Global, trace: &Trace, passages: &[Passage]) -> Result<Vec<Lane>, AllocError> {
     let mut lanes = Vec::new(alloc);
     for process in 0..trace.layout.processes {
-        lanes.push(lane_of(alloc, trace, &passages, process)?)?;
+        lanes.push(lane_of(alloc, trace, passages, process)?)?;
     }
     Ok(lanes)
 }
@@ -134,8 +134,9 @@ pub fn brief_of(alloc: Global, trace: &Trace) -> Result<Brief, AllocError>
 {
     let events = kept(alloc, trace)?;
     let numbers = deciding(alloc, trace)?;
-    let lanes = lanes(alloc, trace)?;
-    let rows = rows(alloc, trace, &lanes, &events)?;
+    let passages = passages(alloc, trace)?;
+    let lanes = lanes(alloc, trace, &passages)?;
+    let rows = rows(alloc, trace, &passages, &events)?;
     let rails = rails(alloc, &rows, &lanes)?;
     let text = text_left(trace.layout.processes);
     let words = words_left(text, longest(&rows));

@@ -1,2 +1,5 @@
+pub mod Before
+pub mod Buffered
+mod Laned
 mod Numbered
 pub mod Spans

@@ -53,7 +53,7 @@ ends_at first rows number side event word next is differs same =
     differs (sym is ∙ ap (λ (n : ℕ). side_at first rows number side n) line ∙ same)
 
 -- the row of an event
-row_there : (rows : List TraceRow) (event : ℕ) (row : TraceRow) → event < length rows → row ≡ get_or rows event row → slice_get rows event ≡ Some row
+pub row_there : (rows : List TraceRow) (event : ℕ) (row : TraceRow) → event < length rows → row ≡ get_or rows event row → slice_get rows event ≡ Some row
 row_there [] event row lt is = absurd (let e : ⊥ = omega (arith, lt) in e)
 row_there (x ∷ rows) zero row lt is = ap (λ (r : TraceRow). Some r) (sym is)
 row_there (x ∷ rows) (suc event) row lt is = row_there rows event row (omega (arith, lt)) is

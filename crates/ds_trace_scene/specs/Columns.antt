@@ -19,6 +19,19 @@ no_word = record { cached = 0; persisted = 0 }
 abbrev pub word_in : ℕ → TraceRow → Word
 word_in number row = slice_index_or row.words.items number no_word
 
+-- both sides of the word with this number in the new sheet
+abbrev pub first_in : Trace → ℕ → Word
+first_in trace number = slice_index_or trace.start.items number no_word
+
+-- both sides of the word with this number after the event, counted from 0
+abbrev pub word_after : Trace → ℕ → ℕ → Word
+word_after trace number event = slice_index_or (map (word_in number) trace.rows.items) event no_word
+
+-- both sides of the word with this number before the event: those after the one before it, or those in the new sheet
+abbrev pub word_before : Trace → ℕ → ℕ → Word
+word_before trace number zero = first_in trace number
+word_before trace number (suc event) = word_after trace number event
+
 -- a side of a word
 abbrev pub side_of : Side → Word → ℕ
 side_of Cached word = word.cached
@@ -52,10 +65,6 @@ Follow from (span ∷ spans) to = (span.from ≡ from) × (span.from < span.to) 
 pub record AreSpans (first : Word) (rows : List TraceRow) (number : ℕ) (side : Side) (spans : List Span) : Type 0 where
   pub each : All (IsTrueSpan first rows number side) spans
   pub whole : Follow 0 spans (length rows + 1)
-
--- both sides of the word with this number in the new sheet
-abbrev pub first_in : Trace → ℕ → Word
-first_in trace number = slice_index_or trace.start.items number no_word
 
 -- the column is that of the word with this number: its place, and what its sides are at each line
 pub record IsColumnOf (trace : Trace) (number : ℕ) (column : Column) : Type 0 where

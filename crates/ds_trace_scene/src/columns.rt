@@ -2,12 +2,11 @@
 
 ghost use Rattle.std.specs.Prelude.{◌≡◌, ◌<◌, ◌↔◌, IfOk, IsTrue, length, slice_index_or};
 ghost use Rattle.ds_core.specs.declared.reply.Reply.TheVariants as replies;
-ghost use Rattle.ds_trace_scene.specs.Columns.{AreColumns, AreSpans, Changes, IsColumnOf, first_in, side_of, word_in};
+ghost use Rattle.ds_trace_scene.specs.Columns.{AreColumns, AreSpans, Changes, IsColumnOf, first_in, side_of, word_after, word_before, word_in};
 
 use ds_core::reply::Reply;
 use ds_layout::place::Place;
-use ds_trace::row::{Happening, Trace, TraceRow};
-use ds_words::access::Access;
+use ds_trace::row::{Trace, TraceRow};
 use ds_words::words::Word;
 use std::alloc::{AllocError, Global};
 
@@ -158,6 +157,28 @@ pub fn first_in(trace: &Trace, number: usize) -> Word
     }
 }
 
+/// Both sides of the word with this number after the event, counted from 0; zeros, where there is no such word or event.
+pub fn word_after(trace: &Trace, number: usize, event: usize) -> Word
+    ensures { result ≡ word_after trace.now number event }
+{
+    if event < trace.rows.len() {
+        word_in(&trace.rows[event], number)
+    } else {
+        NO_WORD
+    }
+}
+
+/// Both sides of the word with this number before the event: those after the one before it, or those in the new sheet.
+pub fn word_before(trace: &Trace, number: usize, event: usize) -> Word
+    ensures { result ≡ word_before trace.now number event }
+{
+    if event == 0 {
+        first_in(trace, number)
+    } else {
+        word_after(trace, number, event - 1)
+    }
+}
+
 // Whether two words are the same on both sides.
 fn are_same(word: Word, other: Word) -> bool
     ensures { IsTrue result ↔ word ≡ other }
@@ -209,56 +230,4 @@ pub fn columns(alloc: Global, trace: &Trace) -> Result<Vec<Column>, AllocError>
         }
     }
     Ok(columns)
-}
-
-// Ends the oldest passage of a process that has not ended.
-fn write_back(passages: &mut Vec<Passage>, process: usize, line: usize) {
-    for i in 0..passages.len() {
-        let passage = passages[i];
-        if passage.process == process && passage.end == PassageEnd::Buffered {
-            passages[i].to = line;
-            passages[i].end = PassageEnd::WrittenBack;
-            return;
-        }
-    }
-}
-
-// Ends those of a process, or of all, that have not ended.
-fn lose(passages: &mut Vec<Passage>, process: Option<usize>, line: usize) {
-    for i in 0..passages.len() {
-        let passage = passages[i];
-        let is_meant = process.is_none() || process == Some(passage.process);
-        if is_meant && passage.end == PassageEnd::Buffered {
-            passages[i].to = line;
-            passages[i].end = PassageEnd::Lost;
-        }
-    }
-}
-
-/// The buffer entries, in the order of their flushes.
-pub fn passages(alloc: Global, trace: &Trace) -> Result<Vec<Passage>, AllocError> {
-    let mut passages = Vec::new(alloc);
-    for (i, row) in trace.rows.iter().enumerate() {
-        let line = i.saturating_add(1);
-        match (row.what, row.reply) {
-            (Happening::Steps(process, Access::Flush(place)), Reply::Stepped) => {
-                passages.push(Passage {
-                    process,
-                    place,
-                    from: line,
-                    to: end_line(trace),
-                    end: PassageEnd::Buffered,
-                })?;
-            }
-            (Happening::Steps(process, Access::Back), Reply::Stepped) => {
-                write_back(&mut passages, process, line);
-            }
-            (Happening::Stops(process), Reply::Stopped) => {
-                lose(&mut passages, Some(process), line);
-            }
-            (Happening::Crashes, _) => lose(&mut passages, None, line),
-            _ => {}
-        }
-    }
-    Ok(passages)
 }

@@ -1,14 +1,16 @@
 //! The lanes of a picture: what each process does, line by line.
 
-ghost use Rattle.std.specs.Prelude.{◌≡◌};
+ghost use Rattle.std.specs.Prelude.{◌≡◌, ◌<◌, ℕ, IfOk, length};
+ghost use Rattle.ds_trace_scene.specs.Lanes.{AreEntries, IsEntryOf};
+ghost use Rattle.ds_trace_scene.specs.Points.{course as course_of};
 ghost use Rattle.ds_trace_scene.specs.Rows.{is_in_lane, step_style, style_by};
 
 use crate::columns::{Passage, end_line};
+use crate::points::{Course, NO_COURSE, course_by, points_text};
 use crate::texts::{place_at, row_text, row_title};
 use ds_core::reply::Reply;
 use ds_layout::place::Place;
-use ds_script::point::PointName;
-use ds_trace::row::{Begin, Happening, Trace, TraceRow};
+use ds_trace::row::{Happening, Trace, TraceRow};
 use ds_words::access::Access;
 use std::alloc::{AllocError, Global};
 
@@ -79,69 +81,6 @@ pub struct Lane {
     pub rails: Vec<Rail>,
 }
 
-// The points of a call, in their order.
-fn points_of(begin: Begin) -> &'static [PointName] {
-    match begin {
-        Begin::Edit(_) => &[
-            PointName::Written,
-            PointName::Announced,
-            PointName::Indexed,
-            PointName::Helped,
-            PointName::Swung,
-            PointName::Kept,
-            PointName::Marked,
-            PointName::Answered,
-        ],
-        Begin::Work(_) => &[
-            PointName::Held,
-            PointName::Stored,
-            PointName::Valued,
-            PointName::Spread,
-            PointName::Cleared,
-        ],
-        Begin::Recovery => &[
-            PointName::Freed,
-            PointName::Kept,
-            PointName::Marked,
-            PointName::Answered,
-        ],
-        Begin::Migration => &[PointName::Copied, PointName::Switched],
-        Begin::Show => &[],
-    }
-}
-
-// How many of these points are passed by a call that has passed this one.
-fn behind(points: &[PointName], last: Option<PointName>) -> usize {
-    let Some(last) = last else {
-        return 0;
-    };
-    for i in 0..points.len() {
-        if points[i] == last {
-            return i + 1;
-        }
-    }
-    0
-}
-
-// The names of these points, after the first n of them, and up to m.
-fn names(
-    alloc: Global,
-    points: &[PointName],
-    from: usize,
-    to: usize,
-) -> Result<String, AllocError> {
-    let mut names = String::new(alloc);
-    for (i, point) in points.iter().enumerate() {
-        if from <= i && i < to {
-            if !names.is_empty() {
-                names.push(' ')?;
-            }
-            names.push_str(point.name())?;
-        }
-    }
-    Ok(names)
-}
-
 fn step_style(access: Access<Place>) -> Style
     ensures { result ≡ step_style access }
 {
@@ -158,7 +97,8 @@ fn step_style(access: Access<Place>) -> Style
     }
 }
 
-fn style_of(row: &TraceRow) -> Style
+/// How the row stands in the lane of its process.
+pub fn style_of(row: &TraceRow) -> Style
     ensures { result ≡ style_by row.now.what row.now.reply }
 {
     match (row.what, row.reply) {
@@ -170,8 +110,8 @@ fn style_of(row: &TraceRow) -> Style
     }
 }
 
-// Whether the row is one of this process's lane.
-fn is_of(row: &TraceRow, process: usize) -> bool
+/// Whether the row is one of this process's lane.
+pub fn is_of(row: &TraceRow, process: usize) -> bool
     ensures { result ≡ is_in_lane process row.now.what row.now.reply }
 {
     match row.what {
@@ -183,19 +123,24 @@ fn is_of(row: &TraceRow, process: usize) -> bool
     }
 }
 
+// The entry of the event with this number, from 0, of a process whose call has this course.
 fn entry_of(
     alloc: Global,
     trace: &Trace,
     passages: &[Passage],
     event: usize,
-    row: &TraceRow,
-    points: String,
-) -> Result<LaneEntry, AllocError> {
-    let place = place_at(passages, event, row);
+    course: Course,
+) -> Result<LaneEntry, AllocError>
+    requires { event < length trace.now.rows.items }
+    ensures { (process : ℕ) → course ≡ course_of process trace.now.rows.items event → IfOk result (IsEntryOf trace.now passages.now process event) }
+{
+    let row = &trace.rows[event];
+    let line = event + 1;
+    let place = place_at(passages, line, row.what);
     Ok(LaneEntry {
-        line: event.saturating_add(1),
+        line,
         style: style_of(row),
-        points,
+        points: points_text(alloc, row, course)?,
         text: row_text(alloc, trace, event, place, row)?,
         title: row_title(alloc, trace, event, place)?,
         place,
@@ -208,21 +153,17 @@ fn entries(
     trace: &Trace,
     passages: &[Passage],
     process: usize,
-) -> Result<Vec<LaneEntry>, AllocError> {
+) -> Result<Vec<LaneEntry>, AllocError>
+    ensures { IfOk result (λ entries. AreEntries trace.now passages.now process entries.items) }
+{
     let mut entries = Vec::new(alloc);
-    let mut points: &'static [PointName] = &[];
-    let mut reached = 0usize;
-    for (event, row) in trace.rows.iter().enumerate() {
+    let mut course = NO_COURSE;
+    for event in 0..trace.rows.len() {
+        let row = &trace.rows[event];
         if is_of(row, process) {
-            if let Happening::Begins(_, begin) = row.what {
-                points = points_of(begin);
-                reached = 0;
-            }
-            let now = behind(points, row.behind);
-            let names = names(alloc, points, reached, now)?;
-            reached = now.max(reached);
-            entries.push(entry_of(alloc, trace, passages, event, row, names)?)?;
+            entries.push(entry_of(alloc, trace, passages, event, course)?)?;
         }
+        course = course_by(process, row, course);
     }
     Ok(entries)
 }
@@ -280,7 +221,9 @@ pub fn lane_of(
     trace: &Trace,
     passages: &[Passage],
     process: usize,
-) -> Result<Lane, AllocError> {
+) -> Result<Lane, AllocError>
+    ensures entries { IfOk result (λ lane. AreEntries trace.now passages.now process lane.entries.items) }
+{
     Ok(Lane {
         entries: entries(alloc, trace, passages, process)?,
         rails: rails(alloc, trace, process)?,

@@ -1,6 +1,7 @@
 //! Where everything stands in a picture, in pixels.
 
-use crate::columns::{Column, Passage, Span, columns, end_line, passages};
+use crate::buffers::passages;
+use crate::columns::{Column, Passage, Span, columns, end_line};
 use crate::lanes::{Lane, lane_of};
 use crate::meaning::label;
 use crate::names::place_name;

@@ -1,6 +1,6 @@
 use Rattle.std.proofs.Common.{ℕ, ◌≡◌, ◌∙◌, length, ap, arith}
 use Rattle.ds_trace_brief.specs.Keeping.{kept, kept_below}
-use Rattle.ds_trace_brief.proofs.Kept.{turning_in}
+use Rattle.ds_trace_brief.proofs.Kept.{kept_within, turning_in}
 use Rattle.ds_trace_brief.proofs.Steps.{kept_more}
 use Rattle.ds_trace_brief.proofs.keep.kept.Goals as goal
 
@@ -17,5 +17,6 @@ returns c =
     let is : c.loop-event.events.items ≡ kept c.args.trace.now = c.loop-event.invariant ∙ ap (λ (n : ℕ). kept_below c.args.trace.now n) all in
     record {
       events = is;
+      within = kept_within c.args.trace.now c.loop-event.events.items is;
       none_left_out = λ number event there lt h. turning_in c.args.trace.now c.loop-event.events.items number event is lt there h;
     }
