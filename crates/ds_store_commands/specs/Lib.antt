@@ -1,4 +1,6 @@
+pub mod Asked
 pub mod Exports
+pub mod Lists
 pub mod Logs
 pub mod Statuses
 pub mod Tables
