@@ -1,5 +1,6 @@
 pub mod Asked
 pub mod Exports
+pub mod Imports
 pub mod Lists
 pub mod Logs
 pub mod Statuses
