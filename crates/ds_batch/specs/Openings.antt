@@ -1,5 +1,5 @@
 -- Lines in a notation, and what they are in OpenFormula.
-use Rattle.std.specs.Prelude.{ℕ, ◌≡◌, List, Ok, map, IsUtf8}
+use Rattle.std.specs.Prelude.{ℕ, ◌≡◌, List, ◌∷◌, ◌++◌, Ok, map, IsUtf8}
 use Rattle.ds_a1.specs.declared.notation.Notation.{Notation}
 use Rattle.ds_a1.specs.declared.notation.Notation.TheVariants.{A1, OpenFormula}
 use Rattle.ds_a1_script.specs.EditLines.{line_opens}
@@ -24,3 +24,11 @@ HasNoText commands line = (opened : List ℕ) → line_opens commands line ≡ O
 abbrev pub IsRefused : Notation → Commands → List ℕ → Type 0
 IsRefused OpenFormula commands line = ⊥
 IsRefused A1 commands line = HasNoText commands line
+
+-- one of these lines of a script is refused, as none whose text is in this notation
+pub record HaveRefused (notation : Notation) (lines : List (List ℕ)) : Type 0 where
+  pub before : List (List ℕ)
+  pub line : List ℕ
+  pub after : List (List ℕ)
+  pub are : lines ≡ before ++ line ∷ after
+  pub refused : IsRefused notation OfScript line

@@ -8,10 +8,10 @@ ghost use Rattle.ds_stop_groups.specs.Groups.{IsGrouped};
 use crate::closing::Closing;
 use crate::faults::show_refusals;
 use crate::progress::Progress;
-use crate::run::{RunForm, print_refusals, read_script};
+use crate::run::{RunForm, print_refusals, read_script, stop_read};
 use crate::source::{Source, open};
 use crate::status::CLOSED;
-use ds_sched::{ScriptEnd, StopRange, Writing, stop_in_range};
+use ds_sched::{ScriptEnd, StopRange, Writing};
 use ds_stop_groups::groups::grouped;
 use std::alloc::Global;
 use std::fs::{File, Files};
@@ -73,7 +73,7 @@ fn groups_from<R: AllocGlobal + Print + Eprint, I: Read + Drop>(
     let mut blocks = Vec::new(rt.alloc());
     let end = {
         let mut writer = Writing::new(Progress::new(&mut blocks, rt, shows));
-        stop_in_range(rt.alloc(), script.text(), range, &mut writer)
+        stop_read(rt.alloc(), &script, range, &mut writer)
     };
     let mut closed = false;
     let end = end_groups(rt, &blocks, range.first.max(1), end, &mut closed);

@@ -1,9 +1,10 @@
 //! Lines with formulas in a notation, as commands on stores and servers read them.
 
 ghost use Rattle.std.specs.Prelude.{◌≡◌, ◌⊎◌, ◌++◌, ◌∷◌, [], IfErr, IfOk, IsUtf8, Ok, OnOk, map, string_bytes};
+ghost use Rattle.ds_a1.specs.declared.notation.Notation.TheVariants.{A1};
 ghost use Rattle.ds_a1_script.specs.EditLines.{line_opens};
 ghost use Rattle.ds_a1_script.specs.declared.lines.Commands.TheVariants.{OfScript};
-ghost use Rattle.ds_batch.specs.Openings.{HasNoText, IsRefused, LineOpens, LinesOpen};
+ghost use Rattle.ds_batch.specs.Openings.{HasNoText, HaveRefused, IsRefused, LineOpens, LinesOpen};
 
 use crate::faults::show_refused;
 use crate::run::no_memory;
@@ -88,7 +89,8 @@ fn add_line<R: Eprint>(rt: &R, lines: &mut Vec<String>, line: String) -> Result<
 
 // The lines of a script whose texts are in A1 notation, as `opened_lines`.
 fn lines_from_a1<R: AllocGlobal + Eprint>(rt: &R, lines: &[String]) -> Result<Vec<String>, u8>
-    ensures { IfOk result (λ opened. map (line_opens OfScript) (map string_bytes lines.now) ≡ map Ok (map string_bytes opened.items)) }
+    ensures opened { IfOk result (λ opened. map (line_opens OfScript) (map string_bytes lines.now) ≡ map Ok (map string_bytes opened.items)) }
+    ensures status { IfErr result (λ status. (status ≡ 4) ⊎ ((status ≡ 1) × HaveRefused A1 (map string_bytes lines.now))) }
 {
     let mut opened = Vec::new(rt.alloc());
     let mut number = 0u64;
@@ -101,13 +103,14 @@ fn lines_from_a1<R: AllocGlobal + Eprint>(rt: &R, lines: &[String]) -> Result<Ve
 }
 
 /// The lines of a script whose texts are in this notation, with their texts in OpenFormula. An error is the status, as of
-/// `opened_line`.
+/// `opened_line`: 1 where the text of a line is refused.
 pub fn opened_lines<R: AllocGlobal + Eprint>(
     rt: &R,
     notation: Notation,
     lines: Vec<String>,
 ) -> Result<Vec<String>, u8>
-    ensures { IfOk result (λ opened. LinesOpen notation (map string_bytes lines.items) (map string_bytes opened.items)) }
+    ensures opened { IfOk result (λ opened. LinesOpen notation (map string_bytes lines.items) (map string_bytes opened.items)) }
+    ensures status { IfErr result (λ status. (status ≡ 4) ⊎ ((status ≡ 1) × HaveRefused notation (map string_bytes lines.items))) }
 {
     match notation {
         Notation::OpenFormula => Ok(lines),

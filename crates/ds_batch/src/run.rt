@@ -1,6 +1,13 @@
 //! `dsheet run` and `dsheet run --stops`.
 
-ghost use Rattle.std.specs.Prelude.{◌≡◌, ◌≢◌, None, Some};
+ghost use Rattle.std.specs.Prelude.{◌≡◌, ◌≢◌, ◌⊎◌, IfErr, IfOk, List, None, Some, ℕ};
+ghost use Rattle.std.specs.Io.KnownBytes.{Appends, Consumes};
+ghost use Rattle.ds_formula.specs.Limits.{INPUT_MOST};
+ghost use Rattle.ds_script_io.specs.Streams.{has_ended, read_failed, reader_of, writer_of};
+ghost use Rattle.ds_script.specs.Script.{Concludes};
+ghost use Rattle.ds_script_stops.specs.StopBlocks.{StopsInRange};
+ghost use Rattle.ds_batch.specs.Answers.{IsAnswered, IsInForm};
+ghost use Rattle.ds_batch.specs.Scripts.{IsReadOf, WereRead, lines_done, notation_by, refused_at, status_by, text_of, unread_of};
 
 use crate::closing::Closing;
 use crate::copying::Copying;
@@ -54,23 +61,35 @@ pub fn no_memory(rt: &impl Eprint) -> u8
     NO_MEMORY
 }
 
+// Why an input that has ended so is no script in this notation, where it is none.
+fn unread(end: InputEnd, notation: Notation) -> Option<ScriptEnd>
+    ensures { result ≡ unread_of end notation }
+{
+    match (end, notation) {
+        (InputEnd::Failed, _) => Some(ScriptEnd::ReadFailed),
+        (InputEnd::TooLong, Notation::A1) => Some(ScriptEnd::TooLong),
+        _ => None,
+    }
+}
+
 // A script from a reader. An error is the status.
 pub(crate) fn read_script<R: AllocGlobal + Eprint, I: Read + Drop>(
     rt: &R,
     input: I,
     notation: Notation,
-) -> Result<ReadScript, u8> {
+) -> Result<ReadScript, u8>
+    ensures read { IfOk result (λ read. (bytes : List ℕ) × WereRead notation (I.remaining input) bytes × IsReadOf notation bytes read) }
+    ensures status { IfErr result (λ status. (status ≡ 3) ⊎ (status ≡ 4)) }
+{
     let mut reader = Reading::new(input);
     let Ok(input) = read_input(rt.alloc(), &mut reader, INPUT_LIMIT) else {
         return Err(no_memory(rt));
     };
-    let fault = match (input.end, notation) {
-        (InputEnd::Failed, _) => ScriptEnd::ReadFailed,
-        (InputEnd::TooLong, Notation::A1) => ScriptEnd::TooLong,
-        _ => return opened(rt, notation, input.bytes),
-    };
-    print_end(rt, &fault, &input.bytes);
-    Err(script_status(&fault))
+    if let Some(fault) = unread(input.end, notation) {
+        print_end(rt, &fault, &input.bytes);
+        return Err(script_status(&fault));
+    }
+    opened(rt, notation, input.bytes)
 }
 
 // A script that was read, in OpenFormula. An error is the status.
@@ -78,51 +97,62 @@ fn opened<R: AllocGlobal + Eprint>(
     rt: &R,
     notation: Notation,
     script: Vec<u8>,
-) -> Result<ReadScript, u8> {
-    let open = match notation {
+) -> Result<ReadScript, u8>
+    ensures read { IfOk result (IsReadOf notation script.items) }
+    ensures status { IfErr result (λ status. status ≡ 4) }
+{
+    let opened = match notation {
         Notation::OpenFormula => None,
         Notation::A1 => match open_script(rt.alloc(), &script) {
-            Ok(open) => Some(open),
+            Ok(script) => Some(script),
             Err(_) => return Err(no_memory(rt)),
         },
     };
-    Ok(ReadScript { script, open })
+    Ok(ReadScript { script, opened })
 }
 
 // A script that was read, and what it is in OpenFormula where it was in A1 notation.
 #[derive(Drop)]
 pub(crate) struct ReadScript {
     pub(crate) script: Vec<u8>,
-    open: Option<OpenScript>,
+    opened: Option<OpenScript>,
 }
 
 impl ReadScript {
     // The script in OpenFormula, up to the first line whose text is refused as one in A1 notation.
-    pub(crate) fn text(&self) -> &[u8] {
-        match &self.open {
+    pub(crate) fn text(&self) -> &[u8]
+        ensures { result.now ≡ text_of self.now }
+    {
+        match &self.opened {
             Some(open) => &open.text,
             None => &self.script,
         }
     }
 
     // The notation that it was in.
-    pub(crate) fn notation(&self) -> Notation {
-        match &self.open {
+    pub(crate) fn notation(&self) -> Notation
+        ensures { result ≡ notation_by self.now.opened }
+    {
+        match &self.opened {
             Some(_) => Notation::A1,
             None => Notation::OpenFormula,
         }
     }
 
     // The line whose text was refused as one in A1 notation, where the script ended well before it.
-    pub(crate) fn refused(&self, end: &ScriptEnd) -> Option<RefusedLine> {
-        match (end, &self.open) {
+    pub(crate) fn refused(&self, end: &ScriptEnd) -> Option<RefusedLine>
+        ensures { result ≡ refused_at end.now self.now.opened }
+    {
+        match (end, &self.opened) {
             (ScriptEnd::Ended, Some(open)) => open.refused,
             _ => None,
         }
     }
 
     // The lines that were carried out.
-    pub(crate) fn lines(&self, end: &ScriptEnd) -> usize {
+    pub(crate) fn lines(&self, end: &ScriptEnd) -> usize
+        ensures { result ≡ lines_done end.now self.now.opened }
+    {
         match end {
             ScriptEnd::Ended => match self.refused(end) {
                 Some(refused) => refused.line.saturating_sub(1),
@@ -134,7 +164,9 @@ impl ReadScript {
     }
 
     // The status of a run of the script, by how many of its answers are refusals.
-    pub(crate) fn status(&self, end: &ScriptEnd, strict: bool, refused: u64) -> u8 {
+    pub(crate) fn status(&self, end: &ScriptEnd, strict: bool, refused: u64) -> u8
+        ensures { result ≡ status_by (refused_at end.now self.now.opened) end.now strict refused }
+    {
         match self.refused(end) {
             Some(_) => REFUSED,
             None => run_status(end, strict, refused),
@@ -171,11 +203,43 @@ fn run_answered<R: Read, W: Write>(
     answers: AnswerForm,
     reader: &mut Reading<R>,
     writer: &mut Writing<W>,
-) -> ScriptEnd {
+) -> ScriptEnd
+    ensures { result ≢ ScriptEnd.WriteFailed → (bytes out text : List ℕ) × Consumes (R.remaining (reader_of reader.old)) (R.remaining (reader_of reader.new)) bytes
+        × Appends (W.contents (writer_of writer.old)) (W.contents (writer_of writer.new)) text
+        × Concludes INPUT_MOST (R.remaining (reader_of reader.new)) (has_ended reader.new) (read_failed reader.new) bytes out result
+        × IsInForm answers bytes out text }
+{
     match answers {
         AnswerForm::Words => run_script(alloc, reader, writer),
         AnswerForm::Json => run_script_in_json(alloc, reader, writer),
     }
+}
+
+// Runs a script that was read, with its answers in this form.
+fn run_read<W: Write>(
+    alloc: Global,
+    answers: AnswerForm,
+    script: &ReadScript,
+    writer: &mut Writing<W>,
+) -> ScriptEnd
+    ensures { result ≢ ScriptEnd.WriteFailed → (out text : List ℕ) × Appends (W.contents (writer_of writer.old)) (W.contents (writer_of writer.new)) text
+        × IsAnswered answers (text_of script.now) out text result }
+{
+    let mut reader = Reading::new(script.text());
+    run_answered(alloc, answers, &mut reader, writer)
+}
+
+// Writes what is reported of a crash after each step of a script that was read which is in the range.
+pub(crate) fn stop_read<W: Write>(
+    alloc: Global,
+    script: &ReadScript,
+    range: StopRange,
+    writer: &mut Writing<W>,
+) -> ScriptEnd
+    ensures { result ≢ ScriptEnd.WriteFailed → (out : List ℕ) × Appends (W.contents (writer_of writer.old)) (W.contents (writer_of writer.new)) out
+        × StopsInRange range INPUT_MOST (text_of script.now) out result }
+{
+    stop_in_range(alloc, script.text(), range, writer)
 }
 
 // A script in A1 notation from a reader, as `run`.
@@ -193,9 +257,8 @@ fn run_a1<R: AllocGlobal + Print + Eprint, I: Read + Drop>(rt: &R, input: I, for
         return no_memory(rt);
     };
     let end = {
-        let mut reader = Reading::new(script.text());
         let mut writer = Writing::new(Watching::new(buffered, &mut refusals));
-        run_answered(rt.alloc(), form.answers, &mut reader, &mut writer)
+        run_read(rt.alloc(), form.answers, &script, &mut writer)
     };
     if closed {
         return CLOSED;
@@ -296,7 +359,7 @@ fn stops_from<R: AllocGlobal + Print + Eprint, I: Read + Drop>(
     };
     let end = {
         let mut writer = Writing::new(Progress::new(buffered, rt, shows));
-        stop_in_range(rt.alloc(), script.text(), range, &mut writer)
+        stop_read(rt.alloc(), &script, range, &mut writer)
     };
     if closed {
         return CLOSED;

@@ -1,1 +1,4 @@
+mod Asked
 mod Firsts
+mod Lists
+mod Values

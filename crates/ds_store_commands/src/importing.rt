@@ -1,7 +1,11 @@
 //! `dsheet import`.
 
 ghost use Rattle.std.specs.Prelude.{◌≡◌, IfOk, map};
+ghost use Rattle.std.specs.Str.Lines.{lines as text_lines};
 ghost use Rattle.std.specs.String.{string_bytes};
+ghost use Rattle.csv.specs.Records.{fields_of};
+ghost use Rattle.ds_store.specs.Summing.{summed_anew};
+ghost use Rattle.ds_store_commands.specs.Imports.{AreFollowed, AreOfGrid};
 
 use crate::making::make_store;
 use crate::stores::{compacted, tell_fault};
@@ -24,7 +28,9 @@ use std::fs::{File, Files};
 use std::str;
 
 // The lines of a text, each of its own.
-fn lines_of(alloc: Global, text: &str) -> Result<Vec<String>, AllocError> {
+fn lines_of(alloc: Global, text: &str) -> Result<Vec<String>, AllocError>
+    ensures { IfOk result (λ all. map string_bytes all.items ≡ text_lines text.now) }
+{
     let mut lines = Vec::new(alloc);
     for line in text.lines() {
         lines.push(String::from_str(alloc, line)?)?;
@@ -65,10 +71,15 @@ fn copied(alloc: Global, lines: &[String]) -> Result<Vec<String>, AllocError>
 }
 
 // The lines of a store that keeps these, with their sum. They were followed, each in its turn, before there is a file.
-fn followed(alloc: Global, lines: &[String]) -> Result<Vec<String>, StoreFault> {
-    let summed = with_sum(alloc, copied(alloc, lines)?)?;
+fn followed(alloc: Global, lines: &[String]) -> Result<Vec<String>, StoreFault>
+    ensures same { IfOk result (λ all. map string_bytes all.items ≡ summed_anew (map string_bytes lines.now)) }
+    ensures followed { IfOk result (λ all. AreFollowed (map string_bytes all.items)) }
+{
+    let copies = copied(alloc, lines)?;
+    let summed = with_sum(alloc, copies)?;
     let conn = Connection::open_in_memory(alloc)?;
-    Ok(Store::of_lines(alloc, conn, summed)?.lines)
+    let opened = Store::of_lines(alloc, conn, summed)?;
+    Ok(opened.lines)
 }
 
 // The lines of standard input, with formulas in this notation in OpenFormula. An error is as before.
@@ -113,7 +124,9 @@ fn lines_of_grid(
     alloc: Global,
     notation: Notation,
     grid: ReadGrid,
-) -> Result<Vec<String>, StoreFault> {
+) -> Result<Vec<String>, StoreFault>
+    ensures { IfOk result (λ lines. AreOfGrid notation (map fields_of grid.rows.items) (map string_bytes lines.items)) }
+{
     let rows = opened_rows(alloc, notation, grid.rows)?;
     let lines = grid_lines(alloc, &grid.shape, &rows)?;
     compacted(alloc, &lines, "a grid")

@@ -1,7 +1,11 @@
 //! `dsheet log`.
 
-ghost use Rattle.std.specs.Prelude.{map};
+ghost use Rattle.std.specs.Prelude.{◌≡◌, IfErr, IfOk, OnOk, [], if◌then◌else◌, map, option_map, take};
+ghost use Rattle.std.specs.Io.KnownBytes.{Appends};
 ghost use Rattle.std.specs.String.{string_bytes};
+ghost use Rattle.ds_store_edits.specs.JournalEdits.{entry_view};
+ghost use Rattle.ds_store_commands.specs.Asked.{HasNoCell, IsAskedBy, IsPartOf, IsShownAt};
+ghost use Rattle.ds_store_commands.specs.Lists.{begun_in, begun_text, entry_text, head_text, is_asked, list_text};
 ghost use Rattle.ds_store_commands.specs.Logs.{HaveFirst};
 
 use crate::exporting::{write_line, write_table};
@@ -41,7 +45,9 @@ pub fn first_edits(lines: &[String], edits: usize) -> usize
 }
 
 // Writes the place of an edit in the list, who made it, and its cell.
-fn write_head<W: Write>(out: &mut W, place: usize, entry: &Entry<'_>) -> io::Result<()> {
+fn write_head<W: Write>(out: &mut W, place: usize, entry: &Entry<'_>) -> io::Result<()>
+    ensures { OnOk result (Appends (W.contents out.old) (W.contents out.new) (head_text place (entry_view entry.now))) }
+{
     let cell = entry.cell;
     match entry.maker {
         Some(Maker { process, number }) => write!(out, "{place} {process} {number} {cell}"),
@@ -50,7 +56,9 @@ fn write_head<W: Write>(out: &mut W, place: usize, entry: &Entry<'_>) -> io::Res
 }
 
 // Writes an edit, which has this place in the list.
-fn write_entry<W: Write>(out: &mut W, place: usize, entry: &Entry<'_>) -> io::Result<()> {
+fn write_entry<W: Write>(out: &mut W, place: usize, entry: &Entry<'_>) -> io::Result<()>
+    ensures { OnOk result (Appends (W.contents out.old) (W.contents out.new) (entry_text place (entry_view entry.now))) }
+{
     write_head(out, place, entry)?;
     if !entry.text.is_empty() {
         out.write_all(b" ")?;
@@ -59,7 +67,9 @@ fn write_entry<W: Write>(out: &mut W, place: usize, entry: &Entry<'_>) -> io::Re
 }
 
 // How many of these are texts that the sheet began with.
-fn begun(entries: &[Entry<'_>]) -> usize {
+fn begun(entries: &[Entry<'_>]) -> usize
+    ensures { result ≡ begun_in (map entry_view entries.now) }
+{
     let mut count = 0usize;
     for entry in entries {
         if entry.maker.is_none() {
@@ -70,7 +80,9 @@ fn begun(entries: &[Entry<'_>]) -> usize {
 }
 
 // Writes how many of these are texts that the sheet began with, where any is.
-fn write_begun<W: Write>(out: &mut W, entries: &[Entry<'_>]) -> io::Result<()> {
+fn write_begun<W: Write>(out: &mut W, entries: &[Entry<'_>]) -> io::Result<()>
+    ensures { OnOk result (Appends (W.contents out.old) (W.contents out.new) (begun_text (begun_in (map entry_view entries.now)))) }
+{
     let begun = begun(entries);
     if begun == 0 {
         return Ok(());
@@ -81,18 +93,38 @@ fn write_begun<W: Write>(out: &mut W, entries: &[Entry<'_>]) -> io::Result<()> {
     )
 }
 
-// Writes edits, those of one cell alone where that is asked for.
-fn write_entries<W: Write>(
+// Whether the cell is asked for: that one alone, or all are.
+fn is_asked(only: Option<Cell>, cell: Cell) -> bool
+    ensures { result ≡ is_asked only cell }
+{
+    match only {
+        Some(only) => only == cell,
+        None => true,
+    }
+}
+
+// Writes an edit, which has this place in the list, where its cell is asked for.
+fn write_asked<W: Write>(
     out: &mut W,
-    entries: &[Entry<'_>],
+    place: usize,
+    entry: &Entry<'_>,
     only: Option<Cell>,
-) -> io::Result<()> {
+) -> io::Result<()>
+    ensures { OnOk result (Appends (W.contents out.old) (W.contents out.new) (if is_asked only entry.now.cell then entry_text place (entry_view entry.now) else [])) }
+{
+    if is_asked(only, entry.cell) {
+        write_entry(out, place, entry)?;
+    }
+    Ok(())
+}
+
+// Writes edits, those of one cell alone where that is asked for.
+fn write_entries<W: Write>(out: &mut W, entries: &[Entry<'_>], only: Option<Cell>) -> io::Result<()>
+    ensures { OnOk result (Appends (W.contents out.old) (W.contents out.new) (list_text only (map entry_view entries.now))) }
+{
     write_begun(out, entries)?;
     for index in 0..entries.len() {
-        let entry = &entries[index];
-        if only.is_none() || only == Some(entry.cell) {
-            write_entry(out, index.saturating_add(1), entry)?;
-        }
+        write_asked(out, index.saturating_add(1), &entries[index], only)?;
     }
     out.flush()
 }
@@ -116,6 +148,23 @@ fn write_list<R: AllocGlobal + Print + Eprint>(
     written(rt, write_entries(&mut out, &entries, only))
 }
 
+// The first lines of these, as many as this; all, where there are no more.
+fn first_lines(lines: &[String], count: usize) -> &[String]
+    ensures { result.now ≡ take count lines.now }
+{
+    lines.get(..count).unwrap_or(lines)
+}
+
+// What is shown of a table: its field for one cell alone, where that is asked for.
+fn part_of(alloc: Global, table: Vec<u8>, only: Option<Cell>) -> Result<Vec<u8>, StoreFault>
+    ensures { IfOk result (λ shown. IsPartOf only table.items shown.items) }
+{
+    match only {
+        Some(cell) => cell_table(alloc, &table, cell),
+        None => Ok(table),
+    }
+}
+
 // The sheet of a store with these lines, as it was after this number of edits.
 fn table_at(
     alloc: Global,
@@ -123,16 +172,15 @@ fn table_at(
     lines: &[String],
     edits: usize,
     only: Option<Cell>,
-) -> Result<Vec<u8>, StoreFault> {
+) -> Result<Vec<u8>, StoreFault>
+    ensures { IfOk result (λ shown. IsShownAt cells (map string_bytes lines.now) edits only shown.items) }
+{
     let Some((_, rest)) = lines.split_first() else {
         return Err(StoreFault::Missing(1));
     };
     let count = first_edits(rest, edits).saturating_add(1);
-    let table = table_of(alloc, cells, lines.get(..count).unwrap_or(lines))?;
-    match only {
-        Some(cell) => cell_table(alloc, &table, cell),
-        None => Ok(table),
-    }
+    let table = table_of(alloc, cells, first_lines(lines, count))?;
+    part_of(alloc, table, only)
 }
 
 // Writes the sheet of a store with these lines, as it was after this number of edits, and gives the
@@ -152,7 +200,10 @@ fn write_at<R: AllocGlobal + Print + Eprint>(
 }
 
 // The cell that is asked for alone, if one is. An error is the status, where the sheet has none of that name.
-fn cell_of(rt: &impl Eprint, shape: &Shape, name: Option<&str>) -> Result<Option<Cell>, u8> {
+fn cell_of(rt: &impl Eprint, shape: &Shape, name: Option<&str>) -> Result<Option<Cell>, u8>
+    ensures cell { IfOk result (IsAskedBy shape.now (option_map (λ n. n.now) name.entry)) }
+    ensures status { IfErr result (λ status. (status ≡ 2) × HasNoCell shape.now (option_map (λ n. n.now) name.entry)) }
+{
     let Some(name) = name else {
         return Ok(None);
     };

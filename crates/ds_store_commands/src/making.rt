@@ -1,5 +1,11 @@
 //! A store is made, all of it or none.
 
+ghost use Rattle.std.specs.Prelude.{IfOk, OnOk, map};
+ghost use Rattle.std.specs.String.{string_bytes};
+ghost use Rattle.sqlite.specs.Held.{state};
+ghost use Rattle.sqlite.specs.State.{HasCleanDisk};
+ghost use Rattle.ds_store_table.specs.Tables.{Holds, IsBare};
+
 use crate::status::BAD_STORE;
 use crate::stores::{Disk, close_database, tell_error, tell_fault};
 use ds_store::fault::StoreFault;
@@ -23,7 +29,9 @@ fn make_file<R: Eprint + Files<File = File>>(rt: &R, path: &str) -> Result<(), u
 }
 
 // That a database at this path has nothing. An error is as before.
-fn see_bare<R: Eprint, S: Alter>(rt: &R, path: &str, conn: &Connection<S>) -> Result<(), u8> {
+fn see_bare<R: Eprint, S: Alter>(rt: &R, path: &str, conn: &Connection<S>) -> Result<(), u8>
+    ensures { OnOk result (IsBare (state S.Store conn.now).now) }
+{
     if is_bare(conn) {
         return Ok(());
     }
@@ -36,7 +44,9 @@ fn kept<S: Alter + Drop>(
     alloc: Global,
     conn: Connection<S>,
     lines: Vec<String>,
-) -> Result<Connection<S>, StoreFault> {
+) -> Result<Connection<S>, StoreFault>
+    ensures { IfOk result (λ made. HasCleanDisk (state S.Store made) → IsBare (state S.Store conn).now → Holds (map string_bytes lines.items) (state S.Store made).committed) }
+{
     Ok(Store::of_lines(alloc, conn, lines)?.store.into_database())
 }
 
@@ -46,7 +56,9 @@ fn keep<R: AllocGlobal + Eprint, S: Alter + Drop>(
     path: &str,
     conn: Connection<S>,
     lines: Vec<String>,
-) -> Result<Connection<S>, u8> {
+) -> Result<Connection<S>, u8>
+    ensures { IfOk result (λ made. HasCleanDisk (state S.Store made) → Holds (map string_bytes lines.items) (state S.Store made).committed) }
+{
     see_bare(rt, path, &conn)?;
     match kept(rt.alloc(), conn, lines) {
         Ok(conn) => Ok(conn),

@@ -1,5 +1,9 @@
 //! The commands that work on a store.
 
+ghost use Rattle.std.specs.Prelude.{IfOk, map};
+ghost use Rattle.std.specs.String.{string_bytes};
+ghost use Rattle.ds_store.specs.GoingOver.{GoesOver};
+
 use crate::logs::remove_log;
 use crate::making::make_store;
 use crate::reading::{ReadStore, read_store};
@@ -200,7 +204,9 @@ pub(crate) fn compacted(
     alloc: Global,
     lines: &[String],
     origin: &str,
-) -> Result<Vec<String>, StoreFault> {
+) -> Result<Vec<String>, StoreFault>
+    ensures { IfOk result (λ made. GoesOver (map string_bytes lines.now) (map string_bytes made.items)) }
+{
     let conn = Connection::open_in_memory(alloc)?;
     let made = compact::compact(alloc, lines, conn, origin)?;
     Ok(made.lines)

@@ -8,9 +8,9 @@ ghost use Rattle.ds_a1.specs.Notation.{opens};
 ghost use Rattle.csv.specs.Writing.{default_writer, row_text};
 ghost use Rattle.ds_formula.specs.Cells.{cell_at, count_of};
 ghost use Rattle.ds_store.specs.Texts.{HasTexts};
-ghost use Rattle.ds_grid.specs.Grids.{cell_field};
+ghost use Rattle.ds_grid.specs.Grids.{Shows, cell_field};
 ghost use Rattle.ds_store_commands.specs.Exports.{FieldsOpen, RowsOpen};
-ghost use Rattle.ds_store_commands.specs.Tables.{HaveSameTexts, IsCellTable, IsTextsTable};
+ghost use Rattle.ds_store_commands.specs.Tables.{HaveSameTexts, IsCellTable, IsTableOf, IsTextsTable, plain_form};
 
 use csv::{ByteRecord, WriterBuilder};
 use ds_a1::notation::Notation;
@@ -143,19 +143,17 @@ pub enum Cells {
 }
 
 // The values of the sheet of a table of texts, as `report` writes them.
-fn values_table(alloc: Global, table: &[u8]) -> Result<Vec<u8>, StoreFault> {
+fn values_table(alloc: Global, table: &[u8]) -> Result<Vec<u8>, StoreFault>
+    ensures { IfOk result (λ values. Shows plain_form table.now values.items) }
+{
     let form = GridForm {
         notation: Notation::OpenFormula,
         keeps_labels: false,
     };
-    let mut values = Vec::new(alloc);
-    let end = {
-        let mut reader = Reading::new(table);
-        let mut writer = Writing::new(&mut values);
-        report_grid(alloc, form, &mut reader, &mut writer)
-    };
-    match end {
-        GridEnd::Ended => Ok(values),
+    let mut reader = Reading::new(table);
+    let mut writer = Writing::new(Vec::new(alloc));
+    match report_grid(alloc, form, &mut reader, &mut writer) {
+        GridEnd::Ended => Ok(writer.into_inner()),
         // Only memory can be missing where a table grows.
         GridEnd::NoMemory | GridEnd::WriteFailed => Err(StoreFault::NoMemory),
         _ => Err(StoreFault::Edit(JournalFault::Other)),
@@ -164,7 +162,9 @@ fn values_table(alloc: Global, table: &[u8]) -> Result<Vec<u8>, StoreFault> {
 
 /// The texts that the lines of a journal lead to, or the values of its sheet, as CSV, a record a row. The fault is of a line
 /// that is none of a journal, or an allocation failed.
-pub fn table_of(alloc: Global, cells: Cells, lines: &[String]) -> Result<Vec<u8>, StoreFault> {
+pub fn table_of(alloc: Global, cells: Cells, lines: &[String]) -> Result<Vec<u8>, StoreFault>
+    ensures { IfOk result (λ table. IsTableOf cells (map string_bytes lines.now) table.items) }
+{
     let texts = texts_table(alloc, lines)?;
     match cells {
         Cells::Texts => Ok(texts),
