@@ -54,7 +54,7 @@ told_by (Steps process access) reply = if is_step reply then Some process else N
 told_by (TakesEntry process) reply = if is_step reply then Some process else None
 told_by what reply = None
 
--- a process, and what is told of it
+-- a process, and what is said of it
 abbrev pub told : ℕ → List ℕ → List ℕ
 told process text = decimal process ++ (codes " " ++ text)
 

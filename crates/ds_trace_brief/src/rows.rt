@@ -80,7 +80,7 @@ fn told_by(what: Happening, reply: Reply) -> Option<usize>
     }
 }
 
-// A process, and what is told of it.
+// A process, and what is said of it.
 fn told(alloc: Global, process: usize, text: &[u8]) -> Result<Vec<u8>, AllocError>
     ensures { IfOk result (λ line. line.items ≡ told process text.now) }
 {

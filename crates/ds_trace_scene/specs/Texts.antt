@@ -81,7 +81,7 @@ abbrev pub fails : Access Place → Word → Bool
 fails (access.SwapIf place expected value) before = not (before.cached == expected)
 fails _ before = false
 
--- what is said of a step behind its word: that its swap finds another one, or that an edit is linearized by it
+-- what is said of a step after its word: that its swap finds another one, or that an edit is linearized by it
 abbrev pub step_end : Access Place → Word → Bool → List ℕ
 step_end access before counts = if fails access before then codes ": another word is there" else (if counts then codes ": the edit counts" else [])
 
@@ -108,7 +108,7 @@ abbrev pub crash_text : ℕ → List ℕ
 crash_text taken = if taken == 0 then codes "crash" else codes "crash: edits that counted and are taken back: " ++ decimal taken
 
 -- the text of the row of the event with this number, which touches the word at this place if it touches one, by what
--- happened and what that was answered: what is no begin, step or crash that happens is told by its answer
+-- happened and what that was answered: what is no begin, step or crash that happens is said by its answer
 abbrev pub IsTextBy : Trace → ℕ → Option Place → TraceRow → List ℕ → Happening → Reply → Type 0
 IsTextBy trace event place row text (Begins process begin) (replies.Begun number) = text ≡ call_text begin row.text.items
 IsTextBy trace event place row text (Begins process begin) replies.Entered = text ≡ call_text begin row.text.items

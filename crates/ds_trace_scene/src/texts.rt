@@ -159,7 +159,7 @@ fn fails(access: Access<Place>, before: Word) -> bool
     }
 }
 
-// What is said of a step behind its word.
+// What is said of a step after its word.
 fn step_end(access: Access<Place>, before: Word, counts: bool) -> &'static str
     ensures { result.now ≡ step_end access before counts }
 {
