@@ -4,7 +4,7 @@ use Rattle.ds_store.specs.Summing.{summed_anew}
 use Rattle.ds_store_commands.proofs.importing.followed.Goals as goal
 
 pub returns-clause-same : goal.returns-clause-same
-returns-clause-same c = ap (λ v. map string_bytes v.items) c.in_ok-opened.ensures.lines ∙ (c.in_ok-summed.ensures ∙ ap summed_anew c.in_ok-copies.ensures)
+returns-clause-same c = ap (λ v. map string_bytes v.items) c.in_ok-opened.ensures.lines ∙ (c.in_ok-summed.ensures.anew ∙ ap summed_anew c.in_ok-copies.ensures)
 
 pub returns-clause-followed : goal.returns-clause-followed
 returns-clause-followed c =
