@@ -252,6 +252,7 @@ shows '1,=A1*FOO(1)\n' 'cell B1: UnknownFunction 7\n  line 1, column 3\n    =A1*
 # A strict run says how many of its answers are refusals, after each text that is one.
 shows 'set 0 A1 7.5\nbegin 0 set A1 1\nset 0 A1 2\n' 'line 1: NotWhole 1\n    set 0 A1 7.5\n              ^ numbers are whole\nrefusals: 2\n' 'run --strict'
 shows 'set 0 A1 7.5\n' 'line 1: NotWhole 1\n    set 0 A1 7.5\n              ^ numbers are whole\nrefusals: 1\n' 'run --strict --stops'
+shows 'set 0 A1 7.5\nset 0 A1 x\n' 'line 1: NotWhole 1\n    set 0 A1 7.5\n              ^ numbers are whole\nline 2: BadToken 0\n    set 0 A1 x\n             ^ no number; a formula begins with =\nrefusals: 2\n' 'run --strict --stops'
 shows 'set 0 A1 7\n' '' 'run --strict'
 
 # All fields that are refused are told, each with its place in the file.
